@@ -1,0 +1,88 @@
+-- The lowest number that passes a test: there is at most one, and a loop that looks from the first on finds it.
+-- Assumes nothing.
+use Prim.Native.Nat.{ℕ, zero, suc, _+_, _-_, _≤_, _<_}
+use mathlib.Core.Path.{_≡_, refl, sym, subst, _∙_}
+use mathlib.Core.Bool.{Bool, true, false, cond, true≢false}
+use mathlib.Core.Logic.{_⊎_, inl, inr, ⊎-elim}
+use native.Mathlib.Nat.{eq-or-lt-of-le}
+use native.Mathlib.Numerals.{add-one}
+use native.Mathlib.Omega.{arith}
+use Rattle.numbers.specs.Numbers.{Lowest}
+use Rattle.numbers.proofs.Tests.{lt-or-le}
+
+pub lowest-unique : {P : ℕ → Type 0} {j k : ℕ} → Lowest P j → Lowest P k → j ≡ k
+lowest-unique {P} {j} {k} a b =
+    ⊎-elim
+    (λ (l : j < k). absurd (b .before j l (a .here)))
+    (λ (l : k ≤ j). ⊎-elim (λ (e : k ≡ j). sym e) (λ (m : k < j). absurd (a .before k m (b .here))) (eq-or-lt-of-le l))
+    (lt-or-le j k)
+
+-- The first of the n numbers from j on that passes the test, or j + n.
+unfoldable pub seek : (ℕ → Bool) → ℕ → ℕ → ℕ
+seek test j zero = j
+seek test j (suc n) = let r = seek test (suc j) n in cond (test j) j r
+
+-- The first number from lo on and below hi that passes, or hi.
+abbrev pub first : (ℕ → Bool) → ℕ → ℕ → ℕ
+first test lo hi = seek test lo (hi - lo)
+
+module _ (test : ℕ → Bool) where
+  -- a turn of the loop that goes on, the turn that leaves it, and its end
+  pub first-pass : (j n : ℕ) → j < n → test j ≡ false → first test j n ≡ first test (j + 1) n
+  unfolding seek
+  first-pass j n h e =
+      let q : n - j ≡ suc (n - (j + 1)) = omega arith in
+      rw (q, add-one j, e)
+
+  pub first-hit : (j n : ℕ) → j < n → test j ≡ true → first test j n ≡ j
+  unfolding seek
+  first-hit j n h e =
+      let q : n - j ≡ suc (n - (j + 1)) = omega arith in
+      rw (q, e)
+
+  pub first-end : (j n : ℕ) → n ≤ j → first test j n ≡ j
+  unfolding seek
+  first-end j n h =
+      let q : n - j ≡ 0 = omega arith in
+      rw q
+
+  -- what the result r of a search of n numbers from j on says
+  record Sought (j n r : ℕ) : Type 0 where
+    from : j ≤ r
+    to : r ≤ j + n
+    hit : r < j + n → test r ≡ true
+    none : (k : ℕ) → j ≤ k → k < r → test k ≡ false
+
+  seek-says : (j n : ℕ) → Sought j n (seek test j n)
+  unfolding seek
+  seek-says j zero = record { from = omega arith; to = omega arith; hit = λ h. absurd (omega arith); none = λ k a b. absurd (omega arith) }
+  seek-says j (suc n) = go (test j) refl (seek-says (suc j) n)
+    where
+      go : (b : Bool) → test j ≡ b → Sought (suc j) n (seek test (suc j) n) → Sought j (suc n) (cond b j (seek test (suc j) n))
+      go true e r = record { from = omega arith; to = omega arith; hit = λ h. e; none = λ k a b. absurd (omega arith) }
+      go false e r =
+          record {
+            from = omega (arith, r .from);
+            to = omega (arith, r .to);
+            hit = λ h. r .hit (omega arith);
+            none = λ k a b. ⊎-elim (λ (q : j ≡ k). subst (λ (x : ℕ). test x ≡ false) q e) (λ (q : j < k). r .none k q b) (eq-or-lt-of-le a);
+          }
+
+  pub first-from : (lo hi : ℕ) → lo ≤ first test lo hi
+  first-from lo hi = seek-says lo (hi - lo) .from
+
+  pub first-to : (lo hi : ℕ) → lo ≤ hi → first test lo hi ≤ hi
+  first-to lo hi h = omega (arith, seek-says lo (hi - lo) .to)
+
+  pub first-holds : (lo hi : ℕ) → first test lo hi < hi → test (first test lo hi) ≡ true
+  first-holds lo hi h = seek-says lo (hi - lo) .hit (omega (arith, seek-says lo (hi - lo) .from))
+
+  pub first-before : (lo hi k : ℕ) → lo ≤ k → k < first test lo hi → test k ≡ false
+  first-before lo hi k a b = seek-says lo (hi - lo) .none k a b
+
+  -- Where the search ends before hi, its result is the lowest number of the stretch that passes.
+  pub first-lowest : (lo hi : ℕ) → first test lo hi < hi → Lowest (λ k. (lo ≤ k) × (k < hi) × (test k ≡ true)) (first test lo hi)
+  first-lowest lo hi h = record {
+    here = (first-from lo hi, h, first-holds lo hi h);
+    before = λ j l q. true≢false (sym (q .2) ∙ first-before lo hi j (q .0) l);
+  }

@@ -1,0 +1,8 @@
+pub mod Cases
+pub mod Choice
+pub mod Demand
+pub mod State
+pub mod Capacity
+pub mod Done
+pub mod Periodic
+pub mod Finite

@@ -1,0 +1,57 @@
+-- The walk with a last tick and its counts (document 01, 'The walk'). The last tick is a parameter: L for document 01's call.
+use Prim.Native.Nat.{ℕ, zero, suc}
+use mathlib.Core.Bool.{Bool, true, false, cond, not, _&&_}
+use mathlib.Core.List.{List, [], _∷_, map}
+use lib.Dec.{ltb, eqb}
+use lib.ListN.{length}
+use Rattle.numbers.specs.Numbers.{over}
+use Rattle.schedule.specs.Walk.{Task, Job, release, choice, before, misses}
+
+-- "'missed', that tick and the task"; "'kept' and three counts: busy ticks, idle ticks, and preemptions".
+pub data Outcome : Type 0 where
+  missed : ℕ → ℕ → Outcome
+  kept : ℕ → ℕ → ℕ → Outcome
+
+-- The place of the job that runs in tick t; the number of tasks where the tick is idle.
+abbrev pub ran : List Task → ℕ → ℕ
+ran ks t = choice (map (release t) (before ks t))
+
+abbrev pub count : Bool → ℕ
+count true = 1
+count false = 0
+
+abbrev pub busyAt : List Task → ℕ → ℕ
+busyAt ks t = count (ltb (ran ks t) (length ks))
+
+abbrev pub idleAt : List Task → ℕ → ℕ
+idleAt ks t = count (not (ltb (ran ks t) (length ks)))
+
+-- The ticks left of the job at a place.
+abbrev pub leftAt : List Job → ℕ → ℕ
+leftAt [] n = 0
+leftAt (j ∷ js) zero = j .left
+leftAt (j ∷ js) (suc n) = leftAt js n
+
+-- "ticks in which a job runs while the job of the tick before is another and is unfinished". Unfinished is judged before the
+-- releases of the tick: a job that ended in the tick before is not preempted, though its task may release the next one now.
+abbrev pub preemptedAt : List Task → ℕ → ℕ
+preemptedAt ks zero = 0
+preemptedAt ks (suc t) = count (ltb (ran ks (suc t)) (length ks) && (not (eqb (ran ks (suc t)) (ran ks t)) && ltb 0 (leftAt (before ks (suc t)) (ran ks t))))
+
+-- "the task, the lowest-numbered where several miss"; tasks are numbered from 1.
+abbrev pub lateTask : ℕ → List Job → ℕ
+lateTask t [] = 0
+lateTask t (j ∷ js) = cond (ltb 0 (j .task .arrives t) && ltb 0 (j .left)) 1 (suc (lateTask t js))
+
+-- From tick t with n ticks to go. At the last tick "the check is made and nothing is released".
+abbrev pub walkFrom : List Task → ℕ → ℕ → Outcome
+walkFrom ks t zero = cond (misses ks t) (missed t (lateTask t (before ks t))) (kept (over (busyAt ks) 0 t) (over (idleAt ks) 0 t) (over (preemptedAt ks) 0 t))
+walkFrom ks t (suc n) = let r = walkFrom ks (suc t) n in cond (misses ks t) (missed t (lateTask t (before ks t))) r
+
+-- "goes tick by tick from 0 to" the last tick.
+abbrev pub walk : List Task → ℕ → Outcome
+walk ks last = walkFrom ks 0 last
+
+abbrev pub IsKept : Outcome → Type 0
+IsKept (missed t i) = ⊥
+IsKept (kept b i p) = Unit {0}
