@@ -1,14 +1,14 @@
 -- The lowest number that passes a test: there is at most one, and a loop that looks from the first on finds it.
 -- Assumes nothing.
 use Prim.Native.Nat.{ℕ, zero, suc, _+_, _-_, _≤_, _<_}
-use mathlib.Core.Path.{_≡_, refl, sym, subst, _∙_}
-use mathlib.Core.Bool.{Bool, true, false, cond, true≢false}
+use mathlib.Core.Path.{_≡_, refl, sym, subst}
+use mathlib.Core.Bool.{Bool, true, false, cond}
 use mathlib.Core.Logic.{_⊎_, inl, inr, ⊎-elim}
 use native.Mathlib.Nat.{eq-or-lt-of-le}
 use native.Mathlib.Numerals.{add-one}
 use native.Mathlib.Omega.{arith}
 use Rattle.numbers.specs.Numbers.{Lowest}
-use Rattle.numbers.proofs.Tests.{lt-or-le}
+use Rattle.numbers.proofs.Tests.{lt-or-le, below-more}
 
 pub lowest-unique : {P : ℕ → Type 0} {j k : ℕ} → Lowest P j → Lowest P k → j ≡ k
 lowest-unique {P} {j} {k} a b =
@@ -16,6 +16,19 @@ lowest-unique {P} {j} {k} a b =
     (λ (l : j < k). absurd (b .before j l (a .here)))
     (λ (l : k ≤ j). ⊎-elim (λ (e : k ≡ j). sym e) (λ (m : k < j). absurd (a .before k m (b .here))) (eq-or-lt-of-le l))
     (lt-or-le j k)
+
+-- Of a decidable P either some number is the lowest at which it holds, or it holds at none below n.
+lowest-or-none : (P : ℕ → Type 0) → ((k : ℕ) → Dec (P k)) → (n : ℕ) → ((j : ℕ) × Lowest P j) ⊎ ((j : ℕ) → j < n → P j → ⊥)
+lowest-or-none P dec zero = inr (λ j l h. omega arith)
+lowest-or-none P dec (suc n) = ⊎-elim inl (λ none. go none (dec n)) (lowest-or-none P dec n)
+  where
+    go : ((j : ℕ) → j < n → P j → ⊥) → Dec (P n) → ((j : ℕ) × Lowest P j) ⊎ ((j : ℕ) → j < suc n → P j → ⊥)
+    go none (yes h) = inl (n, record { here = h; before = none })
+    go none (no h) = inr (below-more {P = λ j. P j → ⊥} none h)
+
+-- So where no number is the lowest, it holds at none.
+pub no-lowest : (P : ℕ → Type 0) → ((k : ℕ) → Dec (P k)) → ((k : ℕ) → Lowest P k → ⊥) → (k : ℕ) → P k → ⊥
+no-lowest P dec none k h = ⊎-elim (λ w. none (w .0) (w .1)) (λ f. f k (omega arith) h) (lowest-or-none P dec (suc k))
 
 -- The first of the n numbers from j on that passes the test, or j + n.
 unfoldable pub seek : (ℕ → Bool) → ℕ → ℕ → ℕ
@@ -79,10 +92,3 @@ module _ (test : ℕ → Bool) where
 
   pub first-before : (lo hi k : ℕ) → lo ≤ k → k < first test lo hi → test k ≡ false
   first-before lo hi k a b = seek-says lo (hi - lo) .none k a b
-
-  -- Where the search ends before hi, its result is the lowest number of the stretch that passes.
-  pub first-lowest : (lo hi : ℕ) → first test lo hi < hi → Lowest (λ k. (lo ≤ k) × (k < hi) × (test k ≡ true)) (first test lo hi)
-  first-lowest lo hi h = record {
-    here = (first-from lo hi, h, first-holds lo hi h);
-    before = λ j l q. true≢false (sym (q .2) ∙ first-before lo hi j (q .0) l);
-  }

@@ -57,6 +57,14 @@ pub over-none : (f : ℕ → ℕ) (t n : ℕ) → ((u : ℕ) → t ≤ u → u <
 over-none f t zero h = refl
 over-none f t (suc n) h = omega (arith, h t (omega arith) (omega arith), over-none f (suc t) n (λ u a b. h u (omega arith) (omega arith)))
 
+-- The sum over a plan's tasks, by place.
+pub total-over : (f : ℕ → ℕ → ℕ) (n : ℕ) (P : List ℕ) → total f n P ≡ over (λ t. f t (getD P t 0)) 0 n
+unfolding total
+total-over f zero P = refl
+total-over f (suc n) P =
+    let g : ℕ → ℕ = λ t. f t (getD P t 0) in
+    omega (arith, total-over f n P, over-end g 0 n, ap g (zero-add n))
+
 -- ---- over a list
 module _ {A : Type 0} where
   pub sum-mono : (f g : A → ℕ) → ((x : A) → f x ≤ g x) → (xs : List A) → sum f xs ≤ sum g xs

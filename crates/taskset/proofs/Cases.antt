@@ -1,0 +1,198 @@
+-- The cases of document 01's 'Either side of an edge', gathered in one record and proved together of the definitions: every marked one,
+-- each of the call's whole answer, and the unmarked refusals of a set.
+-- Assumes nothing.
+use Prim.Native.Nat.{ℕ, suc, _+_, _^_, _≤_, _<_}
+use mathlib.Core.Path.{_≡_, refl, sym, ap, _∙_, subst}
+use mathlib.Core.Option.{Option, none, some}
+use mathlib.Core.List.{List, [], _∷_, _++_, append-nil}
+use mathlib.Core.Logic.{inl, inr}
+use native.Mathlib.Bridge.{le-by-compare, IsLe}
+use native.Mathlib.Omega.{arith}
+use lib.ListN.{length, take, drop, replicate, drop-of-length-le}
+use lib.Seq.{take-all}
+use Rattle.numbers.specs.Numbers.{total, gcdIn, gcd, lcm, running}
+use Rattle.numbers.proofs.Search.{seek}
+use Rattle.numbers.proofs.Powers.{exponent}
+use Rattle.schedule.specs.Counted.{Outcome, missed, kept, walk}
+use Rattle.selection.specs.Plan.{Problem, planLoad, planEnergy, fastest, Fitting}
+use Rattle.selection.proofs.Fastest.{fastest-fits, fastest-least}
+use Rattle.selection.proofs.Table.{leastOf, firstOf, via, best}
+use Rattle.selection.proofs.Choose.{spend, cell}
+use Rattle.selection.proofs.Compute.{trace, leastEnergy, choose, usedFrom, usedExponent, planned-is}
+use Rattle.taskset.specs.Words.{listHead, listExtra, slack, rateCount, taskCount, headKind, taskKind, kindAt, allows}
+use Rattle.taskset.specs.Quantities.{hyperPeriod, problem, tasks, workNeeded}
+use Rattle.taskset.specs.Refusals.{number, second, check, Accepts, Refuses, setChecks, readyChecks, plannerChecks, walkChecks, IsShort, NoPlanFits, IsBadPlan}
+use Rattle.taskset.specs.Calls.{SetAnswers, PlannerGives, WalkAnswers}
+use Rattle.taskset.specs.declared.Refusal.{Refusal}
+use Rattle.taskset.specs.declared.Refusal.the-variants.{BadWord, NotAbove, TooLong, WorkShort, NoPlan, BadPlan}
+use Rattle.taskset.specs.declared.Checked.{Checked}
+use Rattle.taskset.specs.declared.Checked.the-variants.{Good, Refused}
+use Rattle.taskset.specs.declared.PlannerAnswer.the-variants.{Planned, Refused as NotPlanned}
+use Rattle.taskset.specs.declared.WalkAnswer.the-variants.{Kept, Missed, Refused as NotWalked}
+use Rattle.taskset.proofs.Checks.{refuses-front, refuses-back}
+use Rattle.taskset.proofs.Verdict.{isBad, isFall, isOver, checkedOf, checked-answers}
+use Rattle.taskset.proofs.PlanVerdict.{isUnfit, planVerdict, PlanSays, plan-verdict-says}
+use Rattle.taskset.proofs.Sets.{set-of, falling}
+
+-- "The set list S", with slack G.
+S : ℕ → List ℕ
+S G = G ∷ 3 ∷ 2 ∷ 4 ∷ 8 ∷ 2 ∷ 10 ∷ 12 ∷ 4 ∷ 9 ∷ 20 ∷ 15 ∷ 20 ∷ 7 ∷ 15 ∷ 30 ∷ []
+
+-- "Highest rate 2, one task of period 30", of c cycles.
+one-task : ℕ → List ℕ
+one-task c = 100 ∷ 2 ∷ 1 ∷ 2 ∷ 1 ∷ 30 ∷ c ∷ 5 ∷ 6 ∷ []
+
+-- Two rates, and a task for each period.
+one-period : ℕ → List ℕ
+one-period p = 100 ∷ 2 ∷ 2 ∷ 4 ∷ 1 ∷ p ∷ 1 ∷ 1 ∷ 1 ∷ []
+
+two-periods : ℕ → ℕ → List ℕ
+two-periods p q = 100 ∷ 2 ∷ 2 ∷ 4 ∷ 2 ∷ p ∷ 1 ∷ 1 ∷ 1 ∷ q ∷ 1 ∷ 1 ∷ 1 ∷ []
+
+-- Two rates and one task, with a last word that may be missing or be followed by more.
+with-rates : ℕ → ℕ → List ℕ → List ℕ
+with-rates f g rest = 100 ∷ 2 ∷ f ∷ g ∷ 1 ∷ 10 ∷ 12 ∷ 4 ∷ rest
+
+-- The planner refuses, whatever is lent, and leaves both lists as they are.
+abbrev Declined : List ℕ → Refusal → Type 0
+Declined s r = (plan work : List ℕ) → PlannerGives s plan work plan work (NotPlanned r)
+
+-- ---- from what the verdicts compute to what the calls answer
+module _ (s : List ℕ) where
+  abbrev checked : Checked
+  checked = checkedOf listHead listExtra s
+
+  abbrev L : ℕ
+  L = hyperPeriod listHead listExtra s
+
+  answered : (x : Checked) → checked ≡ x → SetAnswers listHead listExtra s x
+  answered x e = subst (SetAnswers listHead listExtra s) e (checked-answers listHead listExtra s)
+
+  -- A refusal of checks 2, 3 or 4 is the planner's, whatever is lent.
+  set-refused : (r : Refusal) → checked ≡ Refused r → Declined s r
+  set-refused r e plan work = (
+    refuses-front (readyChecks s (length plan) (length work)) (check 7 (NoPlanFits (problem s)) ∷ []) (number r) (second r)
+        (refuses-front (setChecks listHead listExtra s) (check 5 (IsShort (workNeeded s) (length work)) ∷ check 6 (IsShort (taskCount listHead s) (length plan)) ∷ []) (number r) (second r)
+        (answered (Refused r) e)),
+    refl,
+    refl,
+  )
+
+  module _ (m n l : ℕ) (e : checked ≡ Good m n l) where
+    passes : Accepts (setChecks listHead listExtra s)
+    passes = answered (Good m n l) e .0
+
+    -- A plan, where just the words needed are lent.
+    planned : (P : List ℕ) (a unit load energy : ℕ) → 1 ≤ rateCount listHead s → planLoad (problem s) (fastest (problem s)) ≤ L → length P ≡ taskCount listHead s
+        → usedExponent (problem s) (slack s) ≡ a → choose (problem s) (2 ^ a) ≡ P → 2 ^ a ≡ unit → planLoad (problem s) P ≡ load → planEnergy (problem s) P ≡ energy
+        → (plan work : List ℕ) → length plan ≡ taskCount listHead s → length work ≡ workNeeded s
+        → PlannerGives s plan work P (replicate (workNeeded s) 0) (Planned unit load l energy)
+    planned P a unit load energy some-rate fits size used chosen u w j plan work p q =
+        let set = passes in
+        let fit : Fitting (problem s) (fastest (problem s)) = fastest-fits (problem s) some-rate fits in (
+          (set .0, (set .1 .0, (set .1 .1 .0, ((λ k h. omega (arith, h .0)), ((λ k h. omega (arith, h .0)), ((λ k h. h .1 (fastest (problem s)) fit), tt)))))),
+          record {
+            exponent = a;
+            unit-is = sym u;
+            planned = rw (take-all (taskCount listHead s) P (omega arith), ← chosen, ← used) (planned-is (problem s) fit (slack s));
+            load-is = rw (take-all (taskCount listHead s) P (omega arith)) (sym w);
+            hyper-is = answered (Good m n l) e .3;
+            energy-is = rw (take-all (taskCount listHead s) P (omega arith)) (sym j);
+          },
+          drop-of-length-le P {i = taskCount listHead s} (omega arith) ∙ sym (drop-of-length-le plan {i = taskCount listHead s} (omega arith)),
+          rw (drop-of-length-le work {i = workNeeded s} (omega arith)) (sym (append-nil (replicate (workNeeded s) 0))),
+        )
+
+    -- Too few working words.
+    work-short : (plan work : List ℕ) → length work < workNeeded s → PlannerGives s plan work plan work (NotPlanned (WorkShort (workNeeded s)))
+    work-short plan work h = let set = passes in (inr (set .0, inr (set .1 .0, inr (set .1 .1 .0, inl (refl, (h, refl))))), refl, refl)
+
+    -- No plan fits where the plan with every task at rate M does not.
+    no-plan : 1 ≤ rateCount listHead s → L < planLoad (problem s) (fastest (problem s))
+        → (plan work : List ℕ) → taskCount listHead s ≤ length plan → workNeeded s ≤ length work → PlannerGives s plan work plan work (NotPlanned NoPlan)
+    no-plan some-rate over plan work p q =
+        let set = passes in (
+          inr (set .0, inr (set .1 .0, inr (set .1 .1 .0, inr ((λ k h. omega (arith, h .0)), inr ((λ k h. omega (arith, h .0)), inl (refl, (refl, none-fits))))))),
+          refl,
+          refl,
+        )
+      where
+        none-fits : (P : List ℕ) → Fitting (problem s) P → ⊥
+        none-fits P f =
+            omega (arith, fastest-least (problem s) some-rate (falling listHead listExtra s (set-of listHead listExtra s passes)) P (f .plan), f .fits)
+
+    -- The walk of a plan that passes check 8, and of one that does not.
+    module _ (P : List ℕ) where
+      walks : planVerdict (rateCount listHead s) (taskCount listHead s) P ≡ none → Accepts (walkChecks s P)
+      walks v =
+          let set = passes in
+          let fine = subst (PlanSays (rateCount listHead s) (taskCount listHead s) P) v (plan-verdict-says (rateCount listHead s) (taskCount listHead s) P) in
+          (set .0, (set .1 .0, (set .1 .1 .0, ((λ k h. fine k (h .here)), tt))))
+
+      plan-refused : (k : ℕ) → planVerdict (rateCount listHead s) (taskCount listHead s) P ≡ some k → WalkAnswers s P (NotWalked (BadPlan k))
+      plan-refused k v =
+          let set = passes in
+          let bad = subst (PlanSays (rateCount listHead s) (taskCount listHead s) P) v (plan-verdict-says (rateCount listHead s) (taskCount listHead s) P) in
+          inr (set .0, inr (set .1 .0, inr (set .1 .1 .0, inl (refl, bad))))
+
+-- ---- the cases
+pub record Cases : Type 0 where
+  -- (M) "S: plan 2 1, unit 1, load 29, energy 41." (M) "S has W = 243".
+  planned-100 : (plan work : List ℕ) → length plan ≡ 2 → length work ≡ 243
+      → PlannerGives (S 100) plan work (2 ∷ 1 ∷ []) (replicate 243 0) (Planned 1 29 30 41)
+  -- (M) "242 working words: refusal 5 with 243."
+  work-242 : (plan work : List ℕ) → length work ≡ 242 → PlannerGives (S 100) plan work plan work (NotPlanned (WorkShort 243))
+  -- (M) "S with slack 1,000: plan 1 2, unit 8, load 28, energy 42." (M) "S with slack 1,000: W = 27."
+  planned-1000 : (plan work : List ℕ) → length plan ≡ 2 → length work ≡ 27
+      → PlannerGives (S 1000) plan work (1 ∷ 2 ∷ []) (replicate 27 0) (Planned 8 28 30 42)
+  -- (M) "S, walk of 1 1: missed, tick 15, task 2." (M) "Walk of 2 1: kept, 29, 1, 1."
+  walk-of-1-1 : WalkAnswers (S 100) (1 ∷ 1 ∷ []) (Missed 15 2)
+  walk-of-2-1 : WalkAnswers (S 100) (2 ∷ 1 ∷ []) (Kept 29 1 1)
+  -- (M) "Plan 1 3 for S: load 24." (M) "Walk of 1 4: refusal 8, place 1."
+  load-of-1-3 : planLoad (problem (S 100)) (1 ∷ 3 ∷ []) ≡ 24
+  walk-of-1-4 : WalkAnswers (S 100) (1 ∷ 4 ∷ []) (NotWalked (BadPlan 1))
+  -- (M) "Highest rate 2, one task of period 30: 60 cycles fit," (M) "61 give refusal 7."
+  cycles-60 : (plan work : List ℕ) → length plan ≡ 1 → length work ≡ 82 → PlannerGives (one-task 60) plan work (2 ∷ []) (replicate 82 0) (Planned 1 30 30 6)
+  cycles-61 : (plan work : List ℕ) → 1 ≤ length plan → 82 ≤ length work → PlannerGives (one-task 61) plan work plan work (NotPlanned NoPlan)
+  -- "A slack of 0: refusal 2, place 0. Empty list: refusal 2, place 0. Rates 4 4: refusal 3, place 3."
+  slack-0 : Declined (S 0) (BadWord 0)
+  empty : Declined [] (BadWord 0)
+  rates-4-4 : Declined (with-rates 4 4 (9 ∷ [])) (NotAbove 3)
+  -- "Two rates, periods 9,999,999 and 10,000,000: refusal 4, place 9. One period of 10,000,000 passes."
+  periods-too-long : Declined (two-periods 9999999 10000000) (TooLong 9)
+  period-10000000 : SetAnswers listHead listExtra (one-period 10000000) (Good 2 1 10000000)
+  -- A rate count of 9 and a task count of 33, refused where they stand; a list that ends before its last word; a word too many.
+  bad-rate-count : Declined (100 ∷ 9 ∷ 2 ∷ []) (BadWord 1)
+  bad-task-count : Declined (100 ∷ 2 ∷ 2 ∷ 4 ∷ 33 ∷ 10 ∷ []) (BadWord 4)
+  missing : Declined (with-rates 2 4 []) (BadWord 8)
+  left-over : Declined (with-rates 2 4 (9 ∷ 1 ∷ [])) (BadWord 9)
+  -- A plan that is short, one that is long, and none at all, for a walk of two tasks.
+  short-plan : WalkAnswers (S 100) (1 ∷ []) (NotWalked (BadPlan 1))
+  long-plan : WalkAnswers (S 100) (1 ∷ 1 ∷ 9 ∷ []) (NotWalked (BadPlan 2))
+  empty-plan : WalkAnswers (S 100) [] (NotWalked (BadPlan 0))
+
+pub cases : Cases
+unfolding S one-task one-period two-periods with-rates checkedOf isBad isFall isOver kindAt headKind taskKind allows isUnfit planVerdict seek total gcdIn gcd lcm running fastest exponent usedExponent usedFrom leastEnergy cell best leastOf firstOf via spend trace choose IsLe
+cases = record {
+  planned-100 = planned (S 100) 3 2 30 refl (2 ∷ 1 ∷ []) 0 1 29 41 (le-by-compare _ _ tt) (le-by-compare _ _ tt) refl refl refl refl refl refl;
+  work-242 = λ plan work h. work-short (S 100) 3 2 30 refl plan work (omega arith);
+  planned-1000 = planned (S 1000) 3 2 30 refl (1 ∷ 2 ∷ []) 3 8 28 42 (le-by-compare _ _ tt) (le-by-compare _ _ tt) refl refl refl refl refl refl;
+  walk-of-1-1 = (walks (S 100) 3 2 30 refl (1 ∷ 1 ∷ []) refl, refl);
+  walk-of-2-1 = (walks (S 100) 3 2 30 refl (2 ∷ 1 ∷ []) refl, refl);
+  load-of-1-3 = refl;
+  walk-of-1-4 = plan-refused (S 100) 3 2 30 refl (1 ∷ 4 ∷ []) 1 refl;
+  cycles-60 = planned (one-task 60) 2 1 30 refl (2 ∷ []) 0 1 30 6 (le-by-compare _ _ tt) (le-by-compare _ _ tt) refl refl refl refl refl refl;
+  cycles-61 = no-plan (one-task 61) 2 1 30 refl (le-by-compare _ _ tt) (le-by-compare _ _ tt);
+  slack-0 = set-refused (S 0) (BadWord 0) refl;
+  empty = set-refused [] (BadWord 0) refl;
+  rates-4-4 = set-refused (with-rates 4 4 (9 ∷ [])) (NotAbove 3) refl;
+  periods-too-long = set-refused (two-periods 9999999 10000000) (TooLong 9) refl;
+  period-10000000 = answered (one-period 10000000) (Good 2 1 10000000) refl;
+  bad-rate-count = set-refused (100 ∷ 9 ∷ 2 ∷ []) (BadWord 1) refl;
+  bad-task-count = set-refused (100 ∷ 2 ∷ 2 ∷ 4 ∷ 33 ∷ 10 ∷ []) (BadWord 4) refl;
+  missing = set-refused (with-rates 2 4 []) (BadWord 8) refl;
+  left-over = set-refused (with-rates 2 4 (9 ∷ 1 ∷ [])) (BadWord 9) refl;
+  short-plan = plan-refused (S 100) 3 2 30 refl (1 ∷ []) 1 refl;
+  long-plan = plan-refused (S 100) 3 2 30 refl (1 ∷ 1 ∷ 9 ∷ []) 2 refl;
+  empty-plan = plan-refused (S 100) 3 2 30 refl [] 0 refl;
+}

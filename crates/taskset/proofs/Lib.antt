@@ -1,0 +1,9 @@
+pub mod Checks
+pub mod Places
+pub mod Whole
+pub mod Verdict
+pub mod PlanVerdict
+pub mod Sets
+pub mod DemandThree
+pub mod Unique
+pub mod Cases

@@ -1,0 +1,138 @@
+-- Checks 2, 3 and 4 as a function that computes, and that its verdict is the one the definitions give.
+-- Assumes nothing.
+use Prim.Native.Nat.{ℕ, suc, _-_, _≤_, _<_}
+use mathlib.Core.Path.{_≡_, refl, sym, ap, _∙_, subst}
+use mathlib.Core.Bool.{Bool, true, false, cond, not, true≢false}
+use mathlib.Core.List.{List, [], _∷_}
+use mathlib.Core.Logic.{inl, inr, ⊎-elim}
+use native.Mathlib.Omega.{arith}
+use borrow.Author.Tests.{lt-ltb, le-ltb, leb-true, le-leb, ltb-true, lt-leb, not-true, not-false}
+use lib.Dec.{ltb, leb}
+use lib.ListN.{length}
+use Rattle.numbers.specs.Numbers.{running, Lowest}
+use Rattle.numbers.proofs.Tests.{lt-or-le, cond-true, cond-false}
+use Rattle.numbers.proofs.Search.{first, first-from, first-to, first-holds, first-before}
+use Rattle.taskset.specs.Words.{word, rateCount, taskCount, ratePlace, taskCountPlace, periodPlace, wordCount, period, kindAt, allows}
+use Rattle.taskset.specs.Quantities.{hyperLimit, hyperPeriod}
+use Rattle.taskset.specs.Refusals.{WordFault, IsBadWord, RateFault, IsNotAbove, PassesLimit, IsTooLong, Accepts, setChecks}
+use Rattle.taskset.specs.Calls.{SetAnswers}
+use Rattle.taskset.specs.declared.Refusal.the-variants.{BadWord, NotAbove, TooLong}
+use Rattle.taskset.specs.declared.Checked.{Checked}
+use Rattle.taskset.specs.declared.Checked.the-variants.{Good, Refused}
+
+module _ (head extra : ℕ) (s : List ℕ) where
+  unfoldable pub isBad : ℕ → Bool
+  isBad q = not (allows (kindAt head extra s q) (word s q))
+
+  unfoldable pub isFall : ℕ → Bool
+  isFall q = leb (word s q) (word s (q - 1))
+
+  unfoldable pub isOver : ℕ → Bool
+  isOver t = ltb hyperLimit (running (period head extra s) (suc t))
+
+  -- The first bad or left-over word, the first rate that is not above the one before it, the first task whose period takes the
+  -- running multiple past the limit; the end of the stretch where there is none.
+  abbrev pub firstBad : ℕ
+  firstBad = first isBad 0 (length s)
+
+  abbrev pub firstFall : ℕ
+  firstFall = first isFall (ratePlace head 2) (taskCountPlace head (rateCount head s))
+
+  abbrev pub firstOver : ℕ
+  firstOver = first isOver 0 (taskCount head s)
+
+  unfoldable pub checkedOf : Checked
+  checkedOf =
+      cond (ltb firstBad (length s)) (Refused (BadWord firstBad))
+      (cond (ltb (length s) (wordCount head extra s)) (Refused (BadWord (length s)))
+      (cond (ltb firstFall (taskCountPlace head (rateCount head s))) (Refused (NotAbove firstFall))
+      (cond (ltb firstOver (taskCount head s)) (Refused (TooLong (periodPlace head extra (rateCount head s) firstOver)))
+      (Good (rateCount head s) (taskCount head s) (hyperPeriod head extra s)))))
+
+  -- ---- check 2
+  -- No word before a place that the search has passed is bad.
+  passed : (q : ℕ) → q < firstBad → q < length s → WordFault head extra s q → ⊥
+  unfolding isBad
+  passed q l h f =
+      ⊎-elim
+      (λ w. true≢false (sym (not-false _ (first-before isBad 0 (length s) q (omega arith) l)) ∙ w .1))
+      (λ w. absurd (omega arith))
+      f
+
+  bad-word : firstBad < length s → IsBadWord head extra s firstBad
+  unfolding isBad
+  bad-word h = record {
+    here = inl (h, not-true _ (first-holds isBad 0 (length s) h));
+    before = λ j l f. passed j l (omega arith) f;
+  }
+
+  missing-word : length s ≤ firstBad → length s < wordCount head extra s → IsBadWord head extra s (length s)
+  missing-word a h = record { here = inr (refl, h); before = λ j l f. passed j (omega arith) l f }
+
+  words-pass : length s ≤ firstBad → wordCount head extra s ≤ length s → (q : ℕ) → WordFault head extra s q → ⊥
+  words-pass a h q f = ⊎-elim (λ w. passed q (omega (arith, w .0)) (w .0) f) (λ w. absurd (omega arith)) f
+
+  -- ---- check 3
+  rates-before : (q : ℕ) → q < firstFall → RateFault head extra s q → ⊥
+  unfolding isFall
+  rates-before q l f = true≢false (sym (le-leb _ _ (f .2)) ∙ first-before isFall (ratePlace head 2) (taskCountPlace head (rateCount head s)) q (f .0) l)
+
+  not-above : firstFall < taskCountPlace head (rateCount head s) → IsNotAbove head extra s firstFall
+  unfolding isFall
+  not-above h = record {
+    here = (
+      first-from isFall (ratePlace head 2) (taskCountPlace head (rateCount head s)),
+      omega arith,
+      leb-true _ _ (first-holds isFall (ratePlace head 2) (taskCountPlace head (rateCount head s)) h),
+    );
+    before = rates-before;
+  }
+
+  rates-pass : taskCountPlace head (rateCount head s) ≤ firstFall → (q : ℕ) → RateFault head extra s q → ⊥
+  rates-pass h q f = rates-before q (omega (arith, f .1)) f
+
+  -- ---- check 4
+  limit-before : (t : ℕ) → t < firstOver → PassesLimit head extra s t → ⊥
+  unfolding isOver
+  limit-before t l f = true≢false (sym (lt-ltb _ _ (f .1)) ∙ first-before isOver 0 (taskCount head s) t (omega arith) l)
+
+  too-long : firstOver < taskCount head s → IsTooLong head extra s (periodPlace head extra (rateCount head s) firstOver)
+  unfolding isOver
+  too-long h = (firstOver, record { here = (h, ltb-true _ _ (first-holds isOver 0 (taskCount head s) h)); before = limit-before }, refl)
+
+  limit-pass : taskCount head s ≤ firstOver → (t : ℕ) → PassesLimit head extra s t → ⊥
+  limit-pass h t f = limit-before t (omega (arith, f .0)) f
+
+  -- ---- the verdict
+  pub checked-answers : SetAnswers head extra s checkedOf
+  unfolding checkedOf
+  checked-answers =
+      ⊎-elim
+      (λ (a : firstBad < length s). answer (cond-true _ _ _ (lt-ltb _ _ a)) (inl (refl, bad-word a)))
+      (λ (a : length s ≤ firstBad).
+      ⊎-elim
+      (λ (b : length s < wordCount head extra s).
+      answer (cond-false _ _ _ (le-ltb _ _ a) ∙ cond-true _ _ _ (lt-ltb _ _ b)) (inl (refl, missing-word a b)))
+      (λ (b : wordCount head extra s ≤ length s). words a b (λ q h. words-pass a b q (h .here)))
+      (lt-or-le (length s) (wordCount head extra s)))
+      (lt-or-le firstBad (length s))
+    where
+      answer : {x : Checked} → checkedOf ≡ x → SetAnswers head extra s x → SetAnswers head extra s checkedOf
+      answer {x} e h = subst (SetAnswers head extra s) (sym e) h
+
+      words : length s ≤ firstBad → wordCount head extra s ≤ length s → ((q : ℕ) → IsBadWord head extra s q → ⊥) → SetAnswers head extra s checkedOf
+      words a b pass =
+          let so-far = cond-false _ _ _ (le-ltb _ _ a) ∙ cond-false _ _ _ (le-ltb _ _ b) in
+          ⊎-elim
+          (λ (c : firstFall < taskCountPlace head (rateCount head s)).
+          answer (so-far ∙ cond-true _ _ _ (lt-ltb _ _ c)) (inr (pass, inl (refl, not-above c))))
+          (λ (c : taskCountPlace head (rateCount head s) ≤ firstFall).
+          ⊎-elim
+          (λ (d : firstOver < taskCount head s).
+          answer (so-far ∙ cond-false _ _ _ (le-ltb _ _ c) ∙ cond-true _ _ _ (lt-ltb _ _ d))
+          (inr (pass, inr ((λ q h. rates-pass c q (h .here)), inl (refl, too-long d)))))
+          (λ (d : taskCount head s ≤ firstOver).
+          answer (so-far ∙ cond-false _ _ _ (le-ltb _ _ c) ∙ cond-false _ _ _ (le-ltb _ _ d))
+          ((pass, ((λ q h. rates-pass c q (h .here)), ((λ q h. limit-pass d (h .0) (h .1 .here)), tt))), refl, refl, refl))
+          (lt-or-le firstOver (taskCount head s)))
+          (lt-or-le firstFall (taskCountPlace head (rateCount head s)))

@@ -1,0 +1,5 @@
+pub mod Words
+pub mod Quantities
+pub mod Refusals
+pub mod Calls
+pub mod DemandThree

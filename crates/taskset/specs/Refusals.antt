@@ -1,0 +1,129 @@
+-- Why a call declines (document 01, the table of that name): each cause with the second number, and the order of each call's checks.
+use Prim.Native.Nat.{ℕ, suc, _+_, _-_, _≤_, _<_}
+use mathlib.Core.Path.{_≡_}
+use mathlib.Core.Bool.{false}
+use mathlib.Core.List.{List, [], _∷_, _++_}
+use mathlib.Core.Logic.{_⊎_}
+use lib.ListN.{length, getD}
+use Rattle.numbers.specs.Numbers.{between, running, Lowest}
+use Rattle.selection.specs.Plan.{Problem, Fitting}
+use Rattle.taskset.specs.Words.{word, listHead, listExtra, rateCount, taskCount, wordCount, ratePlace, periodPlace, period, kindAt, allows}
+use Rattle.taskset.specs.Quantities.{hyperLimit, problem, workNeeded}
+use Rattle.taskset.specs.declared.Refusal.{Refusal}
+use Rattle.taskset.specs.declared.Refusal.the-variants.{TextDeparts, BadWord, NotAbove, TooLong, WorkShort, TooShort, NoPlan, BadPlan}
+
+-- The column 'Number', and the column 'Returned with it'.
+abbrev pub number : Refusal → ℕ
+number (TextDeparts o) = 1
+number (BadWord q) = 2
+number (NotAbove q) = 3
+number (TooLong q) = 4
+number (WorkShort w) = 5
+number (TooShort w) = 6
+number NoPlan = 7
+number (BadPlan k) = 8
+
+abbrev pub second : Refusal → ℕ
+second (TextDeparts o) = o
+second (BadWord q) = q
+second (NotAbove q) = q
+second (TooLong q) = q
+second (WorkShort w) = w
+second (TooShort w) = w
+second NoPlan = 0
+second (BadPlan k) = k
+
+-- CAUSES. Each says when it holds with a second number k.
+
+module _ (head extra : ℕ) (s : List ℕ) where
+  -- 2: "Set word out of its range, missing or left over"; "place of the first such word; the list's length if missing".
+  abbrev pub WordFault : ℕ → Type 0
+  WordFault q =
+      ((q < length s) × (allows (kindAt head extra s q) (word s q) ≡ false)) ⊎
+      ((q ≡ length s) × (length s < wordCount head extra s))
+
+  abbrev pub IsBadWord : ℕ → Type 0
+  IsBadWord = Lowest WordFault
+
+  -- 3: "A rate not above the one before it"; "its place". Of several, the first.
+  abbrev pub RateFault : ℕ → Type 0
+  RateFault q = (ratePlace head 2 ≤ q) × (q ≤ ratePlace head (rateCount head s)) × (word s q ≤ word s (q - 1))
+
+  abbrev pub IsNotAbove : ℕ → Type 0
+  IsNotAbove = Lowest RateFault
+
+  -- 4: "Hyper-period over 10,000,000"; "place of the period at which the running multiple passes it".
+  abbrev pub PassesLimit : ℕ → Type 0
+  PassesLimit t = (t < taskCount head s) × (hyperLimit < running (period head extra s) (suc t))
+
+  abbrev pub IsTooLong : ℕ → Type 0
+  IsTooLong q = (t : ℕ) × Lowest PassesLimit t × (q ≡ periodPlace head extra (rateCount head s) t)
+
+-- 5: "Working list shorter than W"; "W". 6: "Receiving list or buffer too short"; "words or bytes needed".
+abbrev pub IsShort : ℕ → ℕ → ℕ → Type 0
+IsShort needed lent k = (lent < needed) × (k ≡ needed)
+
+-- 7: "No plan fits"; "0".
+abbrev pub NoPlanFits : Problem → ℕ → Type 0
+NoPlanFits p k = (k ≡ 0) × ((P : List ℕ) → Fitting p P → ⊥)
+
+-- 8: "Walk's plan not N words, or a word not 1 to M"; "lowest of these that applies: place of a bad word; its length if short; N if
+-- long". m and n are the rate count and the task count.
+abbrev pub PlanFault : ℕ → ℕ → List ℕ → ℕ → Type 0
+PlanFault m n P k =
+    ((k < length P) × (between 1 m (getD P k 0) ≡ false)) ⊎
+    (((k ≡ length P) × (length P < n)) ⊎
+    ((k ≡ n) × (n < length P)))
+
+abbrev pub IsBadPlan : ℕ → ℕ → List ℕ → ℕ → Type 0
+IsBadPlan m n P = Lowest (PlanFault m n P)
+
+-- ORDER. "Checked in this order, the first that holds being returned."
+
+pub record Check : Type 1 where
+  pub number : ℕ
+  pub cause : ℕ → Type 0
+
+abbrev pub check : ℕ → (ℕ → Type 0) → Check
+check n c = record { number = n; cause = c }
+
+-- The cause holds with no second number.
+abbrev pub Passes : Check → Type 0
+Passes c = (k : ℕ) → c .cause k → ⊥
+
+abbrev pub Accepts : List Check → Type 0
+Accepts [] = Unit {0}
+Accepts (c ∷ cs) = Passes c × Accepts cs
+
+-- The first check that holds has number n, and holds with second number k.
+abbrev pub Refuses : List Check → ℕ → ℕ → Type 0
+Refuses [] n k = ⊥
+Refuses (c ∷ cs) n k = ((n ≡ c .number) × c .cause k) ⊎ (Passes c × Refuses cs n k)
+
+-- Checks 2 and 3 of a list; and 4 after them.
+abbrev pub wordChecks : ℕ → ℕ → List ℕ → List Check
+wordChecks head extra s = check 2 (IsBadWord head extra s) ∷ check 3 (IsNotAbove head extra s) ∷ []
+
+abbrev pub setChecks : ℕ → ℕ → List ℕ → List Check
+setChecks head extra s = wordChecks head extra s ++ (check 4 (IsTooLong head extra s) ∷ [])
+
+-- "Planner: 2, 3, 4, 5, 6, 7." The lengths are those of the plan list and the working list.
+abbrev pub readyChecks : List ℕ → ℕ → ℕ → List Check
+readyChecks s planLength workLength =
+    setChecks listHead listExtra s ++
+    (check 5 (IsShort (workNeeded s) workLength) ∷ check 6 (IsShort (taskCount listHead s) planLength) ∷ [])
+
+abbrev pub plannerChecks : List ℕ → ℕ → ℕ → List Check
+plannerChecks s planLength workLength = readyChecks s planLength workLength ++ (check 7 (NoPlanFits (problem s)) ∷ [])
+
+-- "Walk: 2, 3, 4, 8."
+abbrev pub walkChecks : List ℕ → List ℕ → List Check
+walkChecks s P = setChecks listHead listExtra s ++ (check 8 (IsBadPlan (rateCount listHead s) (taskCount listHead s) P) ∷ [])
+
+-- "Reader: 1, 6." Where the text departs, and how many words it says, is for the text's own definitions.
+abbrev pub readerChecks : (ℕ → Type 0) → ℕ → ℕ → List Check
+readerChecks departs needed lent = check 1 departs ∷ check 6 (IsShort needed lent) ∷ []
+
+-- "Writer: 2, 3, 6."
+abbrev pub writerChecks : List ℕ → ℕ → ℕ → List Check
+writerChecks s needed lent = wordChecks listHead listExtra s ++ (check 6 (IsShort needed lent) ∷ [])
