@@ -10,18 +10,11 @@ use native.Mathlib.Omega.{arith}
 use native.Mathlib.Nat.{eq-or-lt-of-le, zero-add, add-zero, suc-add, add-suc}
 use Rattle.numbers.specs.Numbers.{sum, All, over}
 use Rattle.numbers.proofs.Tests.{bool-cases}
-use Rattle.schedule.specs.Walk.{Task, before, misses, KeepsForEver}
-use Rattle.schedule.specs.Counted.{Outcome, missed, kept, busyAt, idleAt, preemptedAt, lateTask, walkFrom, walk, IsKept}
+use Rattle.schedule.specs.Walk.{Task, misses, KeepsForEver}
+use Rattle.schedule.specs.Counted.{kept, busyAt, idleAt, missedAt, keptTo, walkFrom, walk, IsKept}
 use Rattle.schedule.proofs.Demand.{load}
 use Rattle.schedule.proofs.Done.{busy-or-idle}
 use Rattle.schedule.proofs.Periodic.{Regular, kept-busy, kept-fits, keeps-iff-fits}
-
--- The answer of a walk that misses nothing.
-abbrev pub keptTo : List Task → ℕ → Outcome
-keptTo ks t = kept (over (busyAt ks) 0 t) (over (idleAt ks) 0 t) (over (preemptedAt ks) 0 t)
-
-abbrev missedAt : List Task → ℕ → Outcome
-missedAt ks t = missed t (lateTask t (before ks t))
 
 kept-from : (ks : List Task) (t n : ℕ) → IsKept (walkFrom ks t n) → (u : ℕ) → t ≤ u → u ≤ t + n → misses ks u ≡ false
 kept-from ks t zero h u a b =

@@ -1,4 +1,3 @@
-pub mod Cases
 pub mod Choice
 pub mod Demand
 pub mod State

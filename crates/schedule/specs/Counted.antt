@@ -1,11 +1,12 @@
 -- The walk with a last tick and its counts (document 01, 'The walk'). The last tick is a parameter: L for document 01's call.
 use Prim.Native.Nat.{ℕ, zero, suc}
+use mathlib.Core.Path.{_≡_, refl}
 use mathlib.Core.Bool.{Bool, true, false, cond, not, _&&_}
 use mathlib.Core.List.{List, [], _∷_, map}
 use lib.Dec.{ltb, eqb}
 use lib.ListN.{length}
 use Rattle.numbers.specs.Numbers.{over}
-use Rattle.schedule.specs.Walk.{Task, Job, release, choice, before, misses}
+use Rattle.schedule.specs.Walk.{Task, periodic, Job, release, choice, before, misses}
 
 -- "'missed', that tick and the task"; "'kept' and three counts: busy ticks, idle ticks, and preemptions".
 pub data Outcome : Type 0 where
@@ -43,10 +44,17 @@ abbrev pub lateTask : ℕ → List Job → ℕ
 lateTask t [] = 0
 lateTask t (j ∷ js) = cond (ltb 0 (j .task .arrives t) && ltb 0 (j .left)) 1 (suc (lateTask t js))
 
+-- The answer of a walk that misses at tick t, and of one that has missed nothing up to t.
+abbrev pub missedAt : List Task → ℕ → Outcome
+missedAt ks t = missed t (lateTask t (before ks t))
+
+abbrev pub keptTo : List Task → ℕ → Outcome
+keptTo ks t = kept (over (busyAt ks) 0 t) (over (idleAt ks) 0 t) (over (preemptedAt ks) 0 t)
+
 -- From tick t with n ticks to go. At the last tick "the check is made and nothing is released".
 abbrev pub walkFrom : List Task → ℕ → ℕ → Outcome
-walkFrom ks t zero = cond (misses ks t) (missed t (lateTask t (before ks t))) (kept (over (busyAt ks) 0 t) (over (idleAt ks) 0 t) (over (preemptedAt ks) 0 t))
-walkFrom ks t (suc n) = let r = walkFrom ks (suc t) n in cond (misses ks t) (missed t (lateTask t (before ks t))) r
+walkFrom ks t zero = cond (misses ks t) (missedAt ks t) (keptTo ks t)
+walkFrom ks t (suc n) = let r = walkFrom ks (suc t) n in cond (misses ks t) (missedAt ks t) r
 
 -- "goes tick by tick from 0 to" the last tick.
 abbrev pub walk : List Task → ℕ → Outcome
@@ -55,3 +63,21 @@ walk ks last = walkFrom ks 0 last
 abbrev pub IsKept : Outcome → Type 0
 IsKept (missed t i) = ⊥
 IsKept (kept b i p) = Unit {0}
+
+-- WORKED EXAMPLES: document 01's marked walks of the set S, over the periods and job times of its tasks, and two more.
+
+-- Plan 1 1: job times 6 and 10. "missed, tick 15, task 2."
+pub walk-of-1-1 : walk (periodic 10 6 ∷ periodic 15 10 ∷ []) 30 ≡ missed 15 2
+walk-of-1-1 = refl
+
+-- Plan 2 1: job times 3 and 10. "kept, 29, 1, 1."
+pub walk-of-2-1 : walk (periodic 10 3 ∷ periodic 15 10 ∷ []) 30 ≡ kept 29 1 1
+walk-of-2-1 = refl
+
+-- Two tasks late at one tick: the lower number is given.
+pub lowest-late : walk (periodic 4 4 ∷ periodic 6 3 ∷ periodic 6 3 ∷ []) 12 ≡ missed 6 2
+lowest-late = refl
+
+-- A load of exactly L is kept, with no idle tick.
+pub full-load : walk (periodic 2 1 ∷ periodic 4 2 ∷ []) 4 ≡ kept 4 0 1
+full-load = refl

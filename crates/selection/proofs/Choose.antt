@@ -42,7 +42,7 @@ module _ {Ok : List ℕ → Type 0} {p : Problem} {d : ℕ} {S : Type 0} {back :
           ok = fine;
           least-energy = λ Q f. rw r (not-below Q f);
           least-load = λ Q f e. omega (arith, rw (e ∙ r) at (cellOf-le Q f), t .load-best);
-          lowest = λ Q f e w. t .lowest Q (cov .uses Q k f (omega (arith, e, r))) (omega (arith, w, t .load-best));
+          lowest = λ Q f e w. t .lowest Q (cov .uses Q k f (omega (arith, e, r))) (omega (arith, w, t .load-best, rw (e ∙ r) at (cellOf-le Q f)));
         },
         r,
       )
