@@ -1,13 +1,13 @@
 -- The smallest power of two not below a number: there is one, and only one.
 -- Assumes nothing.
-use Prim.Native.Nat.{ℕ, zero, suc, _+_, _-_, _*_, _^_, _≤_, _<_}
-use mathlib.Core.Path.{_≡_, refl, sym, ap, subst}
-use mathlib.Core.Bool.{Bool, true, false}
+use Prim.Native.Nat.{ℕ, zero, suc, _^_, _≤_, _<_}
+use mathlib.Core.Path.{_≡_, refl}
+use mathlib.Core.Bool.{Bool}
 use mathlib.Core.Logic.{⊎-elim}
-use native.Mathlib.Nat.{one-le-pow, le-antisymm, sub-zero}
+use native.Mathlib.Nat.{one-le-pow, le-antisymm}
 use native.Mathlib.Omega.{arith}
 use lib.Dec.{leb}
-use borrow.Author.Tests.{leb-true, leb-false, le-leb}
+use borrow.Author.Tests.{leb-true, leb-false}
 use Rattle.numbers.specs.Numbers.{LeastPower}
 use Rattle.numbers.proofs.Tests.{lt-or-le}
 use Rattle.numbers.proofs.Search.{first, first-holds, first-before, first-to}

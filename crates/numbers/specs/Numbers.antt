@@ -1,8 +1,8 @@
 -- The whole-number operations in which document 01 speaks. Each is defined here once; proofs/ has the laws that show it to be
 -- the operation that its name says.
 use Prim.Native.Nat.{ℕ, zero, suc, _+_, _-_, _*_, _/_, _%_, _^_, _≤_, _<_}
-use mathlib.Core.Bool.{Bool, true, false, _&&_}
-use mathlib.Core.List.{List, [], _∷_}
+use mathlib.Core.Bool.{Bool, _&&_}
+use mathlib.Core.List.{List}
 use lib.ListN.{getD}
 use lib.Dec.{leb}
 
@@ -26,16 +26,6 @@ total f (suc n) P = total f n P + f n (getD P n 0)
 abbrev pub over : (ℕ → ℕ) → ℕ → ℕ → ℕ
 over f t zero = 0
 over f t (suc n) = f t + over f (suc t) n
-
--- The sum of f over a list.
-abbrev pub sum : {A : Type 0} → (A → ℕ) → List A → ℕ
-sum f [] = 0
-sum f (x ∷ xs) = f x + sum f xs
-
--- What holds of each member of a list.
-abbrev pub All : {A : Type 0} → (A → Type 0) → List A → Type 0
-All P [] = Unit {0}
-All P (x ∷ xs) = P x × All P xs
 
 -- DIVISORS AND MULTIPLES.
 
@@ -66,7 +56,7 @@ pub record LeastPower (x e : ℕ) : Type 0 where
 
 -- FIRST PLACES.
 
--- "the first such", "the lowest that applies": P holds at k, and at no number before it.
+-- "the first such word", "lowest of these that applies": P holds at k, and at no number before it.
 pub record Lowest (P : ℕ → Type 0) (k : ℕ) : Type 0 where
   pub here : P k
   pub before : (j : ℕ) → j < k → P j → ⊥

@@ -4,14 +4,14 @@
 -- Assumes nothing.
 use Prim.Native.Nat.{ℕ, zero, suc, _+_, _-_, _≤_, _<_}
 use mathlib.Core.Path.{_≡_, refl, sym, _∙_}
-use mathlib.Core.Bool.{true, false, _&&_, true≢false}
+use mathlib.Core.Bool.{false, _&&_, true≢false}
 use mathlib.Core.List.{List, [], _∷_, map}
 use mathlib.Core.Logic.{⊎-elim}
 use native.Mathlib.Omega.{arith}
 use native.Mathlib.Nat.{eq-zero-or-pos, add-zero}
 use lib.Dec.{ltb}
 use borrow.Author.Tests.{ltb-true}
-use Rattle.numbers.specs.Numbers.{sum, All}
+use Rattle.numbers.proofs.Sums.{sum, All}
 use Rattle.numbers.proofs.Tests.{bool-cases, or-true, and-true, lt-or-le}
 use Rattle.schedule.specs.Walk.{Task, Job, fresh, released, release, work, choice, before, late, KeepsForEver}
 use Rattle.schedule.proofs.Choice.{held, held-cases, run-held, work-held}

@@ -1,7 +1,7 @@
 -- What one tick of earliest-deadline-first does to the work that is due by a tick D: if there is any, it takes one tick of it.
 -- Assumes nothing.
 use Prim.Native.Nat.{ℕ, zero, suc, pred, _+_, _≤_, _<_}
-use mathlib.Core.Path.{_≡_, refl, sym, ap, _∙_}
+use mathlib.Core.Path.{_≡_, refl, sym, ap}
 use mathlib.Core.Bool.{Bool, true, false, cond, not, _&&_, true≢false}
 use mathlib.Core.List.{List, [], _∷_, map}
 use mathlib.Core.Logic.{_⊎_, inl, inr, ⊎-elim}
@@ -9,7 +9,7 @@ use native.Mathlib.Omega.{arith}
 use lib.Dec.{ltb, leb, leb·suc-suc}
 use lib.ListN.{length}
 use borrow.Author.Tests.{ltb-true, ltb-false, leb-true, leb-false, lt-ltb, not-true, not-false}
-use Rattle.numbers.specs.Numbers.{sum}
+use Rattle.numbers.proofs.Sums.{sum}
 use Rattle.numbers.proofs.Tests.{bool-cases, or-true, or-false, and-true, and-false}
 use Rattle.schedule.specs.Walk.{Task, Job, sooner, choice, work, run}
 use Rattle.schedule.specs.Counted.{count}

@@ -1,20 +1,20 @@
 -- Periodic tasks that are first released together keep every deadline for ever if and only if their load is at most L.
 -- Assumes nothing.
 use Prim.Native.Nat.{ℕ, zero, suc, pred, _+_, _*_, _/_, _%_, _≤_, _<_}
-use mathlib.Core.Path.{_≡_, refl, sym, ap, _∙_, subst}
-use mathlib.Core.Bool.{Bool, true, false, cond}
+use mathlib.Core.Path.{_≡_, refl, sym, ap, _∙_}
+use mathlib.Core.Bool.{Bool, false, cond}
 use mathlib.Core.List.{List, [], _∷_}
 use mathlib.Core.Logic.{_⊎_, ⊎-elim, _↔_}
 use native.Mathlib.Omega.{arith}
 use native.Mathlib.Nat.{suc-mul, mul-le-mul-right, lt-of-mul-lt-mul-right, div-mul-cancel, dvd-of-mod-eq-zero, suc-pred-eq-of-pos, add-mod-right, add-comm, zero-mod, zero-mul, eq-zero-or-pos}
 use lib.Dec.{eqb}
 use borrow.Author.Tests.{eqb-true, eq-eqb}
-use Rattle.numbers.specs.Numbers.{sum, All, over}
+use Rattle.numbers.specs.Numbers.{over}
 use Rattle.numbers.proofs.Tests.{bool-cases}
-use Rattle.numbers.proofs.Sums.{over-join, over-none}
+use Rattle.numbers.proofs.Sums.{sum, All, over-join, over-none}
 use Rattle.schedule.specs.Walk.{Task, misses, KeepsForEver, periodic, tasksFrom}
 use Rattle.schedule.specs.Counted.{busyAt}
-use Rattle.schedule.proofs.Demand.{Sporadic, Shares, load, all-sporadic}
+use Rattle.schedule.proofs.Demand.{Shares, load, all-sporadic}
 use Rattle.schedule.proofs.Capacity.{fits-keeps}
 use Rattle.schedule.proofs.Done.{releasedBefore, all-done, busy-or-idle}
 

@@ -1,13 +1,12 @@
 -- The walk's state: its tasks stay those of the list, and what holds of each task holds of the task of each job.
 -- Assumes nothing.
-use Prim.Native.Nat.{ℕ, zero, suc, _<_}
+use Prim.Native.Nat.{ℕ, zero, suc}
 use mathlib.Core.Path.{_≡_, refl, sym, ap, _∙_, subst}
 use mathlib.Core.Bool.{Bool, true, false, _&&_, _||_}
 use mathlib.Core.List.{List, [], _∷_, map}
 use lib.Dec.{ltb}
 use lib.ListN.{length}
-use Rattle.numbers.specs.Numbers.{sum, All}
-use Rattle.numbers.proofs.Sums.{sum-map}
+use Rattle.numbers.proofs.Sums.{sum, All, sum-map}
 use Rattle.schedule.specs.Walk.{Task, Job, fresh, released, release, choice, before, late, misses}
 use Rattle.schedule.proofs.Choice.{work-task}
 

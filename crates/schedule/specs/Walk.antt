@@ -1,19 +1,19 @@
 -- The endless walk (document 01, 'The walk'): earliest deadline first, tick by tick, with no last tick.
-use Prim.Native.Nat.{ℕ, zero, suc, pred, _+_, _%_, _<_}
+use Prim.Native.Nat.{ℕ, zero, suc, pred, _+_, _%_}
 use mathlib.Core.Path.{_≡_}
-use mathlib.Core.Bool.{Bool, true, false, cond, not, _&&_, _||_}
+use mathlib.Core.Bool.{Bool, false, cond, not, _&&_, _||_}
 use mathlib.Core.List.{List, [], _∷_, map}
 use lib.Dec.{ltb, eqb}
 
--- A task, as far as the walk goes: its period, its job time (the most ticks that a job of it takes), and for each tick the
--- ticks of the job that it releases there, 0 where it releases none.
+-- A task, as far as the walk goes: its period; its job time, the most ticks that a job of it takes, by which theorems speak of its
+-- load; and for each tick the ticks of the job that it releases there, 0 where it releases none.
 pub record Task : Type 0 where
   pub period : ℕ
   pub time : ℕ
   pub arrives : ℕ → ℕ
 
--- A task of the set: "At tick 0 each task's first job is released", and "at every later multiple of a task's period .. its
--- next job", each with "the full job time".
+-- A task of the set: "At tick 0 each task's first job is released. At every later multiple of a task's period .. its next job is
+-- released", each time with "the full job time".
 abbrev pub periodic : ℕ → ℕ → Task
 periodic p c = record { period = p; time = c; arrives = λ t. cond (eqb (t % p) 0) c 0 }
 
@@ -60,7 +60,7 @@ work (j ∷ js) (suc n) = j ∷ work js n
 abbrev pub run : List Job → List Job
 run js = work js (choice js)
 
--- The walk's state before tick t.
+-- The walk's state before the check and the releases of tick t.
 abbrev pub before : List Task → ℕ → List Job
 before ks zero = map fresh ks
 before ks (suc t) = run (map (release t) (before ks t))

@@ -1,18 +1,18 @@
 -- What the chosen plan's energy is held to: note 5's margin and demand 3's slack; and that k(d) stays small.
 -- All of this is over any Ok, and energies may be 0.
 -- Assumes nothing.
-use Prim.Native.Nat.{ℕ, zero, suc, _+_, _*_, _-_, _/_, _^_, _≤_, _<_}
-use mathlib.Core.Path.{_≡_, refl, sym, ap, _∙_}
+use Prim.Native.Nat.{ℕ, suc, _+_, _*_, _-_, _/_, _^_, _≤_, _<_}
+use mathlib.Core.Path.{_≡_, refl}
 use mathlib.Core.List.{List}
 use mathlib.Core.Logic.{_⊎_, inl, inr}
 use native.Mathlib.Nat.{mul-le-mul-left, mul-le-mul-right, le-div-iff-mul-le, pow-succ'}
 use native.Mathlib.Omega.{arith}
 use lib.ListN.{getD}
-use Rattle.numbers.specs.Numbers.{ceil, total, LeastPower}
+use Rattle.numbers.specs.Numbers.{LeastPower}
 use Rattle.numbers.proofs.Rounding.{ceil-covers, ceil-over, ceil-half, ceil-least}
 use Rattle.numbers.proofs.Sums.{total-mono, total-scale, total-plus, total-at, total-bound}
 use Rattle.numbers.proofs.Powers.{power-positive}
-use Rattle.selection.specs.Plan.{Problem, planLoad, planEnergy, roundedTask, rounded, IsLeastOf, IsChosenOf, fastest, threshold, QualifiesOf, FallsShortOf, IsUsedOf, IsPlannedOf}
+use Rattle.selection.specs.Plan.{Problem, planEnergy, roundedTask, rounded, IsLeastOf, IsChosenOf, fastest, threshold, QualifiesOf, FallsShortOf, IsPlannedOf}
 
 -- ---- rounding (document 000, equation (4), in whole numbers)
 module _ (p : Problem) (d : ℕ) (pos : 0 < d) where

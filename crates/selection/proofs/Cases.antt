@@ -1,7 +1,7 @@
 -- Document 01's marked selections, over the loads and energies of their tasks: the set S at two slacks, 60 and 61 cycles, and the
 -- task energy of 33 that shows rounding.
 -- Assumes nothing.
-use Prim.Native.Nat.{ℕ, zero, suc, _+_, _^_, _≤_, _<_}
+use Prim.Native.Nat.{ℕ, zero, suc, _^_, _≤_}
 use mathlib.Core.Path.{_≡_, refl}
 use mathlib.Core.List.{List, [], _∷_}
 use native.Mathlib.Omega.{arith}

@@ -12,7 +12,7 @@ use lib.Dec.{leb}
 use lib.ListN.{length, getD}
 use Rattle.numbers.specs.Numbers.{total}
 use Rattle.numbers.proofs.Tests.{below-more}
-use Rattle.selection.specs.Plan.{Problem, IsPlan, Fitting, planLoad, roundedTask, rounded, IsChosenOf}
+use Rattle.selection.specs.Plan.{Problem, Fitting, planLoad, roundedTask, rounded, IsChosenOf}
 use Rattle.selection.proofs.Table.{best, best-le, Uses, Follows, Traced, traced}
 
 -- ---- over any state: an Ok plan with a rounded energy of at most e is one that spends at most `at e` within the limit

@@ -8,14 +8,14 @@ use mathlib.Core.List.{List, [], _∷_}
 use mathlib.Core.Logic.{inl, inr, ⊎-elim, _↔_}
 use native.Mathlib.Nat.{zero-add, eq-or-lt-of-le, add-zero, add-suc, suc-add}
 use native.Mathlib.Omega.{arith}
-use borrow.Author.Tests.{leb-true, leb-false, le-leb}
+use borrow.Author.Tests.{leb-true, leb-false}
 use lib.Dec.{leb}
 use lib.ListN.{length, getD}
 use Rattle.numbers.specs.Numbers.{LeastPower}
 use Rattle.numbers.proofs.Tests.{lt-or-le}
 use Rattle.numbers.proofs.Search.{first, first-to, first-holds, first-before}
 use Rattle.numbers.proofs.Powers.{exponent, exponent-is}
-use Rattle.selection.specs.Plan.{Problem, planLoad, planEnergy, roundedTask, rounded, Fitting, IsLeastOf, IsChosenOf, fastest, threshold, FallsShortOf, IsUsedOf, IsPlanned}
+use Rattle.selection.specs.Plan.{Problem, planEnergy, roundedTask, rounded, Fitting, IsLeastOf, IsChosenOf, fastest, threshold, FallsShortOf, IsUsedOf, IsPlanned}
 use Rattle.selection.proofs.Bounds.{chosen-least}
 use Rattle.selection.proofs.Fastest.{Falling, some-fits-iff-fastest, fastest-fits}
 use Rattle.selection.proofs.Table.{firstOf, firstOf-is, IsFirst, via, best, Follows}

@@ -1,13 +1,13 @@
 -- Which plan is selected (document 01, 'A task set' and 'Which plan'), over any loads and energies.
 -- Tasks stand at places from 0 here; rate numbers count from 1.
-use Prim.Native.Nat.{ℕ, zero, suc, _+_, _*_, _^_, _≤_, _<_}
+use Prim.Native.Nat.{ℕ, zero, suc, _*_, _^_, _≤_, _<_}
 use mathlib.Core.Path.{_≡_}
 use mathlib.Core.List.{List}
 use mathlib.Core.Logic.{_⊎_}
 use lib.ListN.{length, getD, replicate}
 use Rattle.numbers.specs.Numbers.{ceil, total, LeastPower}
 
--- A task set as far as the choice goes: N tasks, M rates, the limit L, and "task load at a rate" and "task energy at a rate" by
+-- A task set as far as the choice goes: N tasks, M rates, the limit L, and "Task load at a rate" and "Task energy at a rate" by
 -- the task's place and the rate number.
 pub record Problem : Type 0 where
   pub count : ℕ
@@ -77,7 +77,7 @@ QualifiesOf Ok p G d = (k : ℕ) × IsLeastOf Ok p d k × (threshold p ≤ G * k
 abbrev pub FallsShortOf : (List ℕ → Type 0) → Problem → ℕ → ℕ → Type 0
 FallsShortOf Ok p G d = (k : ℕ) × IsLeastOf Ok p d k × (G * k < threshold p)
 
--- 2 ^ a is the unit used. "The first unit is the smallest power of two not below the energy of the plan with every task at rate
+-- 2 ^ a is the unit used; a, first and b are exponents. "The first unit is the smallest power of two not below the energy of the plan with every task at rate
 -- M; 1 if that energy is 0. Units are halved from there. The unit used is the first with G × k(d) at least 2,000 × N, or 1 if
 -- none before it qualifies."
 pub record IsUsedOf (Ok : List ℕ → Type 0) (p : Problem) (G a : ℕ) : Type 0 where

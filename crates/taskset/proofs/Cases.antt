@@ -1,36 +1,35 @@
 -- The cases of document 01's 'Either side of an edge', gathered in one record and proved together of the definitions: every marked one,
 -- each of the call's whole answer, and the unmarked refusals of a set.
 -- Assumes nothing.
-use Prim.Native.Nat.{ℕ, suc, _+_, _^_, _≤_, _<_}
-use mathlib.Core.Path.{_≡_, refl, sym, ap, _∙_, subst}
-use mathlib.Core.Option.{Option, none, some}
-use mathlib.Core.List.{List, [], _∷_, _++_, append-nil}
+use Prim.Native.Nat.{ℕ, _^_, _≤_, _<_}
+use mathlib.Core.Path.{_≡_, refl, sym, _∙_, subst}
+use mathlib.Core.Option.{none, some}
+use mathlib.Core.List.{List, [], _∷_, append-nil}
 use mathlib.Core.Logic.{inl, inr}
 use native.Mathlib.Bridge.{le-by-compare, IsLe}
 use native.Mathlib.Omega.{arith}
-use lib.ListN.{length, take, drop, replicate, drop-of-length-le}
+use lib.ListN.{length, replicate, drop-of-length-le}
 use lib.Seq.{take-all}
 use Rattle.numbers.specs.Numbers.{total, gcdIn, gcd, lcm, running}
 use Rattle.numbers.proofs.Search.{seek}
 use Rattle.numbers.proofs.Powers.{exponent}
-use Rattle.schedule.specs.Counted.{Outcome, missed, kept, walk}
-use Rattle.selection.specs.Plan.{Problem, planLoad, planEnergy, fastest, Fitting}
+use Rattle.selection.specs.Plan.{planLoad, planEnergy, fastest, Fitting}
 use Rattle.selection.proofs.Fastest.{fastest-fits, fastest-least}
 use Rattle.selection.proofs.Table.{leastOf, firstOf, via, best}
 use Rattle.selection.proofs.Choose.{spend, cell}
 use Rattle.selection.proofs.Compute.{trace, leastEnergy, choose, usedFrom, usedExponent, planned-is}
 use Rattle.taskset.specs.Words.{listHead, listExtra, slack, rateCount, taskCount, headKind, taskKind, kindAt, allows}
-use Rattle.taskset.specs.Quantities.{hyperPeriod, problem, tasks, workNeeded}
-use Rattle.taskset.specs.Refusals.{number, second, check, Accepts, Refuses, setChecks, readyChecks, plannerChecks, walkChecks, IsShort, NoPlanFits, IsBadPlan}
-use Rattle.taskset.specs.Calls.{SetAnswers, PlannerGives, WalkAnswers}
+use Rattle.taskset.specs.Quantities.{hyperPeriod, problem, workNeeded}
+use Rattle.taskset.specs.Refusals.{number, second, check, Accepts, setChecks, readyChecks, walkChecks, IsShort, NoneOk}
+use Rattle.taskset.specs.Calls.{plannerReturns, walkReturns, plannerValues, walkValues, SetAnswers, PlannerGives, WalkAnswers}
 use Rattle.taskset.specs.declared.Refusal.{Refusal}
-use Rattle.taskset.specs.declared.Refusal.the-variants.{BadWord, NotAbove, TooLong, WorkShort, NoPlan, BadPlan}
+use Rattle.taskset.specs.declared.Refusal.the-variants.{BadWord, NotAbove, TooLong, WorkShort, TooShort, NoPlan, BadPlan}
 use Rattle.taskset.specs.declared.Checked.{Checked}
-use Rattle.taskset.specs.declared.Checked.the-variants.{Good, Refused}
+use Rattle.taskset.specs.declared.Checked.the-variants.{Good, Refused as NotGood}
 use Rattle.taskset.specs.declared.PlannerAnswer.the-variants.{Planned, Refused as NotPlanned}
 use Rattle.taskset.specs.declared.WalkAnswer.the-variants.{Kept, Missed, Refused as NotWalked}
-use Rattle.taskset.proofs.Checks.{refuses-front, refuses-back}
-use Rattle.taskset.proofs.Verdict.{isBad, isFall, isOver, checkedOf, checked-answers}
+use Rattle.taskset.proofs.Checks.{refuses-front}
+use Rattle.taskset.proofs.Verdict.{isBad, isFall, isOver, shapeOf, afterShape, checkedOf, checked-answers}
 use Rattle.taskset.proofs.PlanVerdict.{isUnfit, planVerdict, PlanSays, plan-verdict-says}
 use Rattle.taskset.proofs.Sets.{set-of, falling}
 
@@ -48,6 +47,10 @@ one-period p = 100 ∷ 2 ∷ 2 ∷ 4 ∷ 1 ∷ p ∷ 1 ∷ 1 ∷ 1 ∷ []
 
 two-periods : ℕ → ℕ → List ℕ
 two-periods p q = 100 ∷ 2 ∷ 2 ∷ 4 ∷ 2 ∷ p ∷ 1 ∷ 1 ∷ 1 ∷ q ∷ 1 ∷ 1 ∷ 1 ∷ []
+
+-- Two tasks alike.
+even-tasks : List ℕ
+even-tasks = 100 ∷ 2 ∷ 1 ∷ 3 ∷ 2 ∷ 4 ∷ 3 ∷ 1 ∷ 5 ∷ 4 ∷ 3 ∷ 1 ∷ 5 ∷ []
 
 -- Two rates and one task, with a last word that may be missing or be followed by more.
 with-rates : ℕ → ℕ → List ℕ → List ℕ
@@ -69,11 +72,11 @@ module _ (s : List ℕ) where
   answered x e = subst (SetAnswers listHead listExtra s) e (checked-answers listHead listExtra s)
 
   -- A refusal of checks 2, 3 or 4 is the planner's, whatever is lent.
-  set-refused : (r : Refusal) → checked ≡ Refused r → Declined s r
+  set-refused : (r : Refusal) → checked ≡ NotGood r → Declined s r
   set-refused r e plan work = (
-    refuses-front (readyChecks s (length plan) (length work)) (check 7 (NoPlanFits (problem s)) ∷ []) (number r) (second r)
+    refuses-front (readyChecks s (length plan) (length work)) (check 7 (NoneOk (Fitting (problem s))) ∷ []) (number r) (second r)
         (refuses-front (setChecks listHead listExtra s) (check 5 (IsShort (workNeeded s) (length work)) ∷ check 6 (IsShort (taskCount listHead s) (length plan)) ∷ []) (number r) (second r)
-        (answered (Refused r) e)),
+        (answered (NotGood r) e)),
     refl,
     refl,
   )
@@ -91,21 +94,31 @@ module _ (s : List ℕ) where
         let set = passes in
         let fit : Fitting (problem s) (fastest (problem s)) = fastest-fits (problem s) some-rate fits in (
           (set .0, (set .1 .0, (set .1 .1 .0, ((λ k h. omega (arith, h .0)), ((λ k h. omega (arith, h .0)), ((λ k h. h .1 (fastest (problem s)) fit), tt)))))),
-          record {
-            exponent = a;
-            unit-is = sym u;
-            planned = rw (take-all (taskCount listHead s) P (omega arith), ← chosen, ← used) (planned-is (problem s) fit (slack s));
-            load-is = rw (take-all (taskCount listHead s) P (omega arith)) (sym w);
-            hyper-is = answered (Good m n l) e .3;
-            energy-is = rw (take-all (taskCount listHead s) P (omega arith)) (sym j);
-          },
-          drop-of-length-le P {i = taskCount listHead s} (omega arith) ∙ sym (drop-of-length-le plan {i = taskCount listHead s} (omega arith)),
-          rw (drop-of-length-le work {i = workNeeded s} (omega arith)) (sym (append-nil (replicate (workNeeded s) 0))),
+          (
+            P,
+            record {
+              exponent = a;
+              planned = rw (← chosen, ← used) (planned-is (problem s) fit (slack s));
+              values-are = cc (u, w, j, answered (Good m n l) e .3);
+            },
+            record {
+              front = take-all (taskCount listHead s) P (omega arith);
+              rest = drop-of-length-le P {i = taskCount listHead s} (omega arith) ∙ sym (drop-of-length-le plan {i = taskCount listHead s} (omega arith));
+              cleared = rw (drop-of-length-le work {i = workNeeded s} (omega arith)) (sym (append-nil (replicate (workNeeded s) 0)));
+            },
+          ),
         )
 
     -- Too few working words.
     work-short : (plan work : List ℕ) → length work < workNeeded s → PlannerGives s plan work plan work (NotPlanned (WorkShort (workNeeded s)))
     work-short plan work h = let set = passes in (inr (set .0, inr (set .1 .0, inr (set .1 .1 .0, inl (refl, (h, refl))))), refl, refl)
+
+    -- Enough working words, and a plan list that is too short.
+    plan-short : (plan work : List ℕ) → workNeeded s ≤ length work → length plan < taskCount listHead s
+        → PlannerGives s plan work plan work (NotPlanned (TooShort (taskCount listHead s)))
+    plan-short plan work q p =
+        let set = passes in
+        (inr (set .0, inr (set .1 .0, inr (set .1 .1 .0, inr ((λ k h. omega (arith, h .0)), inl (refl, (p, refl)))))), refl, refl)
 
     -- No plan fits where the plan with every task at rate M does not.
     no-plan : 1 ≤ rateCount listHead s → L < planLoad (problem s) (fastest (problem s))
@@ -166,13 +179,20 @@ pub record Cases : Type 0 where
   bad-task-count : Declined (100 ∷ 2 ∷ 2 ∷ 4 ∷ 33 ∷ 10 ∷ []) (BadWord 4)
   missing : Declined (with-rates 2 4 []) (BadWord 8)
   left-over : Declined (with-rates 2 4 (9 ∷ 1 ∷ [])) (BadWord 9)
-  -- A plan that is short, one that is long, and none at all, for a walk of two tasks.
+  -- A plan list of one word for two tasks: refusal 6 with 2. Two plans that differ in rate numbers alone: the lower number for task 2.
+  plan-list-1 : (plan work : List ℕ) → length plan ≡ 1 → length work ≡ 243 → PlannerGives (S 100) plan work plan work (NotPlanned (TooShort 2))
+  tie : (plan work : List ℕ) → length plan ≡ 2 → length work ≡ 243 → PlannerGives even-tasks plan work (2 ∷ 1 ∷ []) (replicate 243 0) (Planned 1 4 4 6)
+  -- What C is given: 0 and the values, or the refusal's number and second number in one.
+  returns : (plannerReturns (Planned 1 29 30 41) ≡ 0) × (plannerReturns (NotPlanned (WorkShort 243)) ≡ 21474836723) × (walkReturns (NotWalked (BadPlan 1)) ≡ 34359738369)
+  values : (plannerValues (Planned 1 29 30 41) ≡ 1 ∷ 29 ∷ 30 ∷ 41 ∷ []) × (walkValues (Kept 29 1 1) ≡ 1 ∷ 29 ∷ 1 ∷ 1 ∷ []) × (walkValues (Missed 15 2) ≡ 0 ∷ 15 ∷ 2 ∷ 0 ∷ [])
+  -- A plan that is short, two that are long, and none at all, for a walk of two tasks.
   short-plan : WalkAnswers (S 100) (1 ∷ []) (NotWalked (BadPlan 1))
-  long-plan : WalkAnswers (S 100) (1 ∷ 1 ∷ 9 ∷ []) (NotWalked (BadPlan 2))
+  long-plan : WalkAnswers (S 100) (1 ∷ 1 ∷ 1 ∷ []) (NotWalked (BadPlan 2))
+  long-bad-plan : WalkAnswers (S 100) (1 ∷ 1 ∷ 9 ∷ 9 ∷ []) (NotWalked (BadPlan 2))
   empty-plan : WalkAnswers (S 100) [] (NotWalked (BadPlan 0))
 
 pub cases : Cases
-unfolding S one-task one-period two-periods with-rates checkedOf isBad isFall isOver kindAt headKind taskKind allows isUnfit planVerdict seek total gcdIn gcd lcm running fastest exponent usedExponent usedFrom leastEnergy cell best leastOf firstOf via spend trace choose IsLe
+unfolding S one-task one-period two-periods even-tasks with-rates checkedOf shapeOf afterShape isBad isFall isOver kindAt headKind taskKind allows isUnfit planVerdict seek total gcdIn gcd lcm running fastest exponent usedExponent usedFrom leastEnergy cell best leastOf firstOf via spend trace choose IsLe
 cases = record {
   planned-100 = planned (S 100) 3 2 30 refl (2 ∷ 1 ∷ []) 0 1 29 41 (le-by-compare _ _ tt) (le-by-compare _ _ tt) refl refl refl refl refl refl;
   work-242 = λ plan work h. work-short (S 100) 3 2 30 refl plan work (omega arith);
@@ -193,6 +213,11 @@ cases = record {
   missing = set-refused (with-rates 2 4 []) (BadWord 8) refl;
   left-over = set-refused (with-rates 2 4 (9 ∷ 1 ∷ [])) (BadWord 9) refl;
   short-plan = plan-refused (S 100) 3 2 30 refl (1 ∷ []) 1 refl;
-  long-plan = plan-refused (S 100) 3 2 30 refl (1 ∷ 1 ∷ 9 ∷ []) 2 refl;
+  long-plan = plan-refused (S 100) 3 2 30 refl (1 ∷ 1 ∷ 1 ∷ []) 2 refl;
+  long-bad-plan = plan-refused (S 100) 3 2 30 refl (1 ∷ 1 ∷ 9 ∷ 9 ∷ []) 2 refl;
+  plan-list-1 = λ plan work p q. plan-short (S 100) 3 2 30 refl plan work (omega arith) (omega arith);
+  tie = planned even-tasks 2 2 4 refl (2 ∷ 1 ∷ []) 0 1 4 6 (le-by-compare _ _ tt) (le-by-compare _ _ tt) refl refl refl refl refl refl;
+  returns = (refl, refl, refl);
+  values = (refl, refl, refl);
   empty-plan = plan-refused (S 100) 3 2 30 refl [] 0 refl;
 }

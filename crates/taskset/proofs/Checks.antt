@@ -1,18 +1,17 @@
 -- Laws on the order of checks, and that every cause can be decided and holds with at most one second number.
 -- Assumes nothing.
-use Prim.Native.Nat.{ℕ, suc, _-_, _≤_, _<_}
+use Prim.Native.Nat.{ℕ, suc, _-_}
 use mathlib.Core.Path.{_≡_, refl, sym, ap, _∙_}
 use mathlib.Core.List.{List, [], _∷_, _++_}
-use mathlib.Core.Logic.{_⊎_, inl, inr, ⊎-elim}
+use mathlib.Core.Logic.{inl, inr, ⊎-elim}
 use native.Mathlib.Decide.{ℕ-discrete, decLe, decLt}
-use native.Mathlib.Omega.{arith}
 use lib.ListN.{length, getD}
 use Rattle.numbers.specs.Numbers.{between, running, Lowest}
 use Rattle.numbers.proofs.Tests.{dec-both, dec-three, dec-either, dec-false}
 use Rattle.numbers.proofs.Search.{lowest-unique, no-lowest}
 use Rattle.taskset.specs.Words.{word, rateCount, taskCount, wordCount, ratePlace, periodPlace, period, kindAt, allows}
 use Rattle.taskset.specs.Quantities.{hyperLimit}
-use Rattle.taskset.specs.Refusals.{WordFault, IsBadWord, RateFault, IsNotAbove, PassesLimit, IsTooLong, PlanFault, IsBadPlan, Check, Passes, Accepts, Refuses}
+use Rattle.taskset.specs.Refusals.{WordFault, IsBadWord, RateFault, IsNotAbove, PassesLimit, IsTooLong, PlanFault, IsBadPlan, Check, Accepts, Refuses}
 
 -- ---- lists of checks
 pub accepts-join : (cs ds : List Check) → Accepts cs → Accepts ds → Accepts (cs ++ ds)

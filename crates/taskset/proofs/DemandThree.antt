@@ -2,23 +2,28 @@
 -- own over the hyper-period, and no plan that keeps every deadline for ever is cheaper by more than the slack; and no plan fits
 -- exactly when no plan keeps every deadline for ever. All of it is judged by the endless walk.
 -- Assumes nothing.
-use Prim.Native.Nat.{ℕ, _+_, _*_, _≤_}
-use mathlib.Core.Path.{_≡_, refl}
-use mathlib.Core.List.{List, [], _∷_, _++_}
-use mathlib.Core.Logic.{_⊎_, inl, inr, ⊎-elim, _↔_}
+use Prim.Native.Nat.{ℕ, _+_, _≤_}
+use mathlib.Core.Path.{_≡_, refl, subst}
+use mathlib.Core.List.{List, [], _∷_}
+use mathlib.Core.Logic.{inl, _↔_}
 use native.Mathlib.Omega.{arith}
+use lib.ListN.{length}
 use Rattle.numbers.proofs.Tests.{between-true}
 use Rattle.schedule.specs.Walk.{KeepsForEver}
 use Rattle.schedule.specs.Counted.{IsKept, walk, kept}
 use Rattle.schedule.proofs.Finite.{kept-iff-keeps, kept-counts}
-use Rattle.selection.specs.Plan.{Fitting, IsPlan, planLoad, planEnergy, IsPlanned}
+use Rattle.selection.specs.Plan.{Fitting, planLoad}
 use Rattle.selection.proofs.Bounds.{planned-within}
 use Rattle.taskset.specs.Words.{listHead, listExtra, slack, headKind, allows}
-use Rattle.taskset.specs.Quantities.{hyperPeriod, problem, tasks}
-use Rattle.taskset.specs.Refusals.{Check, check, Accepts, Refuses, setChecks, readyChecks, plannerChecks, NoPlanFits}
-use Rattle.taskset.specs.Calls.{Selected}
-use Rattle.taskset.specs.DemandThree.{Keeps, PlanPromise, NoneKeeps}
-use Rattle.taskset.proofs.Checks.{Without, refuses-last, refuses-back}
+use Rattle.taskset.specs.Quantities.{hyperPeriod, problem, tasks, reportedEnergy}
+use Rattle.taskset.specs.Refusals.{number, second, Check, check, Accepts, Refuses, setChecks, readyChecks, plannerChecks, NoneOk}
+use Rattle.taskset.specs.Calls.{plannerValues, Selected, PlannerGives}
+use Rattle.taskset.specs.DemandThree.{Keeps, PlanPromise, NoneKeeps, PlannerOwes}
+use Rattle.taskset.specs.declared.Refusal.{Refusal}
+use Rattle.taskset.specs.declared.PlannerAnswer.{PlannerAnswer}
+use Rattle.taskset.specs.declared.PlannerAnswer.the-variants.{Planned, Refused as NotPlanned}
+use Rattle.taskset.proofs.Checks.{Without, accepts-front, refuses-last, refuses-back, refuses-unique}
+use Rattle.taskset.proofs.Unique.{planner-single}
 use Rattle.taskset.proofs.Sets.{IsSet, set-of, regular, walk-load, keeps-iff-load}
 
 module _ (s : List ℕ) (passes : Accepts (setChecks listHead listExtra s)) where
@@ -37,17 +42,20 @@ module _ (s : List ℕ) (passes : Accepts (setChecks listHead listExtra s)) wher
   )
 
   -- A plan given keeps demand 3's promise.
-  pub plan-given : (P : List ℕ) (unit load hyper energy : ℕ) → Selected s P unit load hyper energy → PlanPromise s P energy
-  plan-given P unit load hyper energy c = record {
-    keeps = keeps-iff-fits P .1 (c .planned .chosen .ok);
-    own = c .energy-is;
-    within = λ Q k.
-        rw (c .energy-is)
-        (planned-within (Fitting (problem s)) (problem s) (slack s) (c .exponent) (slack-range .1) P (c .planned) Q (keeps-iff-fits Q .0 k));
-  }
+  pub plan-given : (P : List ℕ) (unit load hyper energy : ℕ) → Selected s P (plannerValues (Planned unit load hyper energy)) → PlanPromise s P energy
+  plan-given P unit load hyper energy c =
+      let e = c .values-are in
+      let own : energy ≡ reportedEnergy s P = cc in
+      record {
+        keeps = keeps-iff-fits P .1 (c .planned .chosen .ok);
+        own = own;
+        within = λ Q k.
+            rw own
+            (planned-within (Fitting (problem s)) (problem s) (slack s) (c .exponent) (slack-range .1) P (c .planned) Q (keeps-iff-fits Q .0 k));
+      }
 
   -- No plan fits exactly when no plan keeps every deadline for ever.
-  pub none-fits-iff-none-keeps : NoPlanFits (problem s) 0 ↔ NoneKeeps s
+  pub none-fits-iff-none-keeps : NoneOk (Fitting (problem s)) 0 ↔ NoneKeeps s
   none-fits-iff-none-keeps = ((λ n Q k. n .1 Q (keeps-iff-fits Q .0 k)), (λ n. (refl, (λ P f. n P (keeps-iff-fits P .1 f)))))
 
   -- The walk of any list of rate numbers says 'kept' exactly when it keeps every deadline for ever, and then its busy ticks are the
@@ -62,20 +70,40 @@ module _ (s : List ℕ) (passes : Accepts (setChecks listHead listExtra s)) wher
       (omega (arith, c .busy-is-load, walk-load listHead listExtra s set P), c .rest-is-idle)
 
 -- The planner refuses with 7 exactly when checks 2 to 6 pass and no plan keeps every deadline for ever.
-pub refused-7-iff : (s : List ℕ) (planLength workLength : ℕ)
-    → Refuses (plannerChecks s planLength workLength) 7 0 ↔ (Accepts (readyChecks s planLength workLength) × NoneKeeps s)
-refused-7-iff s pl wl = (
-  λ r.
-      let l = refuses-last (readyChecks s pl wl) last 7 0 others r in
-      (l .0, none-fits-iff-none-keeps s (ready (l .0)) .0 (l .1)),
-  λ h. refuses-back (readyChecks s pl wl) (last ∷ []) 7 0 (h .0) (inl (refl, none-fits-iff-none-keeps s (ready (h .0)) .1 (h .1))),
-)
-  where
-    last : Check
-    last = check 7 (NoPlanFits (problem s))
+module _ (s : List ℕ) (pl wl : ℕ) where
+  abbrev last : Check
+  last = check 7 (NoneOk (Fitting (problem s)))
 
-    ready : Accepts (readyChecks s pl wl) → Accepts (setChecks listHead listExtra s)
-    ready a = (a .0, (a .1 .0, (a .1 .1 .0, tt)))
+  passes-set : Accepts (readyChecks s pl wl) → Accepts (setChecks listHead listExtra s)
+  passes-set a = (a .0, (a .1 .0, (a .1 .1 .0, tt)))
 
-    others : Without 7 (readyChecks s pl wl)
-    others = ((λ e. omega arith), ((λ e. omega arith), ((λ e. omega arith), ((λ e. omega arith), ((λ e. omega arith), tt)))))
+  others : Without 7 (readyChecks s pl wl)
+  others = ((λ e. omega arith), ((λ e. omega arith), ((λ e. omega arith), ((λ e. omega arith), ((λ e. omega arith), tt)))))
+
+  pub refused-7-iff : Refuses (plannerChecks s pl wl) 7 0 ↔ (Accepts (readyChecks s pl wl) × NoneKeeps s)
+  refused-7-iff = (
+    λ r.
+        let l = refuses-last (readyChecks s pl wl) last 7 0 others r in
+        (l .0, none-fits-iff-none-keeps s (passes-set (l .0)) .0 (l .1)),
+    λ h. refuses-back (readyChecks s pl wl) (last ∷ []) 7 0 (h .0) (inl (refl, none-fits-iff-none-keeps s (passes-set (h .0)) .1 (h .1))),
+  )
+
+  -- Of a refusal that is the planner's: its number is 7 in that case and in no other.
+  refusal-owes : (r : Refusal) → Refuses (plannerChecks s pl wl) (number r) (second r) → (number r ≡ 7) ↔ (Accepts (readyChecks s pl wl) × NoneKeeps s)
+  refusal-owes r h = (
+    λ e. refused-7-iff .0 (seven e),
+    λ w. refuses-unique (plannerChecks s pl wl) (planner-single s pl wl) (number r) (second r) 7 0 h (refused-7-iff .1 w) .0,
+  )
+    where
+      seven : number r ≡ 7 → Refuses (plannerChecks s pl wl) 7 0
+      seven e =
+          let k = refuses-last (readyChecks s pl wl) last 7 (second r) others (subst (λ (n : ℕ). Refuses (plannerChecks s pl wl) n (second r)) e h) in
+          subst (λ (n : ℕ). Refuses (plannerChecks s pl wl) 7 n) (k .1 .0) (subst (λ (n : ℕ). Refuses (plannerChecks s pl wl) n (second r)) e h)
+
+-- Whatever meets the planner's definition keeps what demand 3 asks of it.
+pub answer-owes : (s plan work plan′ work′ : List ℕ) (a : PlannerAnswer) → PlannerGives s plan work plan′ work′ a → PlannerOwes s plan work plan′ a
+answer-owes s plan work plan′ work′ (Planned unit load hyper energy) g =
+    rw (g .1 .2 .front)
+    (plan-given s (passes-set s (length plan) (length work) (accepts-front (readyChecks s (length plan) (length work)) (last s (length plan) (length work) ∷ []) (g .0)))
+    (g .1 .0) unit load hyper energy (g .1 .1))
+answer-owes s plan work plan′ work′ (NotPlanned r) g = refusal-owes s (length plan) (length work) r (g .0)

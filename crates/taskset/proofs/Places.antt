@@ -1,13 +1,12 @@
 -- What the word at a place stands for, case by case.
 -- Assumes nothing.
-use Prim.Native.Nat.{ℕ, suc, _+_, _-_, _*_, _/_, _%_, _≤_, _<_}
-use mathlib.Core.Path.{_≡_, ap, _∙_}
+use Prim.Native.Nat.{ℕ, suc, _+_, _-_, _*_, _%_, _≤_, _<_}
+use mathlib.Core.Path.{_≡_, _∙_}
 use mathlib.Core.List.{List}
-use native.Mathlib.Nat.{mul-add-div-right, mul-add-mod-self-right, div-eq-of-lt, mod-eq-of-lt, mul-le-mul-right, mul-comm, mul-suc}
+use native.Mathlib.Nat.{mul-add-mod-self-right, mod-eq-of-lt, mul-le-mul-right, mul-comm, mul-suc}
 use native.Mathlib.Omega.{arith}
 use borrow.Author.Tests.{lt-ltb, le-ltb, eq-eqb, ne-eqb}
 use Rattle.taskset.specs.Words.{rateCount, taskCount, taskCountPlace, tasksPlace, taskSize, periodPlace, wordCount, headKind, taskKind, kindAt}
-use Rattle.taskset.specs.declared.Kind.{Kind}
 use Rattle.taskset.specs.declared.Kind.the-variants.{RateCount, Rate, TaskCount, LeftOver}
 
 -- Word k of task t stands before the end of n tasks.

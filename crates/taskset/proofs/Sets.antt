@@ -1,25 +1,23 @@
 -- What a list that passes checks 2, 3 and 4 is: a set, with every fact that its users want; and 'fits' means 'keeps every deadline
 -- for ever'.
 -- Assumes nothing.
-use Prim.Native.Nat.{ℕ, zero, suc, _+_, _-_, _*_, _/_, _%_, _≤_, _<_, _∣_}
-use mathlib.Core.Path.{_≡_, refl, sym, ap, _∙_}
-use mathlib.Core.Bool.{true}
+use Prim.Native.Nat.{ℕ, zero, suc, _+_, _-_, _≤_, _<_, _∣_}
+use mathlib.Core.Path.{_≡_, sym, _∙_}
 use mathlib.Core.List.{List}
 use mathlib.Core.Logic.{_↔_, ⊎-elim}
-use native.Mathlib.Nat.{mul-le-mul-left, mod-eq-zero-of-dvd, eq-or-lt-of-le, le-of-suc-le-suc, le-trans}
+use native.Mathlib.Nat.{mul-le-mul-left, mod-eq-zero-of-dvd}
 use native.Mathlib.Omega.{arith}
-use lib.ListN.{length, getD}
-use Rattle.numbers.specs.Numbers.{sum, All, total, over, running}
-use Rattle.numbers.proofs.Tests.{lt-or-le, between-true}
+use lib.ListN.{getD}
+use Rattle.numbers.proofs.Tests.{lt-or-le}
 use Rattle.numbers.proofs.Rounding.{ceil-falls, ceil-positive}
-use Rattle.numbers.proofs.Sums.{total-over}
+use Rattle.numbers.proofs.Sums.{sum, All, total-over}
 use Rattle.numbers.proofs.Multiples.{running-positive, running-divides, running-least}
 use Rattle.schedule.specs.Walk.{KeepsForEver}
 use Rattle.schedule.proofs.Demand.{load}
 use Rattle.schedule.proofs.Periodic.{Regular, keeps-iff-fits, tasks-regular, tasks-load}
-use Rattle.selection.specs.Plan.{Problem, planLoad, IsPlan, Fitting}
+use Rattle.selection.specs.Plan.{planLoad}
 use Rattle.selection.proofs.Fastest.{Falling}
-use Rattle.taskset.specs.Words.{word, slack, rateCount, taskCount, ratePlace, rate, period, headKind, allows}
+use Rattle.taskset.specs.Words.{rateCount, taskCount, ratePlace, rate, period}
 use Rattle.taskset.specs.Quantities.{hyperLimit, jobTime, hyperPeriod, taskLoad, problemOf, tasksOf}
 use Rattle.taskset.specs.Refusals.{RateFault, PassesLimit, Accepts, setChecks}
 use Rattle.taskset.proofs.Checks.{no-word-fault, no-rate-fault, none-passes}

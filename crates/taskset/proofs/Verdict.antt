@@ -1,24 +1,27 @@
--- Checks 2, 3 and 4 as a function that computes, and that its verdict is the one the definitions give.
+-- Checks 2 and 3, and 4 after them, as functions that compute, and that their verdicts are those that the definitions give.
 -- Assumes nothing.
 use Prim.Native.Nat.{ℕ, suc, _-_, _≤_, _<_}
-use mathlib.Core.Path.{_≡_, refl, sym, ap, _∙_, subst}
-use mathlib.Core.Bool.{Bool, true, false, cond, not, true≢false}
+use mathlib.Core.Path.{_≡_, refl, sym, _∙_, subst}
+use mathlib.Core.Bool.{Bool, cond, not, true≢false}
 use mathlib.Core.List.{List, [], _∷_}
 use mathlib.Core.Logic.{inl, inr, ⊎-elim}
 use native.Mathlib.Omega.{arith}
-use borrow.Author.Tests.{lt-ltb, le-ltb, leb-true, le-leb, ltb-true, lt-leb, not-true, not-false}
+use borrow.Author.Tests.{lt-ltb, le-ltb, leb-true, le-leb, ltb-true, not-true, not-false}
 use lib.Dec.{ltb, leb}
 use lib.ListN.{length}
-use Rattle.numbers.specs.Numbers.{running, Lowest}
+use Rattle.numbers.specs.Numbers.{running}
 use Rattle.numbers.proofs.Tests.{lt-or-le, cond-true, cond-false}
-use Rattle.numbers.proofs.Search.{first, first-from, first-to, first-holds, first-before}
+use Rattle.numbers.proofs.Search.{first, first-from, first-holds, first-before}
 use Rattle.taskset.specs.Words.{word, rateCount, taskCount, ratePlace, taskCountPlace, periodPlace, wordCount, period, kindAt, allows}
 use Rattle.taskset.specs.Quantities.{hyperLimit, hyperPeriod}
-use Rattle.taskset.specs.Refusals.{WordFault, IsBadWord, RateFault, IsNotAbove, PassesLimit, IsTooLong, Accepts, setChecks}
-use Rattle.taskset.specs.Calls.{SetAnswers}
+use Rattle.taskset.specs.Refusals.{WordFault, IsBadWord, RateFault, IsNotAbove, PassesLimit, IsTooLong, number, second, check, wordChecks}
+use Rattle.taskset.specs.Calls.{ShapeAnswers, SetAnswers}
 use Rattle.taskset.specs.declared.Refusal.the-variants.{BadWord, NotAbove, TooLong}
+use Rattle.taskset.specs.declared.Shape.{Shape}
+use Rattle.taskset.specs.declared.Shape.the-variants.{Whole, Refused as NotWhole}
 use Rattle.taskset.specs.declared.Checked.{Checked}
-use Rattle.taskset.specs.declared.Checked.the-variants.{Good, Refused}
+use Rattle.taskset.specs.declared.Checked.the-variants.{Good, Refused as NotGood}
+use Rattle.taskset.proofs.Checks.{refuses-front}
 
 module _ (head extra : ℕ) (s : List ℕ) where
   unfoldable pub isBad : ℕ → Bool
@@ -41,13 +44,21 @@ module _ (head extra : ℕ) (s : List ℕ) where
   abbrev pub firstOver : ℕ
   firstOver = first isOver 0 (taskCount head s)
 
+  unfoldable pub shapeOf : Shape
+  shapeOf =
+      cond (ltb firstBad (length s)) (NotWhole (BadWord firstBad))
+      (cond (ltb (length s) (wordCount head extra s)) (NotWhole (BadWord (length s)))
+      (cond (ltb firstFall (taskCountPlace head (rateCount head s))) (NotWhole (NotAbove firstFall))
+      (Whole (rateCount head s) (taskCount head s))))
+
+  unfoldable pub afterShape : Shape → Checked
+  afterShape (Whole m n) =
+      cond (ltb firstOver (taskCount head s)) (NotGood (TooLong (periodPlace head extra (rateCount head s) firstOver)))
+      (Good m n (hyperPeriod head extra s))
+  afterShape (NotWhole r) = NotGood r
+
   unfoldable pub checkedOf : Checked
-  checkedOf =
-      cond (ltb firstBad (length s)) (Refused (BadWord firstBad))
-      (cond (ltb (length s) (wordCount head extra s)) (Refused (BadWord (length s)))
-      (cond (ltb firstFall (taskCountPlace head (rateCount head s))) (Refused (NotAbove firstFall))
-      (cond (ltb firstOver (taskCount head s)) (Refused (TooLong (periodPlace head extra (rateCount head s) firstOver)))
-      (Good (rateCount head s) (taskCount head s) (hyperPeriod head extra s)))))
+  checkedOf = afterShape shapeOf
 
   -- ---- check 2
   -- No word before a place that the search has passed is bad.
@@ -103,36 +114,45 @@ module _ (head extra : ℕ) (s : List ℕ) where
   limit-pass : taskCount head s ≤ firstOver → (t : ℕ) → PassesLimit head extra s t → ⊥
   limit-pass h t f = limit-before t (omega (arith, f .0)) f
 
-  -- ---- the verdict
-  pub checked-answers : SetAnswers head extra s checkedOf
-  unfolding checkedOf
-  checked-answers =
+  -- ---- the verdicts
+  pub shape-answers : ShapeAnswers head extra s shapeOf
+  unfolding shapeOf
+  shape-answers =
       ⊎-elim
       (λ (a : firstBad < length s). answer (cond-true _ _ _ (lt-ltb _ _ a)) (inl (refl, bad-word a)))
       (λ (a : length s ≤ firstBad).
       ⊎-elim
       (λ (b : length s < wordCount head extra s).
       answer (cond-false _ _ _ (le-ltb _ _ a) ∙ cond-true _ _ _ (lt-ltb _ _ b)) (inl (refl, missing-word a b)))
-      (λ (b : wordCount head extra s ≤ length s). words a b (λ q h. words-pass a b q (h .here)))
+      (λ (b : wordCount head extra s ≤ length s).
+      let so-far = cond-false _ _ _ (le-ltb _ _ a) ∙ cond-false _ _ _ (le-ltb _ _ b) in
+      let pass : (q : ℕ) → IsBadWord head extra s q → ⊥ = λ q h. words-pass a b q (h .here) in
+      ⊎-elim
+      (λ (c : firstFall < taskCountPlace head (rateCount head s)).
+      answer (so-far ∙ cond-true _ _ _ (lt-ltb _ _ c)) (inr (pass, inl (refl, not-above c))))
+      (λ (c : taskCountPlace head (rateCount head s) ≤ firstFall).
+      answer (so-far ∙ cond-false _ _ _ (le-ltb _ _ c)) ((pass, ((λ q h. rates-pass c q (h .here)), tt)), refl, refl))
+      (lt-or-le firstFall (taskCountPlace head (rateCount head s))))
       (lt-or-le (length s) (wordCount head extra s)))
       (lt-or-le firstBad (length s))
     where
-      answer : {x : Checked} → checkedOf ≡ x → SetAnswers head extra s x → SetAnswers head extra s checkedOf
-      answer {x} e h = subst (SetAnswers head extra s) (sym e) h
+      answer : {x : Shape} → shapeOf ≡ x → ShapeAnswers head extra s x → ShapeAnswers head extra s shapeOf
+      answer {x} e h = subst (ShapeAnswers head extra s) (sym e) h
 
-      words : length s ≤ firstBad → wordCount head extra s ≤ length s → ((q : ℕ) → IsBadWord head extra s q → ⊥) → SetAnswers head extra s checkedOf
-      words a b pass =
-          let so-far = cond-false _ _ _ (le-ltb _ _ a) ∙ cond-false _ _ _ (le-ltb _ _ b) in
-          ⊎-elim
-          (λ (c : firstFall < taskCountPlace head (rateCount head s)).
-          answer (so-far ∙ cond-true _ _ _ (lt-ltb _ _ c)) (inr (pass, inl (refl, not-above c))))
-          (λ (c : taskCountPlace head (rateCount head s) ≤ firstFall).
-          ⊎-elim
-          (λ (d : firstOver < taskCount head s).
-          answer (so-far ∙ cond-false _ _ _ (le-ltb _ _ c) ∙ cond-true _ _ _ (lt-ltb _ _ d))
-          (inr (pass, inr ((λ q h. rates-pass c q (h .here)), inl (refl, too-long d)))))
-          (λ (d : taskCount head s ≤ firstOver).
-          answer (so-far ∙ cond-false _ _ _ (le-ltb _ _ c) ∙ cond-false _ _ _ (le-ltb _ _ d))
-          ((pass, ((λ q h. rates-pass c q (h .here)), ((λ q h. limit-pass d (h .0) (h .1 .here)), tt))), refl, refl, refl))
-          (lt-or-le firstOver (taskCount head s)))
-          (lt-or-le firstFall (taskCountPlace head (rateCount head s)))
+  after-shape : (x : Shape) → ShapeAnswers head extra s x → SetAnswers head extra s (afterShape x)
+  unfolding afterShape
+  after-shape (Whole m n) h =
+      ⊎-elim
+      (λ (d : firstOver < taskCount head s).
+      answer (cond-true _ _ _ (lt-ltb _ _ d)) (inr (h .0 .0, inr (h .0 .1 .0, inl (refl, too-long d)))))
+      (λ (d : taskCount head s ≤ firstOver).
+      answer (cond-false _ _ _ (le-ltb _ _ d)) ((h .0 .0, (h .0 .1 .0, ((λ q w. limit-pass d (w .0) (w .1 .here)), tt))), h .1, h .2, refl))
+      (lt-or-le firstOver (taskCount head s))
+    where
+      answer : {x : Checked} → afterShape (Whole m n) ≡ x → SetAnswers head extra s x → SetAnswers head extra s (afterShape (Whole m n))
+      answer {x} e w = subst (SetAnswers head extra s) (sym e) w
+  after-shape (NotWhole r) h = refuses-front (wordChecks head extra s) (check 4 (IsTooLong head extra s) ∷ []) (number r) (second r) h
+
+  pub checked-answers : SetAnswers head extra s checkedOf
+  unfolding checkedOf
+  checked-answers = after-shape shapeOf shape-answers

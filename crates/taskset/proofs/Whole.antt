@@ -1,18 +1,18 @@
 -- What a list that passes check 2 is: it has just the words that it must have, each in its range.
 -- Assumes nothing.
-use Prim.Native.Nat.{ℕ, suc, _+_, _*_, _≤_, _<_}
-use mathlib.Core.Path.{_≡_, refl, sym, ap, _∙_, subst}
-use mathlib.Core.Bool.{Bool, true, false, true≢false}
+use Prim.Native.Nat.{ℕ, _+_, _≤_, _<_}
+use mathlib.Core.Path.{_≡_, refl, sym, subst}
+use mathlib.Core.Bool.{true, false, true≢false}
 use mathlib.Core.List.{List}
 use mathlib.Core.Logic.{inl, inr, ⊎-elim}
 use native.Mathlib.Omega.{arith}
 use borrow.Author.Tests.{ne-eqb}
 use lib.ListN.{length}
 use Rattle.numbers.proofs.Tests.{bool-cases, lt-or-le, between-true}
-use Rattle.taskset.specs.Words.{word, rateCount, taskCount, ratePlace, taskCountPlace, tasksPlace, periodPlace, cyclesPlace, energyPlace, taskSize, wordCount, rate, period, cycles, energy, headKind, taskKind, kindAt, allows}
+use Rattle.taskset.specs.Words.{word, rateCount, taskCount, ratePlace, taskCountPlace, periodPlace, taskSize, wordCount, rate, period, cycles, energy, headKind, taskKind, kindAt, allows}
 use Rattle.taskset.specs.Refusals.{WordFault}
 use Rattle.taskset.specs.declared.Kind.{Kind}
-use Rattle.taskset.specs.declared.Kind.the-variants.{Slack, RateCount, Rate, TaskCount, Period, Cycles, Energy, LeftOver}
+use Rattle.taskset.specs.declared.Kind.the-variants.{RateCount, Rate, TaskCount, Period, Cycles, Energy, LeftOver}
 use Rattle.taskset.proofs.Places.{before-end, kind-head, kind-rates, kind-rate, kind-tasks, kind-past, kind-task}
 
 pub record IsWhole (head extra : ℕ) (s : List ℕ) : Type 0 where

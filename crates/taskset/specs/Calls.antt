@@ -4,18 +4,34 @@ use mathlib.Core.Path.{_≡_}
 use mathlib.Core.List.{List, [], _∷_, _++_}
 use lib.ListN.{length, take, drop, replicate}
 use Rattle.schedule.specs.Counted.{Outcome, missed, kept, walk}
-use Rattle.selection.specs.Plan.{planLoad, planEnergy, IsPlanned}
+use Rattle.selection.specs.Plan.{planLoad, IsPlanned}
 use Rattle.taskset.specs.Words.{listHead, listExtra, slack, rateCount, taskCount}
-use Rattle.taskset.specs.Quantities.{hyperPeriod, problem, tasks, workNeeded}
-use Rattle.taskset.specs.Refusals.{number, second, Check, Accepts, Refuses, setChecks, plannerChecks, walkChecks}
+use Rattle.taskset.specs.Quantities.{hyperPeriod, problem, tasks, reportedEnergy, workNeeded}
+use Rattle.taskset.specs.Refusals.{number, second, Check, Accepts, Refuses, wordChecks, setChecks, plannerChecks, walkChecks, readerChecks, writerChecks}
+use Rattle.taskset.specs.declared.Refusal.{Refusal}
+use Rattle.taskset.specs.declared.Shape.{Shape}
+use Rattle.taskset.specs.declared.Shape.the-variants.{Whole, Refused as NotWhole}
 use Rattle.taskset.specs.declared.Checked.{Checked}
-use Rattle.taskset.specs.declared.Checked.the-variants.{Good, Refused as Unfit}
+use Rattle.taskset.specs.declared.Checked.the-variants.{Good, Refused as NotGood}
 use Rattle.taskset.specs.declared.PlannerAnswer.{PlannerAnswer}
 use Rattle.taskset.specs.declared.PlannerAnswer.the-variants.{Planned, Refused as NotPlanned}
 use Rattle.taskset.specs.declared.WalkAnswer.{WalkAnswer}
 use Rattle.taskset.specs.declared.WalkAnswer.the-variants.{Kept, Missed, Refused as NotWalked}
 use Rattle.taskset.specs.declared.CopyAnswer.{CopyAnswer}
 use Rattle.taskset.specs.declared.CopyAnswer.the-variants.{Wrote, Refused as NotCopied}
+
+-- NUMBERS AND VALUES. "A C call returns 0, or refusal number × 2^32 + the second number."
+abbrev pub code : Refusal → ℕ
+code r = number r * 2 ^ 32 + second r
+
+abbrev pub plannerReturns : PlannerAnswer → ℕ
+plannerReturns (Planned unit load hyper energy) = 0
+plannerReturns (NotPlanned r) = code r
+
+abbrev pub walkReturns : WalkAnswer → ℕ
+walkReturns (Kept busy idle preempted) = 0
+walkReturns (Missed tick task) = 0
+walkReturns (NotWalked r) = code r
 
 -- "unit, load, L, energy; for the walk 1, busy, idle, preemptions, or 0, tick, task, 0."
 abbrev pub plannerValues : PlannerAnswer → List ℕ
@@ -27,41 +43,58 @@ walkValues (Kept busy idle preempted) = 1 ∷ busy ∷ idle ∷ preempted ∷ []
 walkValues (Missed tick task) = 0 ∷ tick ∷ task ∷ 0 ∷ []
 walkValues (NotWalked r) = []
 
--- THE SET CHECKS: rate count, task count and hyper-period of a list that passes 2, 3 and 4.
+-- THE CHECKS OF A LIST. After 2 and 3 its rate count and task count, after 4 its hyper-period too.
+abbrev pub ShapeAnswers : ℕ → ℕ → List ℕ → Shape → Type 0
+ShapeAnswers head extra s (Whole rates tasks) = Accepts (wordChecks head extra s) × (rates ≡ rateCount head s) × (tasks ≡ taskCount head s)
+ShapeAnswers head extra s (NotWhole r) = Refuses (wordChecks head extra s) (number r) (second r)
+
 abbrev pub SetAnswers : ℕ → ℕ → List ℕ → Checked → Type 0
 SetAnswers head extra s (Good rates tasks hyper) =
     Accepts (setChecks head extra s) × (rates ≡ rateCount head s) × (tasks ≡ taskCount head s) × (hyper ≡ hyperPeriod head extra s)
-SetAnswers head extra s (Unfit r) = Refuses (setChecks head extra s) (number r) (second r)
+SetAnswers head extra s (NotGood r) = Refuses (setChecks head extra s) (number r) (second r)
 
--- THE PLANNER. "The call returns unit, load, L and energy": P is the plan that document 01 selects, the rest are its figures.
-pub record Selected (s P : List ℕ) (unit load hyper energy : ℕ) : Type 0 where
+-- THE PLANNER. "The call returns unit, load, L and energy": P is the plan that document 01 selects, the values are its own.
+pub record Selected (s P values : List ℕ) : Type 0 where
   pub exponent : ℕ
-  pub unit-is : unit ≡ 2 ^ exponent
   pub planned : IsPlanned (problem s) (slack s) exponent P
-  pub load-is : load ≡ planLoad (problem s) P
-  pub hyper-is : hyper ≡ hyperPeriod listHead listExtra s
-  pub energy-is : energy ≡ planEnergy (problem s) P
+  pub values-are : values ≡ 2 ^ exponent ∷ planLoad (problem s) P ∷ hyperPeriod listHead listExtra s ∷ reportedEnergy s P ∷ []
 
--- "On success the first N words of the plan list hold the plan, the first W working words hold 0, and every other word stays." On
--- refusal 'all' is as before. plan and work are the lists as lent, plan′ and work′ as given back.
+-- "On success the first N words of the plan list hold the plan, the first W working words hold 0, and every other word stays." plan and
+-- work are the lists as lent, plan′ and work′ as given back: P stands in the first n words, w words hold 0.
+pub record Filled (n w : ℕ) (P plan work plan′ work′ : List ℕ) : Type 0 where
+  pub front : take n plan′ ≡ P
+  pub rest : drop n plan′ ≡ drop n plan
+  pub cleared : work′ ≡ replicate w 0 ++ drop w work
+
+-- On refusal 'all' is "As before the call".
 abbrev pub PlannerGives : (s plan work plan′ work′ : List ℕ) → PlannerAnswer → Type 0
 PlannerGives s plan work plan′ work′ (Planned unit load hyper energy) =
     Accepts (plannerChecks s (length plan) (length work)) ×
-    Selected s (take (taskCount listHead s) plan′) unit load hyper energy ×
-    (drop (taskCount listHead s) plan′ ≡ drop (taskCount listHead s) plan) ×
-    (work′ ≡ replicate (workNeeded s) 0 ++ drop (workNeeded s) work)
+    ((P : List ℕ) × Selected s P (plannerValues (Planned unit load hyper energy)) × Filled (taskCount listHead s) (workNeeded s) P plan work plan′ work′)
 PlannerGives s plan work plan′ work′ (NotPlanned r) =
-    Refuses (plannerChecks s (length plan) (length work)) (number r) (second r) ×
-    (plan′ ≡ plan) ×
-    (work′ ≡ work)
+    Refuses (plannerChecks s (length plan) (length work)) (number r) (second r) × (plan′ ≡ plan) × (work′ ≡ work)
 
 -- THE WALK. "The walk takes a set and a plan and goes tick by tick from 0 to L."
+abbrev pub outcomeValues : Outcome → List ℕ
+outcomeValues (kept busy idle preempted) = 1 ∷ busy ∷ idle ∷ preempted ∷ []
+outcomeValues (missed tick task) = 0 ∷ tick ∷ task ∷ 0 ∷ []
+
+-- The outcome's values are the answer's.
+abbrev pub Walks : List ℕ → List ℕ → WalkAnswer → Type 0
+Walks s P a = Accepts (walkChecks s P) × (walkValues a ≡ outcomeValues (walk (tasks s P) (hyperPeriod listHead listExtra s)))
+
 abbrev pub WalkAnswers : List ℕ → List ℕ → WalkAnswer → Type 0
-WalkAnswers s P (Kept busy idle preempted) = Accepts (walkChecks s P) × (walk (tasks s P) (hyperPeriod listHead listExtra s) ≡ kept busy idle preempted)
-WalkAnswers s P (Missed tick task) = Accepts (walkChecks s P) × (walk (tasks s P) (hyperPeriod listHead listExtra s) ≡ missed tick task)
+WalkAnswers s P (Kept busy idle preempted) = Walks s P (Kept busy idle preempted)
+WalkAnswers s P (Missed tick task) = Walks s P (Missed tick task)
 WalkAnswers s P (NotWalked r) = Refuses (walkChecks s P) (number r) (second r)
 
--- READER AND WRITER. "both return how many words or bytes they wrote".
+-- READER AND WRITER. "both return how many words or bytes they wrote". What they write is for the text's own definitions.
 abbrev pub CopyAnswers : List Check → ℕ → CopyAnswer → Type 0
 CopyAnswers checks needed (Wrote n) = Accepts checks × (n ≡ needed)
 CopyAnswers checks needed (NotCopied r) = Refuses checks (number r) (second r)
+
+abbrev pub ReaderAnswers : (ℕ → Type 0) → ℕ → ℕ → CopyAnswer → Type 0
+ReaderAnswers departs needed lent = CopyAnswers (readerChecks departs needed lent) needed
+
+abbrev pub WriterAnswers : List ℕ → ℕ → ℕ → CopyAnswer → Type 0
+WriterAnswers s needed lent = CopyAnswers (writerChecks s needed lent) needed

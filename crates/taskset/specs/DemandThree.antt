@@ -1,24 +1,35 @@
--- Demand 3, at the level of word lists. It is judged by the endless walk: `KeepsForEver` of the set's tasks under a plan.
+-- Demand 3 of the order, at the level of word lists. It is judged by the endless walk: `KeepsForEver` of the set's tasks under a plan.
 use Prim.Native.Nat.{ℕ, _+_, _*_, _≤_}
 use mathlib.Core.Path.{_≡_}
 use mathlib.Core.List.{List}
+use mathlib.Core.Logic.{_↔_}
+use lib.ListN.{length, take}
 use Rattle.schedule.specs.Walk.{KeepsForEver}
-use Rattle.selection.specs.Plan.{IsPlan, planEnergy}
-use Rattle.taskset.specs.Words.{slack}
-use Rattle.taskset.specs.Quantities.{problem, tasks}
+use Rattle.selection.specs.Plan.{IsPlan}
+use Rattle.taskset.specs.Words.{listHead, slack, taskCount}
+use Rattle.taskset.specs.Quantities.{problem, tasks, reportedEnergy}
+use Rattle.taskset.specs.Refusals.{number, Accepts, readyChecks}
+use Rattle.taskset.specs.declared.PlannerAnswer.{PlannerAnswer}
+use Rattle.taskset.specs.declared.PlannerAnswer.the-variants.{Planned, Refused as NotPlanned}
 
--- A plan Q, "each number 1 to M", one for each task, that keeps every deadline for ever.
+-- "It takes a set and a plan, each number 1 to M": a plan Q, one number for each task, that keeps every deadline for ever.
 pub record Keeps (s Q : List ℕ) : Type 0 where
   pub plan : IsPlan (problem s) Q
   pub for-ever : KeepsForEver (tasks s Q)
 
--- Of a plan given with an energy: it keeps every deadline for ever; the energy "is its own over the hyper-period"; and "(1000 +
--- slack) x the energy of every plan that keeps every deadline for ever is at least 1000 x the energy returned".
+-- Of a plan given with an energy: it keeps every deadline for ever; the energy is its own, "the sum defined above"; and (1000 + slack) ×
+-- the energy of every plan that keeps every deadline for ever is at least 1000 × the energy returned.
 pub record PlanPromise (s P : List ℕ) (energy : ℕ) : Type 0 where
   pub keeps : Keeps s P
-  pub own : energy ≡ planEnergy (problem s) P
-  pub within : (Q : List ℕ) → Keeps s Q → 1000 * energy ≤ (1000 + slack s) * planEnergy (problem s) Q
+  pub own : energy ≡ reportedEnergy s P
+  pub within : (Q : List ℕ) → Keeps s Q → 1000 * energy ≤ (1000 + slack s) * reportedEnergy s Q
 
--- "no plan keeps every deadline for ever"
+-- No plan keeps every deadline for ever.
 abbrev pub NoneKeeps : List ℕ → Type 0
 NoneKeeps s = (Q : List ℕ) → Keeps s Q → ⊥
+
+-- What the planner owes with its answer, where plan and work were lent and plan′ is the plan list given back: of a plan its promise; and
+-- "Demand 3 allows 7 only where no plan keeps every deadline for ever": a refusal is 7 exactly when checks 2 to 6 pass and none does.
+abbrev pub PlannerOwes : (s plan work plan′ : List ℕ) → PlannerAnswer → Type 0
+PlannerOwes s plan work plan′ (Planned unit load hyper energy) = PlanPromise s (take (taskCount listHead s) plan′) energy
+PlannerOwes s plan work plan′ (NotPlanned r) = (number r ≡ 7) ↔ (Accepts (readyChecks s (length plan) (length work)) × NoneKeeps s)

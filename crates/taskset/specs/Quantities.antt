@@ -5,7 +5,7 @@ use mathlib.Core.List.{List}
 use lib.ListN.{getD}
 use Rattle.numbers.specs.Numbers.{ceil, running}
 use Rattle.schedule.specs.Walk.{Task, periodic, tasksFrom}
-use Rattle.selection.specs.Plan.{Problem}
+use Rattle.selection.specs.Plan.{Problem, planEnergy}
 use Rattle.taskset.specs.Words.{listHead, listExtra, slack, rateCount, taskCount, rate, period, cycles, energy}
 
 -- "Hyper-period L: .. at most 10,000,000."
@@ -37,11 +37,11 @@ module _ (head extra : ℕ) (s : List ℕ) where
   tasksOf P = tasksFrom (λ t. periodic (period head extra s t) (jobTime t (getD P t 0))) 0 (taskCount head s)
 
 -- "Working words needed: W = (N + 1) × (F + 1), where F is 4,000 × N / G rounded down."
-abbrev pub tableWidth : ℕ → ℕ → ℕ
-tableWidth n g = 4000 * n / g
+abbrev pub lastColumn : ℕ → ℕ → ℕ
+lastColumn n g = 4000 * n / g
 
 abbrev pub workWords : ℕ → ℕ → ℕ
-workWords n g = (n + 1) * (tableWidth n g + 1)
+workWords n g = (n + 1) * (lastColumn n g + 1)
 
 -- The same of document 01's own list.
 abbrev pub problem : List ℕ → Problem
@@ -49,6 +49,10 @@ problem = problemOf listHead listExtra
 
 abbrev pub tasks : List ℕ → List ℕ → List Task
 tasks = tasksOf listHead listExtra
+
+-- The energy of a plan that a call returns and demand 3 compares: "Its load and energy are the sums."
+abbrev pub reportedEnergy : List ℕ → List ℕ → ℕ
+reportedEnergy s P = planEnergy (problem s) P
 
 abbrev pub workNeeded : List ℕ → ℕ
 workNeeded s = workWords (taskCount listHead s) (slack s)

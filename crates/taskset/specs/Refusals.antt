@@ -1,12 +1,12 @@
 -- Why a call declines (document 01, the table of that name): each cause with the second number, and the order of each call's checks.
-use Prim.Native.Nat.{ℕ, suc, _+_, _-_, _≤_, _<_}
+use Prim.Native.Nat.{ℕ, suc, _-_, _≤_, _<_}
 use mathlib.Core.Path.{_≡_}
 use mathlib.Core.Bool.{false}
 use mathlib.Core.List.{List, [], _∷_, _++_}
 use mathlib.Core.Logic.{_⊎_}
 use lib.ListN.{length, getD}
 use Rattle.numbers.specs.Numbers.{between, running, Lowest}
-use Rattle.selection.specs.Plan.{Problem, Fitting}
+use Rattle.selection.specs.Plan.{Fitting}
 use Rattle.taskset.specs.Words.{word, listHead, listExtra, rateCount, taskCount, wordCount, ratePlace, periodPlace, period, kindAt, allows}
 use Rattle.taskset.specs.Quantities.{hyperLimit, problem, workNeeded}
 use Rattle.taskset.specs.declared.Refusal.{Refusal}
@@ -63,9 +63,9 @@ module _ (head extra : ℕ) (s : List ℕ) where
 abbrev pub IsShort : ℕ → ℕ → ℕ → Type 0
 IsShort needed lent k = (lent < needed) × (k ≡ needed)
 
--- 7: "No plan fits"; "0".
-abbrev pub NoPlanFits : Problem → ℕ → Type 0
-NoPlanFits p k = (k ≡ 0) × ((P : List ℕ) → Fitting p P → ⊥)
+-- 7: "No plan fits"; "0". Which plans count is a parameter, Ok: for document 01 those that fit.
+abbrev pub NoneOk : (List ℕ → Type 0) → ℕ → Type 0
+NoneOk Ok k = (k ≡ 0) × ((P : List ℕ) → Ok P → ⊥)
 
 -- 8: "Walk's plan not N words, or a word not 1 to M"; "lowest of these that applies: place of a bad word; its length if short; N if
 -- long". m and n are the rate count and the task count.
@@ -87,10 +87,11 @@ pub record Check : Type 1 where
 abbrev pub check : ℕ → (ℕ → Type 0) → Check
 check n c = record { number = n; cause = c }
 
--- The cause holds with no second number.
+-- There is no second number with which the cause holds.
 abbrev pub Passes : Check → Type 0
 Passes c = (k : ℕ) → c .cause k → ⊥
 
+-- No check holds.
 abbrev pub Accepts : List Check → Type 0
 Accepts [] = Unit {0}
 Accepts (c ∷ cs) = Passes c × Accepts cs
@@ -114,7 +115,7 @@ readyChecks s planLength workLength =
     (check 5 (IsShort (workNeeded s) workLength) ∷ check 6 (IsShort (taskCount listHead s) planLength) ∷ [])
 
 abbrev pub plannerChecks : List ℕ → ℕ → ℕ → List Check
-plannerChecks s planLength workLength = readyChecks s planLength workLength ++ (check 7 (NoPlanFits (problem s)) ∷ [])
+plannerChecks s planLength workLength = readyChecks s planLength workLength ++ (check 7 (NoneOk (Fitting (problem s))) ∷ [])
 
 -- "Walk: 2, 3, 4, 8."
 abbrev pub walkChecks : List ℕ → List ℕ → List Check

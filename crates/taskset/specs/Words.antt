@@ -1,9 +1,10 @@
 -- A task set as a list of words (document 01, 'A task set'): what stands where, and what each word may be.
--- Every list has one shape: `head` words, the first of them the slack; the rate count; the rates; the task count; then for each
--- task its period, its cycles, `extra` words, and its energies. Places are functions of head, extra, the rate count m, the task's
--- place t (from 0) and the rate number r (from 1); nothing outside this file knows a place by its number.
+-- A list has `head` words, the first of them the slack; the rate count; the rates; the task count; then for each task its period, its
+-- cycles, `extra` words, and its energies. Places are functions of head, extra, the rate count m, the task's place t (from 0) and the
+-- rate number r (from 1); nothing outside this file knows a place by its number. Document 01's list has head 1 and extra 0, and only
+-- these have a meaning yet: no further word of a head, and no extra word, has a kind of its own.
 use Prim.Native.Nat.{ℕ, _+_, _-_, _*_, _%_}
-use mathlib.Core.Bool.{Bool, true, false, cond}
+use mathlib.Core.Bool.{Bool, false, cond}
 use mathlib.Core.List.{List}
 use lib.Dec.{ltb, eqb}
 use lib.ListN.{getD}
@@ -15,7 +16,7 @@ use Rattle.taskset.specs.declared.Kind.the-variants.{Slack, RateCount, R
 abbrev pub word : List ℕ → ℕ → ℕ
 word s q = getD s q 0
 
--- Document 01's own list: "the slack G" alone before the rate count, and energies straight after the cycles.
+-- Document 01's own list: "the slack G" alone before "the rate count M", and energies straight after the cycles.
 abbrev pub listHead : ℕ
 listHead = 1
 

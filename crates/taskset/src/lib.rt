@@ -13,16 +13,31 @@ pub enum Kind {
     LeftOver,
 }
 
-// Why a call declines: a case for each cause of document 01's table, with what is returned beside its number.
+// Why a call declines: a case for each row of document 01's table, numbers 1 to 8 in this order, with what is returned beside
+// the number.
 pub enum Refusal {
+    // The text departs from the form: offset.
     TextDeparts(usize),
+    // A set word out of its range, missing or left over: place.
     BadWord(usize),
+    // A rate not above the one before it: place.
     NotAbove(usize),
+    // The hyper-period over the limit: place of the period.
     TooLong(usize),
+    // Working list too short: words needed.
     WorkShort(usize),
+    // Receiving list or buffer too short: words or bytes needed.
     TooShort(usize),
+    // No plan fits.
     NoPlan,
+    // The walk's plan: the lowest of three numbers.
     BadPlan(usize),
+}
+
+// What checks 2 and 3 answer: rate count and task count of a list, or a refusal.
+pub enum Shape {
+    Whole { rates: usize, tasks: usize },
+    Refused(Refusal),
 }
 
 // What checks 2, 3 and 4 answer: rate count, task count and hyper-period of a set, or a refusal.

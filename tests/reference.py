@@ -1,0 +1,494 @@
+"""A reference for the planner, the walk, the reader, the writer and the program.
+
+It follows the words of the scope document and is meant to be read beside it.
+It is slow on purpose. A refusal is ('refused', number, second number).
+Tasks and rates are numbered from 1, places in lists and texts from 0.
+"""
+
+import re
+from collections import namedtuple
+from functools import lru_cache
+from itertools import product
+from math import gcd
+
+LONGEST = 10_000_000            # the hyper-period is at most this
+LARGEST = 4_294_967_295         # the largest number of a text
+WORKING_WORDS = 16_384          # of the program
+BYTES_READ = 8_192              # by the program
+MOST_WORDS = 3 + 8 + 32 * 10    # of a set with 8 rates and 32 tasks
+RESULT_BYTES = 32               # of a C call
+ENUMERATED = 20_000             # up to this many plans, all are looked at
+
+Task = namedtuple('Task', 'period cycles energies')
+TaskSet = namedtuple('TaskSet', 'slack rates tasks')
+
+
+def refused(number, second):
+    return ('refused', number, second)
+
+
+def is_refused(answer):
+    return answer is not None and answer[0] == 'refused'
+
+
+def round_up(a, b):
+    return -(-a // b)
+
+
+# ---------------------------------------------------------------- a task set
+
+def ranges(words):
+    """The range of each word of a set, in order.
+
+    M and N are read from the list only after their own range was asked for,
+    so whoever asks has judged them by then.
+    """
+    yield 1, 1_000                      # the slack G
+    yield 2, 8                          # the rate count M
+    M = words[1]
+    for _ in range(M):
+        yield 1, 1_000_000              # a rate
+    yield 1, 32                         # the task count N
+    N = words[2 + M]
+    for _ in range(N):
+        yield 1, 10_000_000             # the period
+        yield 1, 4_000_000_000          # the cycles
+        for _ in range(M):
+            yield 1, 1_000_000          # an energy
+
+
+def check_2(words):
+    """Set word out of its range, missing or left over."""
+    place = 0
+    for low, high in ranges(words):
+        if place == len(words):
+            return refused(2, len(words))       # missing
+        if not low <= words[place] <= high:
+            return refused(2, place)            # out of its range
+        place += 1
+    if place < len(words):
+        return refused(2, place)                # left over
+    return None
+
+
+def check_3(words):
+    """A rate not above the one before it."""
+    M = words[1]
+    for place in range(3, 2 + M):
+        if not words[place] > words[place - 1]:
+            return refused(3, place)
+    return None
+
+
+def check_4(words):
+    """Hyper-period over 10,000,000."""
+    M, N = words[1], words[2 + words[1]]
+    running = 1
+    for task in range(N):
+        place = 3 + M + task * (2 + M)
+        running = running * words[place] // gcd(running, words[place])
+        if running > LONGEST:
+            return refused(4, place)
+    return None
+
+
+def decode(words):
+    """The set that a list stands for; the list passes check 2."""
+    M, N = words[1], words[2 + words[1]]
+    tasks = []
+    for task in range(N):
+        place = 3 + M + task * (2 + M)
+        tasks.append(Task(words[place], words[place + 1],
+                          list(words[place + 2:place + 2 + M])))
+    return TaskSet(words[0], list(words[2:2 + M]), tasks)
+
+
+def hyper_period(tasks):
+    L = 1
+    for task in tasks:
+        L = L * task.period // gcd(L, task.period)
+    return L
+
+
+def check_set(words):
+    answer = check_2(words) or check_3(words) or check_4(words)
+    if answer:
+        return answer
+    s = decode(words)
+    return ('good', len(s.rates), len(s.tasks), hyper_period(s.tasks))
+
+
+# ------------------------------------------------------------ load and energy
+
+def job_time(task, rate):
+    """'c / f rounded up to whole ticks.'"""
+    return round_up(task.cycles, rate)
+
+
+def load_table(s, L):
+    """For each task its load at each rate number; nothing at number 0."""
+    return [[None] + [L // task.period * job_time(task, rate) for rate in s.rates]
+            for task in s.tasks]
+
+
+def energy_table(s, L):
+    """For each task its energy at each rate number; nothing at number 0."""
+    return [[None] + [L // task.period * energy for energy in task.energies]
+            for task in s.tasks]
+
+
+def rounded_table(energies, d):
+    """'The task energy divided by d, rounded up.'"""
+    return [[None] + [round_up(energy, d) for energy in row[1:]] for row in energies]
+
+
+def total(table, rates):
+    return sum(row[rate] for row, rate in zip(table, rates))
+
+
+def load_of(words, rates):
+    s = decode(words)
+    return total(load_table(s, hyper_period(s.tasks)), rates)
+
+
+def energy_of(words, rates):
+    s = decode(words)
+    return total(energy_table(s, hyper_period(s.tasks)), rates)
+
+
+# ----------------------------------------------------------------- which plan
+
+def fitting_plans(loads, L):
+    M, N = len(loads[0]) - 1, len(loads)
+    return [rates for rates in product(range(1, M + 1), repeat=N)
+            if total(loads, rates) <= L]
+
+
+def choose_from_all(fitting, loads, rounded):
+    """The rounded energy and the plan chosen from all plans that fit."""
+    if not fitting:
+        return None
+    # 'the least rounded energy of a plan that fits'
+    k = min(total(rounded, rates) for rates in fitting)
+    left = [rates for rates in fitting if total(rounded, rates) == k]
+    # 'take those with least load'
+    least = min(total(loads, rates) for rates in left)
+    left = [rates for rates in left if total(loads, rates) == least]
+    # 'the lowest rate number for task N, then for task N - 1, and so on'
+    for task in reversed(range(len(loads))):
+        lowest = min(rates[task] for rates in left)
+        left = [rates for rates in left if rates[task] == lowest]
+    return k, list(left[0])
+
+
+def choose_by_table(loads, rounded, L):
+    """The same choice, made task by task.
+
+    table[e] is the least (load, rate numbers from the last task back to the
+    first) of all choices for the tasks so far with rounded energy e. Such a
+    pair is compared by load, then by the later task's rate number first. With
+    e and the later tasks' rates held, a choice that is less here is less in
+    the end, so one entry for each e is enough.
+
+    Two kinds of entry are left out, and neither can become the answer: one
+    that does not fit even with the least loads for the tasks to come, and one
+    for which an entry with less rounded energy has no more load (put in its
+    place, that entry gives a fitting plan with less rounded energy).
+    """
+    table = {0: (0, ())}
+    to_come = sum(min(row[1:]) for row in loads)
+    for load_row, rounded_row in zip(loads, rounded):
+        to_come -= min(load_row[1:])
+        grown = {}
+        for e, (load, back) in table.items():
+            for rate in range(1, len(load_row)):
+                entry = (load + load_row[rate], (rate,) + back)
+                if entry[0] + to_come > L:
+                    continue
+                at = e + rounded_row[rate]
+                if at not in grown or entry < grown[at]:
+                    grown[at] = entry
+        table = {}
+        least = None
+        for e in sorted(grown):
+            if least is None or grown[e][0] < least:
+                table[e] = grown[e]
+                least = grown[e][0]
+    if not table:
+        return None
+    k = min(table)
+    return k, list(reversed(table[k][1]))
+
+
+def words_needed(s):
+    """W = (N + 1) x (F + 1), where F is 4,000 x N / G rounded down."""
+    N = len(s.tasks)
+    return (N + 1) * (4_000 * N // s.slack + 1)
+
+
+def plan(words, plan_len, work_len, way=None):
+    """way is 'all' (every plan), 'table' (task by task) or None (by size)."""
+    answer = check_set(words)
+    if is_refused(answer):
+        return answer
+    _, M, N, L = answer
+    s = decode(words)
+    if work_len < words_needed(s):
+        return refused(5, words_needed(s))
+    if plan_len < N:
+        return refused(6, N)
+
+    loads, energies = load_table(s, L), energy_table(s, L)
+    if way is None:
+        way = 'all' if M ** N <= ENUMERATED else 'table'
+    fitting = fitting_plans(loads, L) if way == 'all' else None
+
+    # 'the smallest power of two not below the energy of the plan with every
+    # task at rate M' (that energy is never 0 here)
+    unit = 1
+    while unit < total(energies, [M] * N):
+        unit *= 2
+    while True:
+        rounded = rounded_table(energies, unit)
+        if way == 'all':
+            chosen = choose_from_all(fitting, loads, rounded)
+        else:
+            chosen = choose_by_table(loads, rounded, L)
+        if chosen is None:
+            return refused(7, 0)
+        k, rates = chosen
+        # 'the first with G x k(d) at least 2,000 x N, or 1'
+        if s.slack * k >= 2_000 * N or unit == 1:
+            break
+        unit //= 2
+    return ('planned', unit, total(loads, rates), L, total(energies, rates), rates)
+
+
+# ------------------------------------------------------------------- the walk
+
+class Job:
+    """One job of a task; two jobs are the same only if they are one object."""
+
+    def __init__(self, left, deadline):
+        self.left = left
+        self.deadline = deadline
+
+
+def check_8(plan, M, N):
+    """'lowest of these that applies: place of a bad word; its length if
+    short; N if long'"""
+    applies = [place for place, word in enumerate(plan) if not 1 <= word <= M]
+    if len(plan) < N:
+        applies.append(len(plan))
+    if len(plan) > N:
+        applies.append(N)
+    return refused(8, min(applies)) if applies else None
+
+
+def check_walk(words, plan):
+    answer = check_set(words)
+    if is_refused(answer):
+        return answer
+    _, M, N, _ = answer
+    return check_8(plan, M, N)
+
+
+def walk(words, plan):
+    answer = check_walk(words, plan)
+    if answer:
+        return answer
+    s = decode(words)
+    N, L = len(s.tasks), hyper_period(s.tasks)
+    period = [task.period for task in s.tasks]
+    time = [job_time(task, s.rates[rate - 1]) for task, rate in zip(s.tasks, plan)]
+
+    jobs = [None] * N           # the latest job of each task
+    before = None               # the job of the tick before
+    busy = idle = preemptions = 0
+    for tick in range(L + 1):
+        due = [i for i in range(N) if tick % period[i] == 0]
+        for i in due:
+            if jobs[i] is not None and jobs[i].left > 0:
+                return ('missed', tick, i + 1)
+        if tick == L:
+            break               # 'At L the check is made and nothing is released.'
+        for i in due:
+            jobs[i] = Job(time[i], tick + period[i])
+        running = None
+        for job in jobs:        # in task order: a tie goes to the lower number
+            if job.left > 0 and (running is None or job.deadline < running.deadline):
+                running = job
+        if running is None:
+            idle += 1
+        else:
+            # 'a job runs while the job of the tick before is another and is
+            # unfinished'
+            if before is not None and before is not running and before.left > 0:
+                preemptions += 1
+            running.left -= 1
+            busy += 1
+        before = running
+    return ('kept', busy, idle, preemptions)
+
+
+def keeps_for_ever(words, plan, horizon):
+    """The endless walk, judged at the ticks from 0 to horizon."""
+    s = decode(words)
+    N = len(s.tasks)
+    time = [job_time(task, s.rates[rate - 1]) for task, rate in zip(s.tasks, plan)]
+    left = [0] * N
+    deadline = [0] * N
+    for tick in range(horizon + 1):
+        for i in range(N):
+            if tick % s.tasks[i].period == 0:
+                if left[i] != 0:
+                    return False
+                left[i] = time[i]
+                deadline[i] = tick + s.tasks[i].period
+        unfinished = [i for i in range(N) if left[i] > 0]
+        if unfinished:
+            left[min(unfinished, key=lambda i: (deadline[i], i))] -= 1
+    return True
+
+
+# -------------------------------------------------------------- calls from C
+
+def c_refusal(answer):
+    """'refusal number x 2^32 + the second number'"""
+    return (answer[1] * 2 ** 32 + answer[2], None)
+
+
+def c_walk(words, plan, results_len):
+    answer = check_walk(words, plan)
+    if answer:
+        return c_refusal(answer)
+    if results_len < RESULT_BYTES:
+        return c_refusal(refused(6, RESULT_BYTES))
+    answer = walk(words, plan)
+    if answer[0] == 'kept':
+        return (0, [1, answer[1], answer[2], answer[3]])
+    return (0, [0, answer[1], answer[2], 0])
+
+
+def c_plan(words, plan_len, work_len, results_len):
+    answer = plan(words, plan_len, work_len)
+    # 'Under 32 bytes there is refusal 6 with 32, checked after all others but 7.'
+    if is_refused(answer) and answer[1] != 7:
+        return c_refusal(answer)
+    if results_len < RESULT_BYTES:
+        return c_refusal(refused(6, RESULT_BYTES))
+    if is_refused(answer):
+        return c_refusal(answer)
+    _, unit, load, L, energy, _ = answer
+    return (0, [unit, load, L, energy])
+
+
+# --------------------------------------------------------- the bracketed text
+
+NUMBER = 'number'
+
+
+@lru_cache(maxsize=None)
+def shape(M, N):
+    """A well-formed text of M rates and N tasks: its bytes, and NUMBER where
+    a number stands. After a number there is always a byte."""
+    row = [b' ', NUMBER] * M
+    items = [b'(slack ', NUMBER, b')\n', b'(rates'] + row + [b')\n']
+    for _ in range(N):
+        items += [b'(task (period ', NUMBER, b') (cycles ', NUMBER, b') (energy']
+        items += row + [b'))\n']
+    flat = []
+    for item in items:
+        flat += [NUMBER] if item == NUMBER else list(item)
+    return flat
+
+
+# A state is (M, N, place, value). It says: the bytes so far begin some text of
+# M rates and N tasks; the next byte belongs to that place of its shape; value
+# is the number begun there, or None. From every state some well-formed text
+# can be reached, so a beginning without a state begins no well-formed text.
+
+def first_states():
+    return {(M, N, 0, None) for M in range(2, 9) for N in range(1, 33)}
+
+
+def next_states(state, byte):
+    M, N, place, value = state
+    items = shape(M, N)
+    if place == len(items):
+        return []               # the text of this shape has ended
+    if items[place] != NUMBER:
+        return [(M, N, place + 1, None)] if byte == items[place] else []
+    after = []
+    if b'0'[0] <= byte <= b'9'[0]:
+        digit = byte - b'0'[0]
+        if value is None:
+            after.append((M, N, place, digit))
+        elif value != 0 and value * 10 + digit <= LARGEST:
+            after.append((M, N, place, value * 10 + digit))
+    if value is not None and byte == items[place + 1]:
+        after.append((M, N, place + 2, None))
+    return after
+
+
+def is_end(state):
+    M, N, place, _ = state
+    return place == len(shape(M, N))
+
+
+def read_text(data, room):
+    states = first_states()
+    for offset, byte in enumerate(data):
+        states = {after for state in states for after in next_states(state, byte)}
+        if not states:
+            # 'the first byte such that no well-formed text begins with the
+            # bytes up to and including it'
+            return refused(1, offset)
+    if not any(is_end(state) for state in states):
+        return refused(1, len(data))    # 'the text's length if it ends early'
+
+    lines = [[int(n) for n in re.findall(rb'[0-9]+', line)]
+             for line in data.split(b'\n')[:-1]]
+    slack, rates, tasks = lines[0], lines[1], lines[2:]
+    words = slack + [len(rates)] + rates + [len(tasks)]
+    for numbers in tasks:
+        words += numbers
+    if room < len(words):
+        return refused(6, len(words))
+    return ('read', words)
+
+
+def write_text(words, room):
+    answer = check_2(words) or check_3(words)
+    if answer:
+        return answer
+    s = decode(words)
+    lines = ['(slack %d)' % s.slack,
+             '(rates %s)' % ' '.join(map(str, s.rates))]
+    for task in s.tasks:
+        lines.append('(task (period %d) (cycles %d) (energy %s))'
+                     % (task.period, task.cycles, ' '.join(map(str, task.energies))))
+    text = ''.join(line + '\n' for line in lines).encode('ascii')
+    if room < len(text):
+        return refused(6, len(text))
+    return ('written', text)
+
+
+# ---------------------------------------------------------------- the program
+
+def respond(data):
+    """All that the program prints for an input."""
+    answer = read_text(data[:BYTES_READ], MOST_WORDS)
+    if not is_refused(answer):
+        words = answer[1]
+        answer = plan(words, 32, WORKING_WORDS)
+    if is_refused(answer):
+        return b'(refused %d %d)\n' % (answer[1], answer[2])
+    _, unit, load, L, energy, rates = answer
+    lines = [b'(plan (unit %d) (load %d %d) (energy %d))' % (unit, load, L, energy)]
+    for task, rate in enumerate(rates, 1):
+        lines.append(b'(rate %d %d)' % (task, rate))
+    kept, busy, idle, preemptions = walk(words, rates)
+    assert kept == 'kept'       # a plan that fits keeps every deadline
+    lines.append(b'(walk (busy %d) (idle %d) (preempted %d))' % (busy, idle, preemptions))
+    return b''.join(line + b'\n' for line in lines)

@@ -1,0 +1,556 @@
+"""Tests of the reference: the cases of the scope document, and random sets.
+
+Running it prints one line and ends with 0, or names the failing case and
+ends with 1.
+"""
+
+import random
+import re
+import sys
+from itertools import product
+
+sys.dont_write_bytecode = True
+
+import reference as r
+
+passed = 0
+latest = 'none'
+EXAMPLE = (b'(slack 100)\n'
+           b'(rates 2 4 8)\n'
+           b'(task (period 10) (cycles 12) (energy 4 9 20))\n'
+           b'(task (period 15) (cycles 20) (energy 7 15 30))\n')
+PRINTED = (b'(plan (unit 1) (load 29 30) (energy 41))\n'
+           b'(rate 1 2)\n'
+           b'(rate 2 1)\n'
+           b'(walk (busy 29) (idle 1) (preempted 1))\n')
+S = [100, 3, 2, 4, 8, 2, 10, 12, 4, 9, 20, 15, 20, 7, 15, 30]
+S_1000 = [1000] + S[1:]
+PLENTY = 10 ** 9
+
+
+def same(name, got, want):
+    global passed, latest
+    assert got == want, '%s: got %r, wanted %r' % (name, got, want)
+    passed += 1
+    latest = name
+
+
+def refused(number, second):
+    return ('refused', number, second)
+
+
+def both_ways(name, words, want, plan_len=32, work_len=PLENTY):
+    for way in ('all', 'table', None):
+        same('%s (%s)' % (name, way), r.plan(words, plan_len, work_len, way), want)
+
+
+def one_task(slack, period, cycles, energies=(1, 1), rates=(1, 2)):
+    return [slack, len(rates), *rates, 1, period, cycles, *energies]
+
+
+# ------------------------------------------------- 'Either side of an edge'
+
+def edges():
+    both_ways('S', S, ('planned', 1, 29, 30, 41, [2, 1]))
+    both_ways('S with slack 1,000', S_1000, ('planned', 8, 28, 30, 42, [1, 2]))
+
+    same('S has W = 243', r.words_needed(r.decode(S)), 243)
+    both_ways('S with 243 words', S, ('planned', 1, 29, 30, 41, [2, 1]), 2, 243)
+    both_ways('S with 242 words', S, refused(5, 243), 2, 242)
+    same('S with slack 1,000 has W = 27', r.words_needed(r.decode(S_1000)), 27)
+    both_ways('S with slack 1,000 and 27 words', S_1000,
+              ('planned', 8, 28, 30, 42, [1, 2]), 2, 27)
+    both_ways('S with slack 1,000 and 26 words', S_1000, refused(5, 27), 2, 26)
+
+    same('S, walk of 1 1', r.walk(S, [1, 1]), ('missed', 15, 2))
+    same('S, walk of 2 1', r.walk(S, [2, 1]), ('kept', 29, 1, 1))
+    same('S, load of 1 3', r.load_of(S, [1, 3]), 24)
+    same('S, walk of 1 4', r.walk(S, [1, 4]), refused(8, 1))
+
+    both_ways('60 cycles in 30 ticks at rate 2', one_task(100, 30, 60),
+              ('planned', 1, 30, 30, 1, [2]))
+    both_ways('61 cycles in 30 ticks at rate 2', one_task(100, 30, 61), refused(7, 0))
+
+    same('slack 0', r.check_set([0] + S[1:]), refused(2, 0))
+    same('slack 0, planner', r.plan([0] + S[1:], 0, 0), refused(2, 0))
+    same('slack 0, walk', r.walk([0] + S[1:], []), refused(2, 0))
+    same('slack 0, writer', r.write_text([0] + S[1:], 0), refused(2, 0))
+    same('empty list', r.check_set([]), refused(2, 0))
+    same('rates 4 4', r.check_set(one_task(100, 30, 60, rates=(4, 4))), refused(3, 3))
+    same('empty text', r.read_text(b'', 0), refused(1, 0))
+
+    two = [100, 2, 1, 2, 2, 9_999_999, 1, 1, 1, 10_000_000, 1, 1, 1]
+    same('periods 9,999,999 and 10,000,000', r.check_set(two), refused(4, 9))
+    same('the writer makes no check 4', r.write_text(two, 1000)[0], 'written')
+    longest = one_task(100, 10_000_000, 1)
+    same('period 10,000,000', r.check_set(longest), ('good', 2, 1, 10_000_000))
+    both_ways('period 10,000,000, planned', longest,
+              ('planned', 1, 1, 10_000_000, 1, [1]))
+
+
+# -------------------------------------------------------- 'Plausible errors'
+
+def erring(words, rounding, order):
+    """A planner by the same rule but with another rounding and another order
+    of plans; order(k, load, rates) is the least for the plan taken."""
+    _, M, N, L = r.check_set(words)
+    s = r.decode(words)
+    loads, energies = r.load_table(s, L), r.energy_table(s, L)
+    unit = 1
+    while unit < r.total(energies, [M] * N):
+        unit *= 2
+    while True:
+        found = []
+        for rates in product(range(1, M + 1), repeat=N):
+            k = sum(rounding(row[rate], unit) for row, rate in zip(energies, rates))
+            if r.total(loads, rates) <= L:
+                found.append((order(k, r.total(loads, rates), rates), k, rates))
+        _, k, rates = min(found)
+        if words[0] * k >= 2000 * N or unit == 1:
+            return unit, list(rates)
+        unit //= 2
+
+
+def errors():
+    def up(e, d):
+        return -(-e // d)
+
+    def down(e, d):
+        return e // d
+
+    def nearest(e, d):
+        return (2 * e + d) // (2 * d)
+
+    def right(k, load, rates):
+        return (k, load, rates[::-1])
+
+    def rates_first(k, load, rates):
+        return (k, rates[::-1], load)
+
+    # A table of M entries read at M.
+    top = one_task(1, 30, 60, energies=(5, 7))
+    both_ways('a task at the highest rate', top, ('planned', 1, 30, 30, 7, [2]))
+    same('a walk at the highest rate', r.walk(top, [2]), ('kept', 30, 0, 0))
+    eight = one_task(1, 10, 80, energies=(1, 2, 3, 4, 5, 6, 7, 9),
+                     rates=(1, 2, 3, 4, 5, 6, 7, 8))
+    both_ways('a task at the eighth rate', eight, ('planned', 1, 10, 10, 9, [8]))
+    same('a walk at the eighth rate', r.walk(eight, [8]), ('kept', 10, 0, 0))
+    same('a walk past the eighth rate', r.walk(eight, [9]), refused(8, 0))
+
+    # Energies rounded down or to nearest.
+    same('rounded up', erring(S_1000, up, right), (8, [1, 2]))
+    same('rounded to nearest', erring(S_1000, nearest, right), (8, [2, 1]))
+    thirty_three = one_task(1000, 10, 10, energies=(33, 33))
+    same('33, rounded down', erring(thirty_three, down, right)[0], 16)
+    both_ways('33, rounded up', thirty_three, ('planned', 32, 5, 10, 33, [2]))
+    same('33 at every rate', [r.energy_of(thirty_three, [rate]) for rate in (1, 2)],
+         [33, 33])
+
+    # Utilisation added as rounded fractions.
+    thirds = [100, 2, 1, 2, 3] + [3, 2, 1, 1] * 3
+    both_ways('three thirds', thirds, ('planned', 1, 3, 3, 3, [2, 2, 2]))
+    same('three thirds, walk', r.walk(thirds, [2, 2, 2]), ('kept', 3, 0, 0))
+    mixed = [100, 2, 1, 2, 3, 2, 2, 1, 1, 3, 2, 1, 1, 6, 2, 1, 1]
+    both_ways('a half, a third and a sixth', mixed, ('planned', 1, 6, 6, 6, [2, 2, 2]))
+    same('a half, a third and a sixth, walk', r.walk(mixed, [2, 2, 2])[:3], ('kept', 6, 0))
+
+    # Ties settled by rate numbers before load.
+    same('rate numbers before load', erring(S_1000, up, rates_first), (8, [2, 1]))
+    same('load before rate numbers', r.plan(S_1000, 2, 27)[5], [1, 2])
+    # Two equal tasks, of which one must run fast: the lower number for task 2.
+    twins = [100, 2, 1, 2, 2] + [3, 2, 1, 3] * 2
+    both_ways('the lower rate number for task 2', twins, ('planned', 1, 3, 3, 4, [2, 1]))
+
+    # A miss noticed only when the late job ends.
+    same('a miss at once', r.walk(S, [1, 1]), ('missed', 15, 2))
+    late = one_task(100, 3, 100)
+    same('a miss at L', r.walk(late, [1]), ('missed', 3, 1))
+    several = [100, 2, 1, 2, 3] + [4, 4, 1, 1] + [2, 2, 1, 1] + [2, 2, 1, 1]
+    same('task 3 misses first', r.walk(several, [1, 1, 1]), ('missed', 2, 3))
+    several = [100, 2, 1, 2, 3] + [2, 4, 1, 1] + [2, 4, 1, 1] + [2, 4, 1, 1]
+    same('the lowest-numbered of several', r.walk(several, [1, 1, 1]), ('missed', 2, 1))
+
+
+# ------------------------------------------------------- 'The bracketed text'
+
+def the_text():
+    same('the example, read', r.read_text(EXAMPLE, 16), ('read', S))
+    same('the example, read into 15 words', r.read_text(EXAMPLE, 15), refused(6, 16))
+    same('the example, written', r.write_text(S, len(EXAMPLE)), ('written', EXAMPLE))
+    same('the example, written into less', r.write_text(S, len(EXAMPLE) - 1),
+         refused(6, len(EXAMPLE)))
+    same('the example, printed', r.respond(EXAMPLE), PRINTED)
+    most = [1000, 8] + [10 ** 6 - 7 + i for i in range(8)] + [32]
+    most += ([10 ** 7, 4 * 10 ** 9] + [10 ** 6] * 8) * 32
+    same('the most words', len(most), r.MOST_WORDS)
+    text = r.write_text(most, 5000)[1]
+    same('the most words, read back', r.read_text(text, r.MOST_WORDS), ('read', most))
+    largest = re.sub(rb'[0-9]+', b'4294967295', text)
+    same('every well-formed text is under 5,000', len(largest) < 5000, True)
+    same('the largest text, read', r.read_text(largest, r.MOST_WORDS)[0], 'read')
+
+
+def replaced(old, new, extra=0):
+    """The example with the first 'old' changed, and where 'new' begins."""
+    at = EXAMPLE.index(old)
+    return EXAMPLE[:at] + new + EXAMPLE[at + len(old):], at + extra
+
+
+def offsets():
+    task = b'(task (period 1) (cycles 1) (energy 1 1))\n'
+    head = b'(slack 1)\n(rates 1 2)\n'
+
+    def at(name, text, offset):
+        same(name, r.read_text(text, 1000), refused(1, offset))
+
+    def change(name, old, new, offset_in_new):
+        text, offset = replaced(old, new, offset_in_new)
+        at(name, text, offset)
+
+    for length in range(len(EXAMPLE)):
+        want = refused(1, length)
+        if EXAMPLE[:length].count(b'\n') == 3 and EXAMPLE[:length].endswith(b'\n'):
+            want = ('read', S[:5] + [1] + S[6:11])
+        same('cut after %d bytes' % length, r.read_text(EXAMPLE[:length], 1000), want)
+
+    rates_8 = b'(slack 1)\n(rates 1 2 3 4 5 6 7 8'
+    at('a ninth rate', rates_8 + b' 9)\n', len(rates_8))
+    at('a ninth rate, cut', rates_8 + b' ', len(rates_8))
+    at('a ninth rate, longer eighth', rates_8 + b'8 9', len(rates_8) + 1)
+    at('eight rates, cut', rates_8, len(rates_8))
+    change('a lone rate', b'2 4 8)', b'2)', 1)
+    change('no rate', b'rates 2 4 8)', b'rates)', 5)
+    change('no rate after a space', b'2 4 8)', b')', 0)
+    change('an energy too many', b'4 9 20', b'4 9 20 1', 6)
+    change('an energy too few', b'4 9 20)', b'4 9)', 3)
+    at('no task', head, len(head))
+    same('32 tasks', r.read_text(head + task * 32, 1000)[0], 'read')
+    at('a 33rd task', head + task * 33, len(head + task * 32))
+    at('a 33rd task, first byte', head + task * 32 + b'(', len(head + task * 32))
+    change('a leading 0', b'slack 100', b'slack 01', 7)
+    change('two 0s', b'slack 100', b'slack 00', 7)
+    change('4294967296', b'slack 100', b'slack 4294967296', 15)
+    change('42949672950', b'slack 100', b'slack 42949672950', 16)
+    change('5000000000', b'slack 100', b'slack 5000000000', 15)
+    change('a sign', b'slack 100', b'slack -1', 6)
+    change('a carriage return', b')\n', b')\r\n', 1)
+    change('a byte above 127', b'rates', b'\xc3\xa4', 0)
+    change('a byte 0', b'100', b'1\x000', 1)
+    change('two spaces', b'rates 2', b'rates  2', 6)
+    change('a tab', b'rates 2', b'rates\t2', 5)
+    change('a space at the end of a row', b'4 8)', b'4 8 )', 4)
+    change('a letter of the other case', b'task', b'Task', 0)
+    change('a missing bracket', b'20))\n(', b'20)\n(', 3)
+    change('an empty line', b')\n(rates', b')\n\n(rates', 2)
+    at('a space before all', b' ' + EXAMPLE, 0)
+    at('an empty line after all', EXAMPLE + b'\n', len(EXAMPLE))
+    at('no last line end', EXAMPLE[:-1], len(EXAMPLE) - 1)
+
+    text, _ = replaced(b'slack 100', b'slack 4294967295')
+    same('the largest number', r.read_text(text, 16), ('read', [4294967295] + S[1:]))
+    text, _ = replaced(b'slack 100', b'slack 0')
+    same('ranges are not judged', r.read_text(text, 16), ('read', [0] + S[1:]))
+    at('1 before 6', b'(slack', 6)
+    same('6 and not 1', r.read_text(EXAMPLE, 0), refused(6, 16))
+
+
+def answers():
+    text, at = replaced(b'slack 100', b'slack 01', 7)
+    same('program, refusal 1', r.respond(text), b'(refused 1 %d)\n' % at)
+    same('program, empty text', r.respond(b''), b'(refused 1 0)\n')
+    same('program, refusal 2', r.respond(replaced(b'100', b'0')[0]), b'(refused 2 0)\n')
+    same('program, refusal 3', r.respond(replaced(b'4 8', b'4 4')[0]), b'(refused 3 4)\n')
+    same('program, refusal 4',
+         r.respond(replaced(b'period 10', b'period 9999998')[0]), b'(refused 4 11)\n')
+    same('program, refusal 5', r.respond(replaced(b'100', b'1')[0]), b'(refused 5 24003)\n')
+    same('program, refusal 7',
+         r.respond(replaced(b'cycles 12', b'cycles 81')[0]), b'(refused 7 0)\n')
+    same('program, slack 1,000', r.respond(replaced(b'100', b'1000')[0]),
+         b'(plan (unit 8) (load 28 30) (energy 42))\n(rate 1 1)\n(rate 2 2)\n'
+         b'(walk (busy 28) (idle 2) (preempted %d))\n' % r.walk(S, [1, 2])[3])
+    same('program, more than 8,192 bytes', r.respond(EXAMPLE * 100),
+         b'(refused 1 %d)\n' % (len(EXAMPLE) + 1))
+
+    def code(number, second):
+        return (number * 2 ** 32 + second, None)
+
+    none = one_task(100, 30, 61)
+    same('C plan', r.c_plan(S, 2, 243, 32), (0, [1, 29, 30, 41]))
+    same('C plan, refusal 2', r.c_plan([], 0, 0, 0), code(2, 0))
+    same('C plan, refusal 3', r.c_plan(S[:4] + [4] + S[5:], 0, 0, 0), code(3, 4))
+    same('C plan, refusal 4', r.c_plan(S[:6] + [9999998] + S[7:], 0, 0, 0), code(4, 11))
+    same('C plan, refusal 5', r.c_plan(S, 0, 242, 0), code(5, 243))
+    same('C plan, refusal 6 for the plan', r.c_plan(S, 1, 243, 0), code(6, 2))
+    same('C plan, refusal 6 for the results', r.c_plan(S, 2, 243, 31), code(6, 32))
+    same('C plan, 6 before 7', r.c_plan(none, 1, PLENTY, 31), code(6, 32))
+    same('C plan, 6 for the plan before 7', r.c_plan(none, 0, PLENTY, 32), code(6, 1))
+    same('C plan, 5 before 7', r.c_plan(none, 1, 0, 32), code(5, 82))
+    same('C plan, refusal 7', r.c_plan(none, 1, PLENTY, 32), code(7, 0))
+    same('C walk, kept', r.c_walk(S, [2, 1], 32), (0, [1, 29, 1, 1]))
+    same('C walk, missed', r.c_walk(S, [1, 1], 32), (0, [0, 15, 2, 0]))
+    same('C walk, refusal 6', r.c_walk(S, [1, 1], 31), code(6, 32))
+    same('C walk, 8 before 6', r.c_walk(S, [1, 4], 31), code(8, 1))
+    same('C walk, refusal 2', r.c_walk([], [], 0), code(2, 0))
+
+    for plan, place in (([], 0), ([1], 1), ([1, 1, 1], 2), ([1, 1, 9], 2),
+                        ([0, 9], 0), ([9, 1, 1], 0), ([0], 0), ([1, 0, 0], 1)):
+        same('refusal 8 of %r' % plan, r.walk(S, plan), refused(8, place))
+
+    same('one word', r.check_set([100]), refused(2, 1))
+    same('M of 1', r.check_set([100, 1, 5]), refused(2, 1))
+    same('M of 9', r.check_set([100, 9]), refused(2, 1))
+    same('N of 0', r.check_set(S[:5] + [0]), refused(2, 5))
+    same('N of 33', r.check_set(S[:5] + [33] + S[6:]), refused(2, 5))
+    same('a word left over', r.check_set(S + [1]), refused(2, 16))
+    for length in range(len(S)):
+        same('%d words of S' % length, r.check_set(S[:length]), refused(2, length))
+    for place, top in ((0, 1000), (2, 10 ** 6), (6, 10 ** 7), (7, 4 * 10 ** 9), (8, 10 ** 6)):
+        for word in (0, top + 1, 2 ** 32 - 1):
+            words = S[:place] + [word] + S[place + 1:]
+            same('%d at place %d' % (word, place), r.check_set(words), refused(2, place))
+        words = S[:place] + [top] + S[place + 1:]
+        same('%d at place %d' % (top, place), r.check_2(words), None)
+    same('2 before 3', r.check_set([100, 2, 4, 4, 1, 30, 60, 1, 0]), refused(2, 8))
+    same('3 before 4', r.check_set([100, 2, 4, 4, 2, 9999999, 1, 1, 1, 10000000, 1, 1, 1]),
+         refused(3, 3))
+    same('the first falling rate', r.check_set(S[:2] + [8, 4, 2] + S[5:]), refused(3, 3))
+
+
+def preemptions():
+    # Task 1's job ends as task 2's turn comes: no preemption.
+    words = [100, 2, 1, 2, 2] + [4, 2, 1, 1] + [4, 2, 1, 1]
+    same('no preemption at an end', r.walk(words, [1, 1]), ('kept', 4, 0, 0))
+    # A job that follows its own task's finished job, with no idle tick.
+    same('no preemption by the next job', r.walk([100, 2, 1, 2, 2] + [2, 2, 1, 1]
+         + [4, 2, 1, 1], [2, 2]), ('kept', 3, 1, 0))
+    # A long job broken by three short ones, and a tie at 12 for the lower number.
+    words = [100, 2, 1, 2, 2] + [3, 1, 1, 1] + [12, 8, 1, 1]
+    same('three preemptions', r.walk(words, [1, 1]), ('kept', 12, 0, 3))
+    # The long job first: a tie at 12 leaves it running.
+    words = [100, 2, 1, 2, 2] + [12, 8, 1, 1] + [3, 1, 1, 1]
+    same('two preemptions', r.walk(words, [1, 1]), ('kept', 12, 0, 2))
+
+
+# --------------------------------------------------------------- random sets
+
+def random_set(g, most_tasks, most_rates):
+    M, N = g.randint(2, most_rates), g.randint(1, most_tasks)
+    rates = sorted(g.sample(range(1, 13), M))
+    most = g.choice([3, 10, 100, 1_000_000])
+    words = [g.choice([1, 7, 50, 100, 333, 500, 999, 1000]), M, *rates, N]
+    filling = g.choice([0.5, 1.0, 1.5, 3.0]) * rates[g.randrange(M)] / N
+    for _ in range(N):
+        period = g.choice([1, 2, 3, 4, 5, 6, 8, 10, 12, 15, 20, 24, 30])
+        cycles = max(1, round(period * filling * g.uniform(0.5, 1.5)))
+        words += [period, cycles] + [g.randint(1, most) for _ in range(M)]
+    return words
+
+
+def random_sets():
+    g = random.Random(1)
+    seen = set()
+    for number in range(500):
+        most_tasks, most_rates = g.choice([(3, 3), (5, 3), (2, 8), (8, 2)])
+        words = random_set(g, most_tasks, most_rates)
+        name = 'random set %d %r' % (number, words)
+        kind, M, N, L = r.check_set(words)
+        same(name + ', good', kind, 'good')
+
+        answer = r.plan(words, N, PLENTY, 'all')
+        same(name + ', both ways', r.plan(words, N, PLENTY, 'table'), answer)
+        seen.add(answer[0])
+        plans = list(product(range(1, M + 1), repeat=N))
+        s = r.decode(words)
+        loads, energies = r.load_table(s, L), r.energy_table(s, L)
+        fitting = [p for p in plans if r.total(loads, p) <= L]
+        same(name + ', 7 where no plan fits', answer == refused(7, 0), not fitting)
+        if fitting:
+            _, unit, load, _, energy, rates = answer
+            same(name + ', sums', (load, energy),
+                 (r.load_of(words, rates), r.energy_of(words, rates)))
+            least = min(r.total(energies, p) for p in fitting)
+            same(name + ', within the slack',
+                 1000 * energy <= (1000 + words[0]) * least, True)
+            same(name + ', planned and kept', r.walk(words, rates)[:3],
+                 ('kept', load, L - load))
+        for rates in g.sample(plans, min(3, len(plans))):
+            load = r.load_of(words, rates)
+            ended = r.walk(words, rates)
+            seen.add(ended[0])
+            same(name + ', kept %r' % (rates,), ended[0] == 'kept', load <= L)
+            same(name + ', for ever %r' % (rates,),
+                 r.keeps_for_ever(words, rates, 3 * L), load <= L)
+            if load <= L:
+                same(name + ', busy and idle', ended[1:3], (load, L - load))
+
+        kind, text = r.write_text(words, PLENTY)
+        same(name + ', written', kind, 'written')
+        same(name + ', read back', r.read_text(text, len(words)), ('read', words))
+        if number % 10 == 0:
+            same(name + ', no word to spare', r.read_text(text, len(words) - 1),
+                 refused(6, len(words)))
+        same(name + ', no byte to spare', r.write_text(words, len(text) - 1),
+             refused(6, len(text)))
+    same('every kind of answer was seen', seen, {'planned', 'refused', 'kept', 'missed'})
+
+
+def large_sets():
+    """Sets of more plans: the two ways on 13 tasks, the sums on 32."""
+    g = random.Random(2)
+    for number in range(6):
+        words = [g.choice([200, 500, 1000]), 2, 1, 2, 13]
+        for _ in range(13):
+            period = g.choice([4, 6, 8, 12])
+            words += [period, g.choice([1, 1, 2]), g.randint(1, 9), g.randint(1, 9)]
+        name = 'thirteen tasks %d' % number
+        same(name, r.plan(words, 13, PLENTY, 'table'), r.plan(words, 13, PLENTY, 'all'))
+    for number in range(6):
+        words = [g.choice([50, 200, 1000]), 8, *sorted(g.sample(range(1, 200), 8)), 32]
+        for _ in range(32):
+            words += [g.choice([100, 200, 250, 500]), g.randint(1, 900)]
+            words += [g.randint(1, 1_000_000) for _ in range(8)]
+        name = '32 tasks %d' % number
+        kind, unit, load, L, energy, rates = r.plan(words, 32, PLENTY)
+        same(name, (load, energy), (r.load_of(words, rates), r.energy_of(words, rates)))
+        same(name + ', kept', r.walk(words, rates)[:3], ('kept', load, L - load))
+
+
+# -------------------------------------------------------------- random texts
+
+class Stop(Exception):
+    pass
+
+
+def plain_reader(data):
+    """A reader of the usual kind: the offset it stops at, or None."""
+    at = 0
+
+    def here():
+        if at == len(data):
+            raise Stop(at)
+        return data[at:at + 1]
+
+    def fixed(text):
+        nonlocal at
+        for byte in text:
+            if here() != bytes([byte]):
+                raise Stop(at)
+            at += 1
+
+    def number():
+        nonlocal at
+        value = None
+        while True:
+            if not here().isdigit():
+                if value is None:
+                    raise Stop(at)
+                return
+            if value == 0 or (value or 0) * 10 + int(here()) > 4294967295:
+                raise Stop(at)
+            value = (value or 0) * 10 + int(here())
+            at += 1
+
+    def row(low, high):
+        count = 0
+        while count < low or (count < high and here() == b' '):
+            fixed(b' ')
+            number()
+            count += 1
+        return count
+
+    try:
+        fixed(b'(slack ')
+        number()
+        fixed(b')\n(rates')
+        M = row(2, 8)
+        fixed(b')\n')
+        for task in range(32):
+            if task > 0 and at == len(data):
+                return None
+            fixed(b'(task (period ')
+            number()
+            fixed(b') (cycles ')
+            number()
+            fixed(b') (energy')
+            row(M, M)
+            fixed(b'))\n')
+        return None if at == len(data) else at
+    except Stop as stop:
+        return stop.args[0]
+
+
+def completed(prefix):
+    """A text that begins with the prefix, made from one of its states."""
+    states = r.first_states()
+    for byte in prefix:
+        states = {after for state in states for after in r.next_states(state, byte)}
+    M, N, place, value = min(states, key=lambda state: state[:2])
+    items = r.shape(M, N)[place:]
+    if value is not None:
+        items = items[1:]       # a number has begun and may end here
+    return prefix + b''.join(b'7' if i == r.NUMBER else bytes([i]) for i in items)
+
+
+def random_texts():
+    g = random.Random(3)
+    seen = set()
+    for number in range(400):
+        M, N = g.choice([(0, 1), (1, 1), (2, 1), (2, 2), (3, 0), (3, 3), (8, 1), (9, 1)])
+
+        def some():
+            return g.choice([0, 1, 9, 10, 429496729, 4294967295, g.randrange(2 ** 32)])
+
+        def some_row(count):
+            return ''.join(' %d' % some() for _ in range(count))
+
+        text = '(slack %d)\n(rates%s)\n' % (some(), some_row(M))
+        for _ in range(N):
+            energies = M + g.choice([0, 0, 0, 0, 0, -1, 1])
+            text += '(task (period %d) (cycles %d) (energy%s))\n' % (
+                some(), some(), some_row(max(0, energies)))
+        text = bytearray(text.encode('ascii'))
+        for _ in range(g.choice([0, 1, 1, 1, 2])):
+            place = g.randrange(len(text))
+            byte = g.choice(b'0123456789() \n\rabcdeiklnoprstxy\x00\xff')
+            what = g.choice(['change', 'insert', 'remove', 'cut', 'append'])
+            if what == 'change':
+                text[place] = byte
+            elif what == 'insert':
+                text.insert(place, byte)
+            elif what == 'remove' and len(text) > 1:
+                del text[place]
+            elif what == 'cut' and place > 0:
+                del text[place:]
+            elif what == 'append':
+                text.append(byte)
+        text = bytes(text)
+        name = 'random text %d %r' % (number, text)
+        offset = plain_reader(text)
+        answer = r.read_text(text, 1000)
+        seen.add(answer[0])
+        if offset is None:
+            same(name + ', read', answer[0], 'read')
+        else:
+            same(name + ', refused', answer, refused(1, offset))
+            whole = completed(text[:offset])
+            same(name + ', a text begins so', plain_reader(whole), None)
+    same('both kinds of text were seen', seen, {'read', 'refused'})
+
+
+def main():
+    try:
+        for part in (edges, errors, the_text, offsets, answers, preemptions,
+                     random_sets, large_sets, random_texts):
+            part()
+    except AssertionError as failure:
+        print('reference: failed: %s' % failure)
+        return 1
+    except Exception as failure:
+        print('reference: failed: in %s, after %s: %r' % (part.__name__, latest, failure))
+        return 1
+    print('reference: %d checks passed' % passed)
+    return 0
+
+
+if __name__ == '__main__':
+    sys.exit(main())
