@@ -1,6 +1,9 @@
 pub mod Checks
 pub mod Places
 pub mod Whole
+pub mod Searches
+pub mod Following
+pub mod Judging
 pub mod Verdict
 pub mod PlanVerdict
 pub mod Sets

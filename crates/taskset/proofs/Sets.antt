@@ -21,7 +21,7 @@ use Rattle.taskset.specs.Words.{rateCount, taskCount, ratePlace, rate, p
 use Rattle.taskset.specs.Quantities.{hyperLimit, jobTime, hyperPeriod, taskLoad, problemOf, tasksOf}
 use Rattle.taskset.specs.Refusals.{RateFault, PassesLimit, Accepts, setChecks}
 use Rattle.taskset.proofs.Checks.{no-word-fault, no-rate-fault, none-passes}
-use Rattle.taskset.proofs.Whole.{IsWhole, is-whole}
+use Rattle.taskset.proofs.Whole.{IsWhole, whole-of}
 
 pub record IsSet (head extra : ℕ) (s : List ℕ) : Type 0 where
   pub whole : IsWhole head extra s
@@ -50,7 +50,7 @@ module _ (head extra : ℕ) (s : List ℕ) where
 
   pub set-of : Accepts (setChecks head extra s) → IsSet head extra s
   set-of a =
-      let w = is-whole head extra s (no-word-fault head extra s (a .0)) in
+      let w = whole-of head extra s (no-word-fault head extra s (a .0)) in
       record {
         whole = w;
         ascending = ascends (no-rate-fault head extra s (a .1 .0));

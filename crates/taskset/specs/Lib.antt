@@ -3,3 +3,4 @@ pub mod Quantities
 pub mod Refusals
 pub mod Calls
 pub mod DemandThree
+pub mod Steps
