@@ -393,58 +393,58 @@ def hyper_periods():
             refused(4, period_of(M, want[1]))
         check('multiple-' + name, with_periods(periods, M), said)
 
-    def is_(L):
+    def exactly(L):
         return L, None
 
     def passes(task):
         return None, task
 
-    at('1', (1,), is_(1))
-    at('1-1', (1, 1), is_(1))
-    at('6-10-15', (6, 10, 15), is_(30))
-    at('4-6-10', (4, 6, 10), is_(60))
-    at('12-18', (12, 18), is_(36))
-    at('18-12', (18, 12), is_(36))
-    at('7-7', (7, 7), is_(7))
-    at('1024-1536', (1_024, 1_536), is_(3_072))
-    at('fibonacci', (2_584, 1_597), is_(4_126_648))
-    at('1-to-10', range(1, 11), is_(2_520))
-    at('1-to-16', range(1, 17), is_(720_720))
+    at('1', (1,), exactly(1))
+    at('1-1', (1, 1), exactly(1))
+    at('6-10-15', (6, 10, 15), exactly(30))
+    at('4-6-10', (4, 6, 10), exactly(60))
+    at('12-18', (12, 18), exactly(36))
+    at('18-12', (18, 12), exactly(36))
+    at('7-7', (7, 7), exactly(7))
+    at('1024-1536', (1_024, 1_536), exactly(3_072))
+    at('fibonacci', (2_584, 1_597), exactly(4_126_648))
+    at('1-to-10', range(1, 11), exactly(2_520))
+    at('1-to-16', range(1, 17), exactly(720_720))
     at('1-to-18', range(1, 19), passes(17))
-    at('primes', (2, 3, 5, 7, 11, 13, 17, 19), is_(9_699_690))
+    at('primes', (2, 3, 5, 7, 11, 13, 17, 19), exactly(9_699_690))
     at('primes-23', (2, 3, 5, 7, 11, 13, 17, 19, 23), passes(9))
     # Exactly 10,000,000, and the multiples just below and just above it.
-    at('128-78125', (128, 78_125), is_(10_000_000))
-    at('78125-128', (78_125, 128), is_(10_000_000))
-    at('5000000-128', (5_000_000, 128), is_(10_000_000))
-    at('10000000-twice', (10_000_000, 10_000_000), is_(10_000_000))
-    at('10000000-1', (10_000_000, 1), is_(10_000_000))
-    at('10000000-5000000', (10_000_000, 5_000_000), is_(10_000_000))
+    at('128-78125', (128, 78_125), exactly(10_000_000))
+    at('78125-128', (78_125, 128), exactly(10_000_000))
+    at('5000000-128', (5_000_000, 128), exactly(10_000_000))
+    at('10000000-twice', (10_000_000, 10_000_000), exactly(10_000_000))
+    at('10000000-1', (10_000_000, 1), exactly(10_000_000))
+    at('10000000-5000000', (10_000_000, 5_000_000), exactly(10_000_000))
     at('10000000-9765625', (10_000_000, 9_765_625), passes(2))
     at('10000000-3', (10_000_000, 3), passes(2))
     at('3-10000000', (3, 10_000_000), passes(2))
     at('10000000-256', (10_000_000, 256), passes(2))
-    at('3333333-9', (3_333_333, 9), is_(9_999_999))
+    at('3333333-9', (3_333_333, 9), exactly(9_999_999))
     at('9999999-2', (9_999_999, 2), passes(2))
     at('11-909091', (11, 909_091), passes(2))           # 10,000,001
     at('909091-11', (909_091, 11), passes(2))
     at('2-3-1666667', (2, 3, 1_666_667), passes(3))     # 10,000,002
-    at('2-4999999', (2, 4_999_999), is_(9_999_998))
-    at('101-99009', (101, 99_009), is_(9_999_909))
+    at('2-4999999', (2, 4_999_999), exactly(9_999_998))
+    at('101-99009', (101, 99_009), exactly(9_999_909))
     at('101-99011', (101, 99_011), passes(2))
-    at('10000000-32-times', (10_000_000,) * 32, is_(10_000_000))
+    at('10000000-32-times', (10_000_000,) * 32, exactly(10_000_000))
     # Products that are small again at 32 bits: 1, 217 and 381.
     at('wraps-to-1', (9_999_999, 5_056_895), passes(2))
     at('wraps-to-217', (9_999_991, 4_319_023), passes(2))
     at('wraps-to-381', (9_999_997, 9_570_049), passes(2))
     at('8388608-1953125', (8_388_608, 1_953_125), passes(2))
     at('65536-65537', (65_536, 65_537), passes(2))
-    at('65536-twice', (65_536, 65_536), is_(65_536))
-    at('8388608-4194304', (8_388_608, 4_194_304), is_(8_388_608))
+    at('65536-twice', (65_536, 65_536), exactly(65_536))
+    at('8388608-4194304', (8_388_608, 4_194_304), exactly(8_388_608))
     # The product is over the limit, or over 32 bits, and the multiple is not.
-    at('9999998-4999999', (9_999_998, 4_999_999), is_(9_999_998))
+    at('9999998-4999999', (9_999_998, 4_999_999), exactly(9_999_998))
     at('8648640-parts', (8_648_640, 4_324_320, 2_882_880, 1_729_728, 786_240),
-       is_(8_648_640))
+       exactly(8_648_640))
     # Once over, later periods change nothing; a larger one after it neither.
     at('over-at-2-of-4', (9_999_991, 2, 10_000_000, 9_999_973), passes(2))
     at('over-at-3-of-4', (1, 9_999_991, 2, 3), passes(3))
@@ -459,7 +459,7 @@ def hyper_periods():
         at('over-at-%02d-of-8-rates' % task, periods, passes(task), 8)
     for M in (3, 4, 5, 6, 7, 8):
         at('over-at-3-of-%d-rates' % M, (2, 9_999_999, 5), passes(2), M)
-        at('10000000-of-%d-rates' % M, (128, 78_125), is_(10_000_000), M)
+        at('10000000-of-%d-rates' % M, (128, 78_125), exactly(10_000_000), M)
 
     # Check 4 after 2 and before 8.
     over = with_periods((9_999_999, 10_000_000))
@@ -491,8 +491,7 @@ def bad_plans():
             ('0-first', [0, 1], 0), ('0-last', [1, 0], 1), ('m-and-1-first', [4, 1], 0),
             ('m-and-1-last', [1, 4], 1), ('both-bad', [9, 0], 0),
             ('largest-first', [TOP, 1], 0), ('largest-last', [1, TOP], 1),
-            ('257', [1, 257], 1), ('65537', [65_537, 1], 0), ('2147483649', [1, 2 ** 31 + 1], 1),
-            ('0-of-short', [0, 0][:1], 0)):
+            ('257', [1, 257], 1), ('65537', [65_537, 1], 0), ('2147483649', [1, 2 ** 31 + 1], 1)):
         walk('plan-' + label, S, plan, refused(8, place))
     walk('plan-m-first', S, [3, 1])
     walk('plan-m-last', S, [1, 3], kept(24, 6, 0))
@@ -558,8 +557,9 @@ def one_task():
     walk('job-time-65536', task_set((1, 2), [(9, 65_536)]), [1], missed(9, 1))
     walk('job-time-65537', task_set((1, 2), [(9, 65_537)]), [1], missed(9, 1))
     walk('job-time-2147483648', task_set((1, 2), [(9, 2 ** 31)]), [1], missed(9, 1))
-    # Counts and ticks past 16 bits.
+    # Counts, ticks and deadlines past 16 bits.
     timed('period-70000', [(70_000, 69_000)], kept(69_000, 1_000, 0))
+    timed('periods-35000-70000', [(35_000, 20_000), (70_000, 29_000)], kept(69_000, 1_000, 1))
     timed('period-66000-late', [(66_000, 66_001)], missed(66_000, 1))
     # Slack and energies are nothing to the walk.
     for slack in (1, 1_000):
@@ -578,7 +578,8 @@ def loads():
             ('2-4', [(2, 1), (4, 2)], 4), ('2-3-6', [(2, 1), (3, 1), (6, 1)], 6),
             ('3-3-3', [(3, 1), (3, 1), (3, 1)], 3), ('4-6-12', [(4, 1), (6, 3), (12, 3)], 12),
             ('10-15-30', [(10, 3), (15, 6), (30, 9)], 30), ('5-7', [(5, 3), (7, 2), (35, 4)], 35),
-            ('12-18-36', [(12, 5), (18, 4), (36, 13)], 36), ('9-15', [(9, 4), (15, 7), (45, 4)], 45),
+            ('12-18-36', [(12, 5), (18, 4), (36, 13)], 36),
+            ('9-15', [(9, 4), (15, 7), (45, 4)], 45),
             ('8-12-20', [(8, 3), (12, 2), (20, 5), (120, 25)], 120),
             ('7-11-13', [(7, 2), (11, 3), (13, 4), (1001, 134)], 1001)):
         assert sum(L // period * time for period, time in tasks) == L, label
@@ -594,8 +595,9 @@ def loads():
     # The miss is at L and nowhere before: the check at L counts.
     timed('late-only-at-l', [(2, 1), (4, 3)], missed(4, 2))
     timed('late-only-at-l-of-12', [(3, 1), (4, 2), (12, 3)], missed(12, 3))
-    # A short walk that is fine at first and misses in its last quarter.
-    timed('late-after-many', [(5, 2), (7, 4), (35, 2)])
+    # Many jobs are in time, and then one is late, well before L.
+    timed('late-after-many', [(7, 3), (11, 4), (13, 3)])
+    timed('late-after-many-back', [(13, 3), (11, 4), (7, 3)])
 
 
 def ties():
@@ -633,6 +635,8 @@ def late_tasks():
     one with the most ticks left, and a miss noticed only when the job ends.
     """
     timed('two-late-at-once', [(4, 4), (6, 6), (6, 6)], missed(6, 2))
+    # Task 1's late job was released after task 2's.
+    timed('two-late-shorter-first', [(3, 2), (6, 3), (5, 3)], missed(6, 1))
     timed('three-late-at-once', [(5, 1), (5, 9), (5, 9), (5, 9)], missed(5, 2))
     timed('first-of-all-late', [(5, 9), (5, 9), (5, 9)], missed(5, 1))
     timed('last-of-all-late', [(5, 1), (5, 1), (5, 1), (5, 3)], missed(5, 4))
@@ -640,7 +644,6 @@ def late_tasks():
     timed('late-and-not-due-below', [(10, 4), (3, 1), (4, 4)], missed(4, 3))
     timed('late-and-not-due-above', [(4, 5), (10, 9)], missed(4, 1))
     timed('late-by-much', [(5, 2), (7, 4_000)], missed(7, 2))
-    timed('late-by-one-at-second-job', [(4, 2), (6, 3), (12, 1)])
     # Tasks 1 and 3 are late at once, and 2 is not.
     timed('late-1-and-3', [(6, 7), (2, 1), (6, 9)], missed(6, 1))
     # The one with the later deadline pays for the other.
@@ -663,23 +666,23 @@ def preemptions():
     """Ticks in which a job runs while the job before it is another, unfinished.
 
     Catches every change of task counted, the return to a broken job counted,
-    a job's last tick counted, and the next job of the same task counted.
+    a job's last tick counted, and a job with one tick left taken as finished.
     """
     timed('change-at-an-end', [(4, 2), (4, 2)], kept(4, 0, 0))
-    timed('next-job-of-same-task', [(2, 1), (4, 1)], kept(3, 1, 0))
-    timed('next-job-without-a-gap', [(3, 3)], kept(3, 0, 0))
-    timed('same-task-twice-in-a-row', [(2, 1), (6, 3)])
-    timed('broken-once', [(4, 1), (10, 5)])
+    timed('each-ends-before-the-next', [(2, 1), (4, 1)], kept(3, 1, 0))
+    timed('broken-once-by-a-tie', [(2, 1), (4, 2)], kept(4, 0, 1))
+    timed('broken-each-2-ticks', [(2, 1), (6, 3)], kept(6, 0, 2))
+    timed('broken-twice-of-20', [(4, 1), (10, 5)], kept(15, 5, 2))
     timed('broken-three-times', [(3, 1), (12, 8)], kept(12, 0, 3))
     # 1 breaks 2, and 2 breaks 3: each breaking is one, each return none.
-    timed('broken-and-broken', [(4, 1), (8, 2), (16, 6)])
+    timed('broken-and-broken', [(4, 1), (8, 2), (16, 6)], kept(14, 2, 3))
     timed('broken-deep', [(4, 1), (6, 1), (12, 2), (24, 5), (48, 8)])
     timed('broken-deep-back', [(48, 8), (24, 5), (12, 2), (6, 1), (4, 1)])
     # A job with one tick left is unfinished still.
-    timed('broken-before-last-tick', [(5, 1), (10, 5)])
-    timed('not-broken-after-last-tick', [(5, 1), (10, 4)])
+    timed('broken-before-last-tick', [(5, 1), (10, 5)], kept(7, 3, 1))
+    timed('not-broken-after-last-tick', [(5, 1), (10, 4)], kept(6, 4, 0))
     # Many breakings: the count passes 255.
-    timed('broken-600-times', [(3, 1), (1_803, 1_200)])
+    timed('broken-599-times', [(3, 1), (1_803, 1_200)], kept(1_801, 2, 599))
     # After an idle tick there is none.
     timed('idle-between', [(5, 1), (7, 1)], kept(12, 23, 0))
     timed('mostly-idle', [(50, 1), (30, 1)], kept(8, 142, 0))
@@ -702,8 +705,8 @@ def many_tasks():
     timed('many-two-periods-back', [(90, 2)] * 16 + [(60, 1)] * 16)
     mixed = [(40 if i % 3 else 60, 1) for i in range(32)]
     timed('many-mixed', mixed)
-    timed('many-mixed-full', mixed[:31] + [(120, 36)])
-    timed('many-mixed-over', mixed[:31] + [(120, 37)])
+    timed('many-mixed-full', mixed[:31] + [(120, 38)])
+    timed('many-mixed-over', mixed[:31] + [(120, 39)], missed(120, 32))
     divisors = [16, 20, 24, 30, 40, 48, 60, 80, 120, 240]
     spread = [(divisors[i % 10] * 4, 1 + i % 4) for i in range(32)]
     timed('many-spread', spread)
@@ -785,7 +788,8 @@ def some_walk(draw):
     words = [draw.one_of([1, 10, 50, 100, 500, 999, 1_000]), M, *rates, N]
     for period, time, rate in zip(periods, times, plan):
         f = rates[rate - 1]
-        cycles = draw.one_of([(time - 1) * f + 1, time * f, draw.between((time - 1) * f + 1, time * f)])
+        low, high = (time - 1) * f + 1, time * f        # all of them round up to the time
+        cycles = draw.one_of([low, high, draw.between(low, high)])
         words += [period, cycles] + [draw.between(1, most) for _ in range(M)]
     return words, plan
 
@@ -839,7 +843,8 @@ def damaged_plan(draw, plan, M):
     for _ in range(draw.one_of([1, 1, 2])):
         how = draw.one_of(['bad', 'bad', 'cut', 'more', 'more-bad', 'drop'])
         if how == 'bad' and plan:
-            plan[draw.between(0, len(plan) - 1)] = draw.one_of([0, 0, M + 1, M + 1, M + 2, 9, 256, TOP])
+            place = draw.between(0, len(plan) - 1)
+            plan[place] = draw.one_of([0, 0, M + 1, M + 1, M + 2, 9, 256, TOP])
         elif how == 'cut' and plan:
             del plan[draw.between(0, len(plan) - 1):]
         elif how == 'drop' and plan:
@@ -861,7 +866,8 @@ def some_periods(draw):
     M, N = draw.one_of([2, 2, 2, 3, 4, 8]), draw.between(1, 7)
     periods = [draw.one_of(divisors) for _ in range(N)]
     if draw.between(1, 2) == 1:
-        periods[draw.between(0, N - 1)] = draw.one_of([2, 3, 5, 7, 11, 13, 256, draw.between(1, 10_000_000)])
+        place = draw.between(0, N - 1)
+        periods[place] = draw.one_of([2, 3, 5, 7, 11, 13, 256, draw.between(1, 10_000_000)])
     words = with_periods(periods, M)
     for place in range(5 + M, len(words)):
         if (place - 3 - M) % (2 + M) > 0:

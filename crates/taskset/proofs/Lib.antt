@@ -7,6 +7,7 @@ pub mod Judging
 pub mod Verdict
 pub mod PlanVerdict
 pub mod Sets
+pub mod Access
 pub mod DemandThree
 pub mod Unique
 pub mod Cases

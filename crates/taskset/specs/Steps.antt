@@ -6,8 +6,9 @@ use mathlib.Core.Bool.{false}
 use mathlib.Core.List.{List}
 use lib.ListN.{length}
 use Rattle.numbers.specs.Numbers.{running}
-use Rattle.taskset.specs.Words.{word, rateCount, taskSize, periodPlace, period, kindAt, allows}
+use Rattle.taskset.specs.Words.{word, rateCount, taskCount, taskSize, periodPlace, period, kindAt, allows}
 use Rattle.taskset.specs.Quantities.{hyperLimit}
+use Rattle.taskset.specs.Refusals.{Accepts, setChecks}
 
 -- r is what a search from lo on and below hi for a number with P gives: the first such, or hi.
 pub record Found (P : ℕ → Type 0) (lo hi r : ℕ) : Type 0 where
@@ -42,3 +43,11 @@ pub record Followed (head extra n : ℕ) (s : List ℕ) (t v : ℕ) : Type 0 whe
   pub value : v ≡ running (period head extra s) t
   pub least : 1 ≤ v
   pub most : v ≤ hyperLimit
+
+-- The task at place t of a set of m rates that passes checks 2, 3 and 4.
+pub record OfTask (head extra m t : ℕ) (s : List ℕ) : Type 0 where
+  pub heads : head ≤ 8
+  pub extras : extra ≤ 8
+  pub set : Accepts (setChecks head extra s)
+  pub counted : m ≡ rateCount head s
+  pub task : t < taskCount head s

@@ -5,9 +5,10 @@ ghost use mathlib.Core.Path.{_≡_};
 ghost use Prim.Native.Nat.{ℕ, _+_, _*_, _<_, _≤_};
 ghost use lib.ListN.{length};
 ghost use Rattle.numbers.specs.Numbers.{between};
-ghost use Rattle.taskset.specs.Words.{word, rateCount, periodPlace, taskKind, kindAt, allows};
+ghost use Rattle.taskset.specs.Words.{word, rateCount, rate, periodPlace, period, cycles, taskKind, kindAt, allows};
+ghost use Rattle.taskset.specs.Quantities.{jobTime};
 ghost use Rattle.taskset.specs.Calls.{ShapeAnswers, SetAnswers};
-ghost use Rattle.taskset.specs.Steps.{Found, Bad, Falls, HasTasks, Followed};
+ghost use Rattle.taskset.specs.Steps.{Found, Bad, Falls, HasTasks, Followed, OfTask};
 
 // What a word of a set's list stands for.
 pub enum Kind {
@@ -88,6 +89,11 @@ pub enum CopyAnswer {
     Wrote(usize),
     Refused(Refusal),
 }
+
+// Document 01's own list: the slack alone before the rate count, energies straight after the cycles.
+pub const LIST_HEAD: usize = 1;
+
+pub const LIST_EXTRA: usize = 0;
 
 // The largest hyper-period.
 const HYPER_LIMIT: u64 = 10_000_000;
@@ -274,4 +280,40 @@ pub fn check_set(s: &[u32], head: usize, extra: usize) -> Checked
             }
         }
     }
+}
+
+// The period of the task at place t of a set.
+pub fn period_of(s: &[u32], head: usize, extra: usize, m: usize, t: usize) -> u32
+    requires { ⌜ OfTask head extra m t (now s) ⌝ }
+    ensures { λ r. ⌜ r ≡ period head extra (now (s .entry)) t ⌝ }
+{
+    let at = period_place(head, extra, m, t);
+    s[at]
+}
+
+// The cycles of one job of the task at place t.
+fn cycles_of(s: &[u32], head: usize, extra: usize, m: usize, t: usize) -> u32
+    requires { ⌜ OfTask head extra m t (now s) ⌝ }
+    ensures { λ r. ⌜ r ≡ cycles head extra (now (s .entry)) t ⌝ }
+{
+    let at = period_place(head, extra, m, t) + 1;
+    s[at]
+}
+
+// The rate with rate number r, which counts from 1, of a set of m rates that has a task at place t.
+fn rate_of(s: &[u32], head: usize, extra: usize, m: usize, t: usize, r: usize) -> u32
+    requires { ⌜ OfTask head extra m t (now s) × (1 ≤ r) × (r ≤ m) ⌝ }
+    ensures { λ x. ⌜ x ≡ rate head extra (now (s .entry)) r ⌝ }
+{
+    s[head + r]
+}
+
+// The job time of the task at place t at rate number r: cycles over rate, rounded up.
+pub fn job_time(s: &[u32], head: usize, extra: usize, m: usize, t: usize, r: usize) -> u32
+    requires { ⌜ OfTask head extra m t (now s) × (1 ≤ r) × (r ≤ m) ⌝ }
+    ensures { λ x. ⌜ x ≡ jobTime head extra (now (s .entry)) t r ⌝ }
+{
+    let c = cycles_of(s, head, extra, m, t) as u64;
+    let f = rate_of(s, head, extra, m, t, r) as u64;
+    ((c + (f - 1)) / f) as u32
 }

@@ -1,0 +1,137 @@
+-- What a tick does to the arrays is what it does to the jobs.
+-- Assumes nothing.
+use Prim.Native.Nat.{ℕ, zero, suc, pred, _+_, _-_, _≤_, _<_}
+use mathlib.Core.Path.{_≡_, refl, sym, ap, _∙_, subst}
+use mathlib.Core.Bool.{Bool, true, false, cond, not, _&&_, _||_, true≢false}
+use mathlib.Core.List.{List, [], _∷_, _++_, map}
+use mathlib.Core.Logic.{_⊎_, inl, inr, ⊎-elim}
+use native.Mathlib.Omega.{arith}
+use native.Mathlib.Nat.{eq-or-lt-of-le, add-zero, add-suc, suc-add, zero-add, sub-zero, sub-self}
+use native.Mathlib.Numerals.{add-one}
+use lib.Dec.{ltb, eqb}
+use lib.ListN.{length, getD, set, length-set}
+use lib.Seq.{getD-set-same, getD-set-other}
+use borrow.Author.Tests.{ltb-true, ltb-false, lt-ltb, le-ltb, eqb-true, eqb-false}
+use Rattle.numbers.proofs.Tests.{bool-cases, or-true, or-false, and-true, and-false}
+use Rattle.schedule.specs.Walk.{Task, tasksFrom, Job, fresh, sooner, choice, work, run}
+use Rattle.schedule.specs.Counted.{leftAt, count}
+use Rattle.walk.specs.Arrays.{jobsFrom, blank, chosen, worked, stays, cuts}
+use Rattle.walk.proofs.Scan.{scan, scan-choice, scan-found}
+use Rattle.walk.proofs.Scanned.{scanned}
+
+-- ---- the choice does not look at the tasks
+sooner-tasks : (k k′ : ℕ → Task) (l d : List ℕ) (e i n : ℕ) → sooner e (jobsFrom k l d i n) ≡ sooner e (jobsFrom k′ l d i n)
+sooner-tasks k k′ l d e i zero = refl
+sooner-tasks k k′ l d e i (suc n) = ap (λ (b : Bool). (ltb 0 (getD l i 0) && ltb (getD d i 0) e) || b) (sooner-tasks k k′ l d e (suc i) n)
+
+choice-tasks : (k k′ : ℕ → Task) (l d : List ℕ) (i n : ℕ) → choice (jobsFrom k l d i n) ≡ choice (jobsFrom k′ l d i n)
+choice-tasks k k′ l d i zero = refl
+choice-tasks k k′ l d i (suc n) =
+    ap (λ (b : Bool). cond (ltb 0 (getD l i 0) && not b) zero (suc (choice (jobsFrom k l d (suc i) n)))) (sooner-tasks k k′ l d (getD d i 0) (suc i) n) ∙
+    ap (λ (m : ℕ). cond (ltb 0 (getD l i 0) && not (sooner (getD d i 0) (jobsFrom k′ l d (suc i) n))) zero (suc m)) (choice-tasks k k′ l d (suc i) n)
+
+pub chosen-is : (k : ℕ → Task) (l d : List ℕ) (n : ℕ) → chosen l d n ≡ choice (jobsFrom k l d 0 n)
+unfolding chosen
+chosen-is k l d n = choice-tasks blank k l d 0 n
+
+-- ---- where all deadlines are before M, a scan that starts with M and the place n ends with the choice
+idle-choice : (k : ℕ → Task) (l d : List ℕ) (M i n : ℕ) → ((j : ℕ) → i ≤ j → j < i + n → getD d j 0 < M) → sooner M (jobsFrom k l d i n) ≡ false →
+    choice (jobsFrom k l d i n) ≡ n
+idle-choice k l d M i zero h e = refl
+idle-choice k l d M i (suc n) h e =
+    let o = or-false (ltb 0 (getD l i 0) && ltb (getD d i 0) M) (sooner M (jobsFrom k l d (suc i) n)) e in
+    let r = idle-choice k l d M (suc i) n (λ j a b. h j (omega arith) (omega arith)) (o .1) in
+    ⊎-elim
+    (λ x. rw x (ap suc r))
+    (λ x. absurd (true≢false (sym (lt-ltb (getD d i 0) M (h i (omega arith) (omega arith))) ∙ x)))
+    (and-false (ltb 0 (getD l i 0)) (ltb (getD d i 0) M) (o .0))
+
+pub scanned-first : (l d : List ℕ) (M n : ℕ) → ((j : ℕ) → j < n → getD d j 0 < M) → scanned l d n true n M 0 ≡ chosen l d n
+unfolding scanned chosen
+scanned-first l d M n h =
+    let js = jobsFrom blank l d 0 n in
+    rw sub-zero (scan-found n M 0 js ∙ ⊎-elim
+    (λ e. ap (λ (b : Bool). cond b (0 + choice js) n) e ∙ zero-add (choice js))
+    (λ e. ap (λ (b : Bool). cond b (0 + choice js) n) e ∙ sym (idle-choice blank l d M 0 n (λ j a b. h j (omega arith)) e))
+    (bool-cases (sooner M js)))
+
+-- ---- arrays that agree on a stretch hold the same jobs there
+pub jobs-same : (k : ℕ → Task) (l d l′ d′ : List ℕ) (i n : ℕ) →
+    ((j : ℕ) → i ≤ j → j < i + n → (getD l j 0 ≡ getD l′ j 0) × (getD d j 0 ≡ getD d′ j 0)) → jobsFrom k l d i n ≡ jobsFrom k l′ d′ i n
+jobs-same k l d l′ d′ i zero h = refl
+jobs-same k l d l′ d′ i (suc n) h =
+    let q = h i (omega arith) (omega arith) in
+    let r = jobs-same k l d l′ d′ (suc i) n (λ j a b. h j (omega arith) (omega arith)) in
+    rw (q .0, q .1, r) refl
+
+pub length-jobs : (k : ℕ → Task) (l d : List ℕ) (i n : ℕ) → length (jobsFrom k l d i n) ≡ n
+length-jobs k l d i zero = refl
+length-jobs k l d i (suc n) = ap suc (length-jobs k l d (suc i) n)
+
+pub length-tasks : (k : ℕ → Task) (i n : ℕ) → length (tasksFrom k i n) ≡ n
+length-tasks k i zero = refl
+length-tasks k i (suc n) = ap suc (length-tasks k (suc i) n)
+
+-- ---- a tick on the arrays is a tick on the jobs
+jobs-work : (k : ℕ → Task) (l d : List ℕ) (b i n : ℕ) → b < n → i + b < length l →
+    jobsFrom k (set l (i + b) (pred (getD l (i + b) 0))) d i n ≡ work (jobsFrom k l d i n) b
+jobs-work k l d b i zero h q = absurd (omega arith)
+jobs-work k l d zero i (suc n) h q =
+    rw (add-zero i)
+    (let e = getD-set-same l i (pred (getD l i 0)) 0 (omega arith) in
+    rw (e, jobs-same k (set l i (pred (getD l i 0))) d l d (suc i) n (λ j a c. (getD-set-other l i j (pred (getD l i 0)) 0 (λ z. absurd (omega arith)), refl))) refl)
+jobs-work k l d (suc b) i (suc n) h q =
+    let e : i + suc b ≡ suc i + b = omega arith in
+    rw e
+    (let v = pred (getD l (suc i + b) 0) in
+    rw (getD-set-other l (suc i + b) i v 0 (λ z. absurd (omega arith)), jobs-work k l d b (suc i) n (omega arith) (omega arith)) refl)
+
+work-past : (js : List Job) (b : ℕ) → length js ≤ b → work js b ≡ js
+work-past [] b h = refl
+work-past (j ∷ js) zero h = absurd (omega arith)
+work-past (j ∷ js) (suc b) h = ap (λ (r : List Job). j ∷ r) (work-past js b (omega arith))
+
+pub worked-run : (k : ℕ → Task) (l d : List ℕ) (n : ℕ) → n ≤ length l → jobsFrom k (worked n l (chosen l d n)) d 0 n ≡ run (jobsFrom k l d 0 n)
+unfolding worked
+worked-run k l d n h =
+    rw (chosen-is k l d n)
+    (let js = jobsFrom k l d 0 n in
+    ⊎-elim
+    (λ e. let x = ltb-true (choice js) n e in
+    rw e (rw (zero-add (choice js)) at (jobs-work k l d (choice js) 0 n x (omega arith))))
+    (λ e. let x = ltb-false (choice js) n e in
+    rw e (sym (work-past js (choice js) (omega (arith, length-jobs k l d 0 n)))))
+    (bool-cases (ltb (choice js) n)))
+
+-- ---- the ticks left at a place
+pub left-jobs : (k : ℕ → Task) (l d : List ℕ) (i n b : ℕ) → b < n → leftAt (jobsFrom k l d i n) b ≡ getD l (i + b) 0
+left-jobs k l d i zero b h = absurd (omega arith)
+left-jobs k l d i (suc n) zero h = ap (λ (x : ℕ). getD l x 0) (sym (add-zero i))
+left-jobs k l d i (suc n) (suc b) h = left-jobs k l d (suc i) n b (omega arith) ∙ ap (λ (x : ℕ). getD l x 0) (omega arith)
+
+pub left-past : (js : List Job) (b : ℕ) → length js ≤ b → leftAt js b ≡ 0
+left-past [] b h = refl
+left-past (j ∷ js) zero h = absurd (omega arith)
+left-past (j ∷ js) (suc b) h = left-past js b (omega arith)
+
+-- ---- laws for the code
+pub worked-some : (n : ℕ) (l : List ℕ) (b : ℕ) → b < n → worked n l b ≡ set l b (pred (getD l b 0))
+unfolding worked
+worked-some n l b h = rw (lt-ltb b n h) refl
+
+pub worked-none : (n : ℕ) (l : List ℕ) → worked n l n ≡ l
+unfolding worked
+worked-none n l = rw (le-ltb n n (omega arith)) refl
+
+pub stays-some : (n : ℕ) (l : List ℕ) (b : ℕ) → b < n → 0 < getD l b 0 → stays n l b ≡ b
+unfolding stays
+stays-some n l b h q = rw (lt-ltb b n h, lt-ltb 0 (getD l b 0) q) refl
+
+pub stays-none : (n : ℕ) (l : List ℕ) (b : ℕ) → (n ≤ b) ⊎ (getD l b 0 ≤ 0) → stays n l b ≡ n
+unfolding stays
+stays-none n l b (inl h) = rw (le-ltb b n h) refl
+stays-none n l b (inr h) = rw (le-ltb 0 (getD l b 0) h) (both (ltb b n))
+  where
+    both : (x : Bool) → cond (x && false) b n ≡ n
+    both true = refl
+    both false = refl

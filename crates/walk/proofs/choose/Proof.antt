@@ -1,0 +1,88 @@
+-- The choice by a scan: what is left of it ends with the choice.
+-- Assumes nothing.
+use Prim.Native.Nat.{ℕ, _≤_, _<_, _-_, _+_}
+use mathlib.Core.Path.{_≡_, refl, sym, ap, _∙_}
+use mathlib.Core.Bool.{true}
+use mathlib.Core.Logic.{_⊎_, inl, inr, ⊎-elim}
+use native.Mathlib.Omega.{arith}
+use borrow.Author.Needs.{needs}
+use Rattle.walk.specs.Arrays.{chosen}
+use Rattle.walk.proofs.Scanned.{scanned, scanned-take, scanned-pass}
+use Rattle.walk.proofs.Ticked.{scanned-first}
+use Rattle.walk.proofs.Ticks.{pick}
+use Rattle.walk.proofs.choose.Statement.{statement}
+use Rattle.walk.proofs.choose.Tie as tie
+use Rattle.walk.proofs.choose.Reads as reads
+use Rattle.walk.proofs.choose.Lts as lts
+
+abbrev Inv-loop : tie.InvT-loop
+Inv-loop left due n best₀ when₀ i₀ best when i =
+    (i ≤ n) × (scanned left due n true best when i ≡ chosen left due n)
+
+abbrev μ-loop : tie.MeasureT-loop
+μ-loop left due n best₀ when₀ i₀ best when i = n - i
+
+-- src/lib.rt:52:5
+loop-holds : tie.Need-loop-holds Inv-loop μ-loop
+loop-holds c = (omega arith, scanned-first _ _ _ _ (c .pre .low))
+
+-- src/lib.rt:53:17
+mul-d : tie.Need-mul-d Inv-loop μ-loop
+mul-d c = search needs
+
+-- src/lib.rt:53:17
+element-copy-out-d : tie.Need-element-copy-out-d Inv-loop μ-loop
+element-copy-out-d c = search needs
+
+-- src/lib.rt:54:16
+mul-if1 : tie.Need-mul-if1 Inv-loop μ-loop
+mul-if1 c = search needs
+
+-- src/lib.rt:54:16
+element-copy-out-if1 : tie.Need-element-copy-out-if1 Inv-loop μ-loop
+element-copy-out-if1 c = search needs
+
+-- src/lib.rt:60:9
+add-i : tie.Need-add-i Inv-loop μ-loop
+add-i c = search needs
+
+-- src/lib.rt:52:5
+loop-less : tie.Need-loop-less Inv-loop μ-loop
+loop-less c = search needs
+
+-- src/lib.rt:52:5
+loop-again : tie.Need-loop-again Inv-loop μ-loop
+loop-again c =
+    let a = c .before .before .before .before .before .args in
+    let k = c .before .before .before .before .loop in
+    let lt = c .before .before .before .loop-test .taken in
+    let l = a .left .now in
+    let d = a .due .now in
+    let v = k .inv .1 in
+    ⊎-elim
+    (λ w. (omega arith, rw (w .2, w .3) (sym (scanned-take l d (a .n) true (k .best) (k .when) (k .i) lt (w .0 .taken) (inr (w .1 .taken))) ∙ v)))
+    (λ y. ⊎-elim
+    (λ w. (omega arith, rw (w .2, w .3) (sym (scanned-pass l d (a .n) true (k .best) (k .when) (k .i) lt (inr (refl, w .1 .left))) ∙ v)))
+    (λ w. (omega arith, rw (w .1, w .2) (sym (scanned-pass l d (a .n) true (k .best) (k .when) (k .i) lt (inl (w .0 .left))) ∙ v)))
+    y)
+    (c .if1 .came)
+
+-- src/lib.rt:45:1
+returns : tie.Need-returns Inv-loop μ-loop
+returns c = sym (pick _ _ _ _ _ _ (omega arith) (c .before .loop .inv .1))
+
+pub choose-spec : {M : Type 1} → statement M
+choose-spec =
+    tie.close
+    (tie.spec
+    Inv-loop
+    μ-loop
+    loop-holds
+    mul-d
+    element-copy-out-d
+    mul-if1
+    element-copy-out-if1
+    add-i
+    loop-less
+    loop-again
+    returns)

@@ -1,0 +1,90 @@
+-- The walk's state as arrays hold it, and what the walk's functions take and give. Not part of what a reader must believe: the call's
+-- contract speaks of the walk's own definitions.
+use Prim.Native.Nat.{ℕ, zero, suc, pred, _+_, _≤_, _<_}
+use mathlib.Core.Path.{_≡_}
+use mathlib.Core.Bool.{Bool, true, false, cond, not, _&&_}
+use mathlib.Core.List.{List, [], _∷_}
+use lib.Dec.{ltb, eqb}
+use lib.ListN.{length, getD, set, replicate}
+use Rattle.schedule.specs.Walk.{Task, Job, periodic, choice}
+use Rattle.schedule.specs.Counted.{count}
+use Rattle.walk.specs.declared.State.{State}
+
+-- The jobs of the n tasks from place i on, where k gives each place's task, by ticks left and deadlines.
+abbrev pub jobsFrom : (ℕ → Task) → List ℕ → List ℕ → ℕ → ℕ → List Job
+jobsFrom k left due i zero = []
+jobsFrom k left due i (suc n) = record { task = k i; left = getD left i 0; due = getD due i 0 } ∷ jobsFrom k left due (suc i) n
+
+-- The choice does not look at tasks.
+abbrev pub blank : ℕ → Task
+blank i = record { period = 0; time = 0; arrives = λ t. 0 }
+
+-- The place that runs next, of n tasks; n where all are finished.
+unfoldable pub chosen : List ℕ → List ℕ → ℕ → ℕ
+chosen left due n = choice (jobsFrom blank left due 0 n)
+
+-- The ticks left after the job at place b has run a tick, if b is a place.
+unfoldable pub worked : ℕ → List ℕ → ℕ → List ℕ
+worked n left b = cond (ltb b n) (set left b (pred (getD left b 0))) left
+
+-- b, if b is the place of an unfinished job; else n.
+unfoldable pub stays : ℕ → List ℕ → ℕ → ℕ
+stays n left b = cond (ltb b n && ltb 0 (getD left b 0)) b n
+
+-- 1 where the job at b runs and another, at last, is unfinished.
+unfoldable pub cuts : ℕ → ℕ → ℕ → ℕ
+cuts n b last = count (ltb b n && (ltb last n && not (eqb b last)))
+
+-- Room in the arrays, and deadlines below the largest word.
+pub record Early (n : ℕ) (left due : List ℕ) : Type 0 where
+  pub few : n ≤ 32
+  pub lefts : length left ≡ 32
+  pub dues : length due ≡ 32
+  pub low : (i : ℕ) → i < n → getD due i 0 < 4294967295
+
+-- r is the lesser of x and y.
+pub record Lesser (x y r : ℕ) : Type 0 where
+  pub one : r ≤ x
+  pub two : r ≤ y
+  pub least : (z : ℕ) → z < x → z < y → z < r
+
+-- Before tick 0.
+pub record Begun (n : ℕ) (r : State) : Type 0 where
+  pub left : r .left ≡ replicate 32 0
+  pub due : r .due ≡ replicate 32 0
+  pub busy : r .busy ≡ 0
+  pub idle : r .idle ≡ 0
+  pub preempted : r .preempted ≡ 0
+  pub last : r .last ≡ n
+  pub known : r .known ≡ 0
+
+-- A state that a tick can be made of. Where the choice is known, it is `last`.
+pub record Ready (n : ℕ) (s : State) : Type 0 where
+  pub early : Early n (s .left) (s .due)
+  pub sure : 0 < s .known → s .last ≡ chosen (s .left) (s .due) n
+  pub busy-room : s .busy < 4294967295
+  pub idle-room : s .idle < 4294967295
+  pub preempted-room : s .preempted < 4294967295
+
+-- One tick: the chosen job loses a tick, and the counts go on.
+pub record Ticked (n : ℕ) (s r : State) : Type 0 where
+  pub left : r .left ≡ worked n (s .left) (chosen (s .left) (s .due) n)
+  pub due : r .due ≡ s .due
+  pub busy : r .busy ≡ s .busy + count (ltb (chosen (s .left) (s .due) n) n)
+  pub idle : r .idle ≡ s .idle + count (not (ltb (chosen (s .left) (s .due) n) n))
+  pub preempted : r .preempted ≡ s .preempted + cuts n (chosen (s .left) (s .due) n) (s .last)
+  pub last : r .last ≡ stays n (r .left) (chosen (s .left) (s .due) n)
+  pub sure : 0 < r .known → r .last ≡ chosen (r .left) (r .due) n
+
+-- What the loop over ticks asks: n tasks by their periods and job times, and a last tick.
+pub record Given (p c : List ℕ) (n end : ℕ) : Type 0 where
+  pub few : n ≤ 32
+  pub periods : length p ≡ 32
+  pub times : length c ≡ 32
+  pub period : (i : ℕ) → i < n → (0 < getD p i 0) × (getD p i 0 ≤ 10000000)
+  pub time : (i : ℕ) → i < n → 0 < getD c i 0
+  pub ends : end ≤ 200000000
+
+-- The task at a place.
+abbrev pub taskAt : List ℕ → List ℕ → ℕ → Task
+taskAt p c i = periodic (getD p i 0) (getD c i 0)
