@@ -458,7 +458,7 @@ def hyper_periods():
         periods = [4_999_999] + [1] * (task - 2) + [3] + [1] * (32 - task)
         at('over-at-%02d-of-8-rates' % task, periods, passes(task), 8)
     for M in (3, 4, 5, 6, 7, 8):
-        at('over-at-3-of-%d-rates' % M, (2, 9_999_999, 5), passes(2), M)
+        at('over-at-3-of-%d-rates' % M, (2, 4_999_999, 3), passes(3), M)
         at('10000000-of-%d-rates' % M, (128, 78_125), exactly(10_000_000), M)
 
     # Check 4 after 2 and before 8.
@@ -675,7 +675,7 @@ def preemptions():
     timed('broken-twice-of-20', [(4, 1), (10, 5)], kept(15, 5, 2))
     timed('broken-three-times', [(3, 1), (12, 8)], kept(12, 0, 3))
     # 1 breaks 2, and 2 breaks 3: each breaking is one, each return none.
-    timed('broken-and-broken', [(4, 1), (8, 2), (16, 6)], kept(14, 2, 3))
+    timed('broken-and-broken', [(4, 1), (7, 3), (28, 5)], kept(24, 4, 5))
     timed('broken-deep', [(4, 1), (6, 1), (12, 2), (24, 5), (48, 8)])
     timed('broken-deep-back', [(48, 8), (24, 5), (12, 2), (6, 1), (4, 1)])
     # A job with one tick left is unfinished still.

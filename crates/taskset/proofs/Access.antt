@@ -1,15 +1,15 @@
 -- What the accessors rest on: the words of a set's task are in the list, and in their ranges.
 -- Assumes nothing.
-use Prim.Native.Nat.{ℕ, suc, _+_, _*_, _-_, _/_, _≤_, _<_}
-use mathlib.Core.Path.{_≡_, refl, sym, ap, subst}
+use Prim.Native.Nat.{ℕ, _+_, _*_, _≤_, _<_}
+use mathlib.Core.Path.{_≡_, refl, sym, subst}
 use mathlib.Core.List.{List}
 use native.Mathlib.Omega.{arith}
 use lib.ListN.{length}
 use Rattle.numbers.specs.Numbers.{ceil}
 use Rattle.numbers.proofs.Rounding.{ceil-least}
-use Rattle.taskset.specs.Words.{word, rateCount, taskCount, periodPlace, taskSize, rate, period, cycles}
+use Rattle.taskset.specs.Words.{word, periodPlace, rate, period, cycles}
 use Rattle.taskset.specs.Steps.{OfTask}
-use Rattle.taskset.proofs.Sets.{IsSet, set-of}
+use Rattle.taskset.proofs.Sets.{set-of}
 
 pub record Located (head extra m t : ℕ) (s : List ℕ) : Type 0 where
   pub few-rates : m ≤ 8

@@ -2,27 +2,31 @@
 -- own over the hyper-period, and no plan that keeps every deadline for ever is cheaper by more than the slack; and no plan fits
 -- exactly when no plan keeps every deadline for ever. All of it is judged by the endless walk.
 -- Assumes nothing.
-use Prim.Native.Nat.{ℕ, _+_, _≤_}
+use Prim.Native.Nat.{ℕ, _+_, _≤_, _<_}
 use mathlib.Core.Path.{_≡_, refl, subst}
+use mathlib.Core.Bool.{true, false}
 use mathlib.Core.List.{List, [], _∷_}
-use mathlib.Core.Logic.{inl, _↔_}
+use mathlib.Core.Logic.{inl, inr, ⊎-elim, _↔_}
 use native.Mathlib.Omega.{arith}
-use lib.ListN.{length}
-use Rattle.numbers.proofs.Tests.{between-true}
+use lib.ListN.{length, getD}
+use Rattle.numbers.specs.Numbers.{between}
+use Rattle.numbers.proofs.Tests.{bool-cases, lt-or-le, between-true}
 use Rattle.schedule.specs.Walk.{KeepsForEver}
-use Rattle.schedule.specs.Counted.{IsKept, walk, kept}
+use Rattle.schedule.specs.Counted.{Outcome, IsKept, walk, kept, missed}
 use Rattle.schedule.proofs.Finite.{kept-iff-keeps, kept-counts}
-use Rattle.selection.specs.Plan.{Fitting, planLoad}
+use Rattle.selection.specs.Plan.{Fitting, IsPlan, planLoad}
 use Rattle.selection.proofs.Bounds.{planned-within}
-use Rattle.taskset.specs.Words.{listHead, listExtra, slack, headKind, allows}
+use Rattle.taskset.specs.Words.{listHead, listExtra, slack, rateCount, taskCount, headKind, allows}
 use Rattle.taskset.specs.Quantities.{hyperPeriod, problem, tasks, reportedEnergy}
-use Rattle.taskset.specs.Refusals.{number, second, Check, check, Accepts, Refuses, setChecks, readyChecks, plannerChecks, NoneOk}
-use Rattle.taskset.specs.Calls.{plannerValues, Selected, PlannerGives}
-use Rattle.taskset.specs.DemandThree.{Keeps, PlanPromise, NoneKeeps, PlannerOwes}
+use Rattle.taskset.specs.Refusals.{number, second, Check, check, Accepts, Refuses, setChecks, readyChecks, plannerChecks, NoneOk, PlanFault, IsBadPlan}
+use Rattle.taskset.specs.Calls.{plannerValues, Selected, PlannerGives, outcomeValues, WalkAnswers}
+use Rattle.taskset.specs.DemandThree.{Keeps, PlanPromise, NoneKeeps, PlannerOwes, WalkOwes}
 use Rattle.taskset.specs.declared.Refusal.{Refusal}
 use Rattle.taskset.specs.declared.PlannerAnswer.{PlannerAnswer}
 use Rattle.taskset.specs.declared.PlannerAnswer.the-variants.{Planned, Refused as NotPlanned}
-use Rattle.taskset.proofs.Checks.{Without, accepts-front, refuses-last, refuses-back, refuses-unique}
+use Rattle.taskset.specs.declared.WalkAnswer.{WalkAnswer}
+use Rattle.taskset.specs.declared.WalkAnswer.the-variants.{Kept, Missed, Refused as NotWalked}
+use Rattle.taskset.proofs.Checks.{no-plan-fault, Without, accepts-front, refuses-last, refuses-back, refuses-unique}
 use Rattle.taskset.proofs.Unique.{planner-single}
 use Rattle.taskset.proofs.Sets.{IsSet, set-of, regular, walk-load, keeps-iff-load}
 
@@ -107,3 +111,56 @@ answer-owes s plan work plan′ work′ (Planned unit load hyper energy) g =
     (plan-given s (passes-set s (length plan) (length work) (accepts-front (readyChecks s (length plan) (length work)) (last s (length plan) (length work) ∷ []) (g .0)))
     (g .1 .0) unit load hyper energy (g .1 .1))
 answer-owes s plan work plan′ work′ (NotPlanned r) g = refusal-owes s (length plan) (length work) r (g .0)
+
+-- ---- the walk's answer
+-- An outcome is known by its values.
+outcome-kept : (o : Outcome) (b i p : ℕ) → 1 ∷ b ∷ i ∷ p ∷ [] ≡ outcomeValues o → o ≡ kept b i p
+outcome-kept (kept b′ i′ p′) b i p e = cc
+outcome-kept (missed t k) b i p e = let z : _≡_ {A = ℕ} 1 0 = cc in absurd (omega arith)
+
+outcome-missed : (o : Outcome) (t k : ℕ) → 0 ∷ t ∷ k ∷ 0 ∷ [] ≡ outcomeValues o → o ≡ missed t k
+outcome-missed (kept b i p) t k e = let z : _≡_ {A = ℕ} 0 1 = cc in absurd (omega arith)
+outcome-missed (missed t′ k′) t k e = cc
+
+-- A plan without a fault is one rate number, 1 to M, for each task.
+pub plan-of : (s P : List ℕ) → ((k : ℕ) → IsBadPlan (rateCount listHead s) (taskCount listHead s) P k → ⊥) → IsPlan (problem s) P
+plan-of s P pass =
+    record {
+      size = size;
+      above = λ t l. number-of t l .0;
+      below = λ t l. number-of t l .1;
+    }
+  where
+    none : (k : ℕ) → PlanFault (rateCount listHead s) (taskCount listHead s) P k → ⊥
+    none = no-plan-fault (rateCount listHead s) (taskCount listHead s) P pass
+
+    size : length P ≡ taskCount listHead s
+    size =
+        ⊎-elim
+        (λ (l : length P < taskCount listHead s). absurd (none (length P) (inr (inl (refl, l)))))
+        (λ (l : taskCount listHead s ≤ length P).
+        ⊎-elim
+        (λ (m : taskCount listHead s < length P). absurd (none (taskCount listHead s) (inr (inr (refl, m)))))
+        (λ (m : length P ≤ taskCount listHead s). omega arith)
+        (lt-or-le (taskCount listHead s) (length P)))
+        (lt-or-le (length P) (taskCount listHead s))
+
+    number-of : (t : ℕ) → t < taskCount listHead s → (1 ≤ getD P t 0) × (getD P t 0 ≤ rateCount listHead s)
+    number-of t l =
+        ⊎-elim
+        (λ (e : between 1 (rateCount listHead s) (getD P t 0) ≡ true). between-true 1 (rateCount listHead s) (getD P t 0) e)
+        (λ (e : between 1 (rateCount listHead s) (getD P t 0) ≡ false). absurd (none t (inl (omega (arith, size), e))))
+        (bool-cases (between 1 (rateCount listHead s) (getD P t 0)))
+
+-- Whatever meets the walk's definition keeps what the walk owes.
+pub walk-owes : (s P : List ℕ) (a : WalkAnswer) → WalkAnswers s P a → WalkOwes s P a
+walk-owes s P (Kept b i p) h =
+    let set : Accepts (setChecks listHead listExtra s) = (h .0 .0, (h .0 .1 .0, (h .0 .1 .1 .0, tt))) in
+    let o = outcome-kept (walk (tasks s P) (hyperPeriod listHead listExtra s)) b i p (h .1) in
+    (record { plan = plan-of s P (h .0 .1 .1 .1 .0); for-ever = walk-decides s set P .0 (rw o tt) }, walk-busy s set P b i p o .0)
+walk-owes s P (Missed t k) h =
+    λ keeps.
+    let set : Accepts (setChecks listHead listExtra s) = (h .0 .0, (h .0 .1 .0, (h .0 .1 .1 .0, tt))) in
+    let o = outcome-missed (walk (tasks s P) (hyperPeriod listHead listExtra s)) t k (h .1) in
+    subst IsKept o (walk-decides s set P .1 keeps)
+walk-owes s P (NotWalked r) h = tt

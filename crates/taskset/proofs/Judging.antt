@@ -1,19 +1,18 @@
 -- From what the searches of the code find to what checks 2, 3 and 4 answer.
 -- Assumes nothing.
 use Prim.Native.Nat.{ℕ, _+_, _≤_, _<_}
-use mathlib.Core.Path.{_≡_, refl, sym, ap, _∙_}
-use mathlib.Core.Bool.{true, false, true≢false}
-use mathlib.Core.List.{List, []}
+use mathlib.Core.Path.{_≡_, refl, ap, _∙_}
+use mathlib.Core.Bool.{true, false}
+use mathlib.Core.List.{List}
 use mathlib.Core.Logic.{inl, inr, ⊎-elim}
 use native.Mathlib.Omega.{arith}
 use lib.ListN.{length}
 use Rattle.numbers.specs.Numbers.{running}
 use Rattle.numbers.proofs.Tests.{bool-cases}
 use Rattle.taskset.specs.Words.{word, rateCount, taskCount, wordCount, taskCountPlace, periodPlace, period, kindAt, allows}
-use Rattle.taskset.specs.Quantities.{hyperPeriod}
-use Rattle.taskset.specs.Refusals.{WordFault, IsBadWord, RateFault, IsNotAbove, IsTooLong, Accepts, wordChecks}
+use Rattle.taskset.specs.Refusals.{WordFault, IsBadWord, RateFault}
 use Rattle.taskset.specs.Calls.{ShapeAnswers, SetAnswers}
-use Rattle.taskset.specs.Steps.{Found, Bad, Falls, Passed, HasTasks, Followed}
+use Rattle.taskset.specs.Steps.{Found, Bad, Falls, HasTasks, Followed}
 use Rattle.taskset.specs.declared.Refusal.the-variants.{BadWord, NotAbove, TooLong}
 use Rattle.taskset.specs.declared.Shape.the-variants.{Whole, Refused as NotWhole}
 use Rattle.taskset.specs.declared.Checked.the-variants.{Good, Refused as NotGood}

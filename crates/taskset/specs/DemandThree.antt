@@ -5,12 +5,14 @@ use mathlib.Core.List.{List}
 use mathlib.Core.Logic.{_↔_}
 use lib.ListN.{length, take}
 use Rattle.schedule.specs.Walk.{KeepsForEver}
-use Rattle.selection.specs.Plan.{IsPlan}
+use Rattle.selection.specs.Plan.{IsPlan, planLoad}
 use Rattle.taskset.specs.Words.{listHead, slack, taskCount}
 use Rattle.taskset.specs.Quantities.{problem, tasks, reportedEnergy}
 use Rattle.taskset.specs.Refusals.{number, Accepts, readyChecks}
 use Rattle.taskset.specs.declared.PlannerAnswer.{PlannerAnswer}
 use Rattle.taskset.specs.declared.PlannerAnswer.the-variants.{Planned, Refused as NotPlanned}
+use Rattle.taskset.specs.declared.WalkAnswer.{WalkAnswer}
+use Rattle.taskset.specs.declared.WalkAnswer.the-variants.{Kept, Missed, Refused as NotWalked}
 
 -- "It takes a set and a plan, each number 1 to M": a plan Q, one number for each task, that keeps every deadline for ever.
 pub record Keeps (s Q : List ℕ) : Type 0 where
@@ -33,3 +35,9 @@ NoneKeeps s = (Q : List ℕ) → Keeps s Q → ⊥
 abbrev pub PlannerOwes : (s plan work plan′ : List ℕ) → PlannerAnswer → Type 0
 PlannerOwes s plan work plan′ (Planned unit load hyper energy) = PlanPromise s (take (taskCount listHead s) plan′) energy
 PlannerOwes s plan work plan′ (NotPlanned r) = (number r ≡ 7) ↔ (Accepts (readyChecks s (length plan) (length work)) × NoneKeeps s)
+
+-- What the walk owes with its answer: 'kept' if and only if the plan keeps every deadline for ever, and then busy is its load.
+abbrev pub WalkOwes : List ℕ → List ℕ → WalkAnswer → Type 0
+WalkOwes s P (Kept busy idle preempted) = Keeps s P × (busy ≡ planLoad (problem s) P)
+WalkOwes s P (Missed tick task) = KeepsForEver (tasks s P) → ⊥
+WalkOwes s P (NotWalked r) = Unit {0}

@@ -1,12 +1,12 @@
 -- What the functions below the calls are asked for and give. Not part of what a reader must believe: the calls' contracts speak of
 -- Refusals and Calls alone.
-use Prim.Native.Nat.{ℕ, suc, _+_, _-_, _≤_, _<_}
+use Prim.Native.Nat.{ℕ, suc, _-_, _≤_, _<_}
 use mathlib.Core.Path.{_≡_}
 use mathlib.Core.Bool.{false}
 use mathlib.Core.List.{List}
 use lib.ListN.{length}
 use Rattle.numbers.specs.Numbers.{running}
-use Rattle.taskset.specs.Words.{word, rateCount, taskCount, taskSize, periodPlace, period, kindAt, allows}
+use Rattle.taskset.specs.Words.{word, rateCount, taskCount, periodPlace, period, kindAt, allows}
 use Rattle.taskset.specs.Quantities.{hyperLimit}
 use Rattle.taskset.specs.Refusals.{Accepts, setChecks}
 

@@ -4,3 +4,5 @@ pub mod Ticked
 pub mod Again
 pub mod Releases
 pub mod Ticks
+pub mod Plans
+pub mod Calls

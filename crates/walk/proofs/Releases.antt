@@ -1,25 +1,25 @@
 -- The walk by arrays: releases one task at a time, then a tick; what the arrays and the counts hold before each tick.
 -- Assumes nothing.
-use Prim.Native.Nat.{ℕ, zero, suc, pred, _+_, _-_, _%_, _≤_, _<_}
+use Prim.Native.Nat.{ℕ, zero, suc, _+_, _-_, _%_, _≤_, _<_}
 use mathlib.Core.Path.{_≡_, refl, sym, ap, _∙_, subst}
-use mathlib.Core.Bool.{Bool, true, false, cond, not, _&&_, _||_, true≢false}
+use mathlib.Core.Bool.{Bool, true, false, cond, not, _&&_, true≢false}
 use mathlib.Core.List.{List, [], _∷_, _++_, map, append-assoc, append-nil}
 use mathlib.Core.Logic.{_⊎_, inl, inr, ⊎-elim}
 use native.Mathlib.Omega.{arith}
-use native.Mathlib.Nat.{eq-or-lt-of-le, add-zero, add-suc, suc-add, zero-add, sub-zero, sub-self, dvd-of-mod-eq-zero, mod-eq-zero-of-dvd, dvd-sub, le-of-dvd, add-mod-right, eq-zero-or-pos, dvd-zero}
+use native.Mathlib.Nat.{eq-or-lt-of-le, add-zero, zero-add, sub-zero, mod-eq-zero-of-dvd, add-mod-right, dvd-zero}
 use native.Mathlib.Numerals.{add-one}
-use lib.Dec.{ltb, leb, eqb}
-use lib.ListN.{length, getD, set, length-set}
+use lib.Dec.{ltb, eqb}
+use lib.ListN.{length, getD, set}
 use lib.Seq.{getD-set-same, getD-set-other}
-use borrow.Author.Tests.{ltb-true, ltb-false, lt-ltb, le-ltb, eq-eqb, ne-eqb, eqb-true, leb-true, le-leb, lt-leb}
+use borrow.Author.Tests.{ltb-true, ltb-false, lt-ltb, le-ltb, eq-eqb, ne-eqb, eqb-true}
 use Rattle.numbers.specs.Numbers.{over}
-use Rattle.numbers.proofs.Tests.{bool-cases, and-true}
+use Rattle.numbers.proofs.Tests.{bool-cases}
 use Rattle.numbers.proofs.Sums.{over-end}
 use Rattle.schedule.specs.Walk.{Task, tasksFrom, Job, fresh, released, release, choice, run, before, late, misses, periodic}
-use Rattle.schedule.specs.Counted.{Outcome, missed, kept, ran, count, busyAt, idleAt, leftAt, preemptedAt, lateTask, walkFrom, walk}
+use Rattle.schedule.specs.Counted.{missed, kept, ran, count, busyAt, idleAt, leftAt, preemptedAt, lateTask, walkFrom}
 use Rattle.schedule.proofs.Periodic.{multiples-apart}
 use Rattle.walk.specs.Arrays.{jobsFrom, chosen, worked, stays, cuts}
-use Rattle.walk.proofs.Ticked.{chosen-is, worked-run, jobs-same, length-jobs, length-tasks, left-jobs, left-past, stays-none, stays-some}
+use Rattle.walk.proofs.Ticked.{chosen-is, worked-run, jobs-same, length-jobs, length-tasks, left-jobs, left-past}
 
 -- ---- the next release
 -- d is the first tick from t on at which the task releases a job, a full one

@@ -1,16 +1,16 @@
 -- The choice as a loop makes it: from the first job to the last, with the best so far.
 -- Assumes nothing.
-use Prim.Native.Nat.{ℕ, zero, suc, pred, _+_, _≤_, _<_}
-use mathlib.Core.Path.{_≡_, refl, sym, ap, _∙_}
+use Prim.Native.Nat.{ℕ, suc, _+_, _≤_}
+use mathlib.Core.Path.{_≡_, refl, sym, _∙_}
 use mathlib.Core.Bool.{Bool, true, false, cond, not, _&&_, _||_, true≢false}
 use mathlib.Core.List.{List, [], _∷_}
-use mathlib.Core.Logic.{_⊎_, inl, inr, ⊎-elim}
+use mathlib.Core.Logic.{⊎-elim}
 use native.Mathlib.Omega.{arith}
-use native.Mathlib.Nat.{add-zero, add-suc, suc-add}
+use native.Mathlib.Nat.{add-zero}
 use lib.Dec.{ltb}
 use borrow.Author.Tests.{ltb-true, ltb-false, lt-ltb}
-use Rattle.schedule.specs.Walk.{Task, Job, sooner, choice}
-use Rattle.numbers.proofs.Tests.{or-true, and-true, bool-cases}
+use Rattle.schedule.specs.Walk.{Job, sooner, choice}
+use Rattle.numbers.proofs.Tests.{or-true, and-true}
 
 -- found: whether there is a best so far, at the place b with the deadline d; i is the place of the list's first job.
 abbrev pub scan : Bool → ℕ → ℕ → ℕ → List Job → ℕ

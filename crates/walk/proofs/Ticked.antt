@@ -1,22 +1,21 @@
 -- What a tick does to the arrays is what it does to the jobs.
 -- Assumes nothing.
-use Prim.Native.Nat.{ℕ, zero, suc, pred, _+_, _-_, _≤_, _<_}
-use mathlib.Core.Path.{_≡_, refl, sym, ap, _∙_, subst}
+use Prim.Native.Nat.{ℕ, zero, suc, pred, _+_, _≤_, _<_}
+use mathlib.Core.Path.{_≡_, refl, sym, ap, _∙_}
 use mathlib.Core.Bool.{Bool, true, false, cond, not, _&&_, _||_, true≢false}
-use mathlib.Core.List.{List, [], _∷_, _++_, map}
+use mathlib.Core.List.{List, [], _∷_}
 use mathlib.Core.Logic.{_⊎_, inl, inr, ⊎-elim}
 use native.Mathlib.Omega.{arith}
-use native.Mathlib.Nat.{eq-or-lt-of-le, add-zero, add-suc, suc-add, zero-add, sub-zero, sub-self}
-use native.Mathlib.Numerals.{add-one}
-use lib.Dec.{ltb, eqb}
-use lib.ListN.{length, getD, set, length-set}
+use native.Mathlib.Nat.{add-zero, zero-add, sub-zero}
+use lib.Dec.{ltb}
+use lib.ListN.{length, getD, set}
 use lib.Seq.{getD-set-same, getD-set-other}
-use borrow.Author.Tests.{ltb-true, ltb-false, lt-ltb, le-ltb, eqb-true, eqb-false}
-use Rattle.numbers.proofs.Tests.{bool-cases, or-true, or-false, and-true, and-false}
-use Rattle.schedule.specs.Walk.{Task, tasksFrom, Job, fresh, sooner, choice, work, run}
-use Rattle.schedule.specs.Counted.{leftAt, count}
-use Rattle.walk.specs.Arrays.{jobsFrom, blank, chosen, worked, stays, cuts}
-use Rattle.walk.proofs.Scan.{scan, scan-choice, scan-found}
+use borrow.Author.Tests.{ltb-true, ltb-false, lt-ltb, le-ltb}
+use Rattle.numbers.proofs.Tests.{bool-cases, or-false, and-false}
+use Rattle.schedule.specs.Walk.{Task, tasksFrom, Job, sooner, choice, work, run}
+use Rattle.schedule.specs.Counted.{leftAt}
+use Rattle.walk.specs.Arrays.{jobsFrom, blank, chosen, worked, stays}
+use Rattle.walk.proofs.Scan.{scan-found}
 use Rattle.walk.proofs.Scanned.{scanned}
 
 -- ---- the choice does not look at the tasks

@@ -1,9 +1,9 @@
 -- What a tick gives, case by case.
 -- Assumes nothing.
-use Prim.Native.Nat.{ℕ, zero, suc, pred, _+_, _-_, _≤_, _<_}
+use Prim.Native.Nat.{ℕ, pred, _+_, _-_, _≤_, _<_}
 use mathlib.Core.Path.{_≡_, refl, sym, ap, _∙_}
 use mathlib.Core.Bool.{Bool, true, false, cond, not, _&&_}
-use mathlib.Core.List.{List, [], _∷_}
+use mathlib.Core.List.{List}
 use mathlib.Core.Logic.{_⊎_, inl, inr, ⊎-elim}
 use native.Mathlib.Omega.{arith}
 use native.Mathlib.Nat.{add-zero, eq-or-lt-of-le}
@@ -18,7 +18,7 @@ use Rattle.schedule.specs.Counted.{count, busyAt, idleAt, preemptedAt}
 use Rattle.walk.specs.Arrays.{chosen, worked, stays, cuts, Early, Ticked}
 use Rattle.walk.specs.declared.State.{State}
 use Rattle.walk.proofs.Scanned.{scanned, scanned-end}
-use Rattle.walk.proofs.Ticked.{length-jobs, worked-some, worked-none, stays-some, stays-none}
+use Rattle.walk.proofs.Ticked.{length-jobs, worked-some, worked-none, stays-none}
 use Rattle.walk.proofs.Releases.{Held, pending, busy-fits, idle-fits, preempted-fits}
 
 pub below : {a b : ℕ} → a ≤ b → (a ≡ b → ⊥) → a < b

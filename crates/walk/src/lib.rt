@@ -4,7 +4,12 @@ ghost use mathlib.Core.Path.{_≡_};
 ghost use Prim.Native.Nat.{ℕ, _+_, _≤_, _<_};
 ghost use lib.ListN.{getD, length};
 ghost use Rattle.walk.specs.Arrays.{chosen, cuts, Early, Lesser, Begun, Ready, Ticked, Given};
-ghost use Rattle.walk.specs.Answers.{Says};
+ghost use Rattle.taskset.specs.Words.{listHead, listExtra, period};
+ghost use Rattle.walk.specs.Answers.{Says, PlanAnswers, Holds, SetGiven, PlanGiven, timeAt, Walked};
+use taskset::Checked;
+use taskset::LIST_EXTRA;
+use taskset::LIST_HEAD;
+use taskset::Refusal;
 use taskset::WalkAnswer;
 
 // What the walk holds: of each task the ticks left of its job and that job's deadline, which is its next release; the counts so
@@ -18,6 +23,12 @@ pub struct State {
     pub preempted: u32,
     pub last: u32,
     pub known: u32,
+}
+
+// Check 8's answer: its second number, or that the plan is sound.
+enum PlanCheck {
+    At(usize),
+    Sound,
 }
 
 // 1 where the job at `last` is cut short by the one at `best`, else 0.
@@ -163,5 +174,84 @@ pub fn run(p: &[u32; 32], c: &[u32; 32], n: usize, end: u32) -> WalkAnswer
         busy: s.busy as u64,
         idle: s.idle as u64,
         preempted: s.preempted as u64,
+    }
+}
+
+// Check 8: the first word that is not 1 to m, the plan's length if it is short, n if it is long.
+fn check_plan(plan: &[u32], m: usize, n: usize) -> PlanCheck
+    ensures { λ r. ⌜ PlanAnswers m n (now (plan .entry)) r ⌝ }
+{
+    let mut k: usize = 0;
+    while k < plan.len() {
+        if n <= k {
+            return PlanCheck::At(n);
+        }
+        let r = plan[k] as usize;
+        if r < 1 {
+            return PlanCheck::At(k);
+        }
+        if m < r {
+            return PlanCheck::At(k);
+        }
+        k += 1;
+    }
+    if k < n {
+        return PlanCheck::At(k);
+    }
+    PlanCheck::Sound
+}
+
+// The periods of a set's n tasks.
+fn periods(set: &[u32], m: usize, n: usize) -> [u32; 32]
+    requires { ⌜ SetGiven m n (now set) ⌝ }
+    ensures { λ r. ⌜ Holds (period listHead listExtra (now (set .entry))) n r ⌝ }
+{
+    let mut p = [0u32; 32];
+    let mut t: usize = 0;
+    while t < n {
+        p[t] = taskset::period_of(set, LIST_HEAD, LIST_EXTRA, m, t);
+        t += 1;
+    }
+    p
+}
+
+// The job times of a set's n tasks under a plan.
+fn times<'a>(set: &'a [u32], plan: &'a [u32], m: usize, n: usize) -> [u32; 32]
+    requires { ⌜ SetGiven m n (now set) ⌝ }
+    requires { ⌜ PlanGiven m n (now plan) ⌝ }
+    ensures { λ r. ⌜ Holds (timeAt (now (set .entry)) (now (plan .entry))) n r ⌝ }
+{
+    let mut c = [0u32; 32];
+    let mut t: usize = 0;
+    while t < n {
+        let r = plan[t] as usize;
+        c[t] = taskset::job_time(set, LIST_HEAD, LIST_EXTRA, m, t, r);
+        t += 1;
+    }
+    c
+}
+
+// The walk of a set under a plan: refusal 2, 3, 4 or 8, or what the walk from 0 to the hyper-period says.
+pub fn walk<'a>(set: &'a [u32], plan: &'a [u32]) -> WalkAnswer
+    ensures { λ r. ⌜ Walked (now (set .entry)) (now (plan .entry)) r ⌝ }
+{
+    let checked = taskset::check_set(set, LIST_HEAD, LIST_EXTRA);
+    match checked {
+        Checked::Refused(r) => WalkAnswer::Refused(r),
+        Checked::Good {
+            rates,
+            tasks,
+            hyper,
+        } => {
+            let sound = check_plan(plan, rates, tasks);
+            match sound {
+                PlanCheck::At(k) => WalkAnswer::Refused(Refusal::BadPlan(k)),
+                PlanCheck::Sound => {
+                    let p = periods(set, rates, tasks);
+                    let c = times(set, plan, rates, tasks);
+                    run(&p, &c, tasks, hyper as u32)
+                }
+            }
+        }
     }
 }

@@ -9,7 +9,7 @@ use Rattle.taskset.proofs.Searches.{found-here, found-end, none-more}
 use Prim.Native.Nat.{ℕ, _≤_, _<_, _-_}
 use lib.ListN.{length}
 use native.Mathlib.Omega.{arith}
-use Rattle.taskset.specs.Steps.{Found, Bad}
+use Rattle.taskset.specs.Steps.{Bad}
 use borrow.Author.Needs.{needs}
 use Rattle.taskset.proofs.first_bad.Statement.{statement}
 use Rattle.taskset.proofs.first_bad.Tie as tie

@@ -3,7 +3,7 @@
 use Rattle.taskset.proofs.Searches.{found-here, found-end, none-more}
 use Prim.Native.Nat.{ℕ, _+_, _≤_, _<_, _-_}
 use native.Mathlib.Omega.{arith}
-use Rattle.taskset.specs.Steps.{Found, Falls}
+use Rattle.taskset.specs.Steps.{Falls}
 use borrow.Author.Needs.{needs}
 use Rattle.taskset.proofs.first_fall.Statement.{statement}
 use Rattle.taskset.proofs.first_fall.Tie as tie

@@ -9,7 +9,7 @@ use native.Mathlib.Omega.{arith}
 use Rattle.numbers.specs.Numbers.{running}
 use Rattle.taskset.specs.Words.{periodPlace, period}
 use Rattle.taskset.specs.Quantities.{hyperLimit}
-use Rattle.taskset.specs.Steps.{Found, Passed}
+use Rattle.taskset.specs.Steps.{Passed}
 use Rattle.taskset.proofs.Searches.{found-here, found-end, none-more}
 use borrow.Author.Needs.{needs}
 use Rattle.taskset.proofs.follow.Statement.{statement}

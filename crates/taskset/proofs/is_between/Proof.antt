@@ -1,5 +1,4 @@
 use borrow.Author.Tests.{le-leb, lt-leb}
-use borrow.Author.Needs.{needs}
 use Rattle.taskset.proofs.is_between.Statement.{statement}
 use Rattle.taskset.proofs.is_between.Tie as tie
 use Rattle.taskset.proofs.is_between.Reads as reads

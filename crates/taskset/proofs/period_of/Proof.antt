@@ -1,6 +1,5 @@
 use native.Mathlib.Omega.{arith}
 use Rattle.taskset.proofs.Access.{located}
-use borrow.Author.Needs.{needs}
 use Rattle.taskset.proofs.period_of.Statement.{statement}
 use Rattle.taskset.proofs.period_of.Tie as tie
 use Rattle.taskset.proofs.period_of.Reads as reads

@@ -1,6 +1,5 @@
 use borrow.Author.Tests.{eq-eqb, ne-eqb}
 use Rattle.taskset.specs.Words.{taskKind}
-use borrow.Author.Needs.{needs}
 use Rattle.taskset.proofs.task_kind.Statement.{statement}
 use Rattle.taskset.proofs.task_kind.Tie as tie
 use Rattle.taskset.proofs.task_kind.Reads as reads

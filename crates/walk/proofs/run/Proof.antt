@@ -7,10 +7,10 @@ use mathlib.Core.Logic.{⊎-elim}
 use native.Mathlib.Omega.{arith}
 use native.Mathlib.Nat.{sub-zero, eq-or-lt-of-le}
 use native.Mathlib.Numerals.{add-one}
-use lib.ListN.{length, getD, set, getD-replicate}
+use lib.ListN.{getD, getD-replicate}
 use lib.Seq.{getD-set-other}
 use Rattle.schedule.specs.Walk.{tasksFrom}
-use Rattle.schedule.specs.Counted.{walkFrom, missed, kept}
+use Rattle.schedule.specs.Counted.{walkFrom, missed}
 use Rattle.walk.specs.Arrays.{chosen, Early, taskAt}
 use Rattle.walk.proofs.Releases.{Held, Part, part-start, part-pass, part-take, part-skip, part-miss, part-end, held-start, held-next, walkFrom-miss, walkFrom-on, walkFrom-kept, periodic-start, periodic-steady, coming-first}
 use Rattle.walk.proofs.Ticks.{below, early-set, early-worked, Counted, counted}

@@ -1,11 +1,11 @@
 -- One tick. The place is the choice; it stays the choice while its job is unfinished and nothing is released.
 -- Assumes nothing.
-use Prim.Native.Nat.{ℕ, _-_, _<_}
-use mathlib.Core.Path.{_≡_, refl, sym, _∙_}
+use Prim.Native.Nat.{_-_}
+use mathlib.Core.Path.{refl, sym, _∙_}
 use mathlib.Core.Logic.{inr}
 use native.Mathlib.Omega.{arith}
 use native.Mathlib.Nat.{pos-of-ne-zero}
-use lib.ListN.{length, getD, set}
+use lib.ListN.{getD, set}
 use lib.Seq.{getD-set-same}
 use Rattle.walk.proofs.Again.{chosen-again, chosen-most, chosen-left}
 use Rattle.walk.proofs.Ticked.{stays-some, stays-none}

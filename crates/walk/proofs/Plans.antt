@@ -1,0 +1,63 @@
+-- Check 8 as the loop makes it, and arrays filled task by task.
+-- Assumes nothing.
+use Prim.Native.Nat.{ℕ, _+_, _≤_, _<_}
+use mathlib.Core.Path.{_≡_, refl, sym, _∙_}
+use mathlib.Core.Bool.{Bool, true, false, _&&_, true≢false}
+use mathlib.Core.List.{List}
+use mathlib.Core.Logic.{_⊎_, inl, inr, ⊎-elim}
+use native.Mathlib.Nat.{eq-or-lt-of-le}
+use native.Mathlib.Omega.{arith}
+use lib.Dec.{leb}
+use lib.ListN.{length, getD, set, length-set}
+use lib.Seq.{getD-set-same, getD-set-other}
+use borrow.Author.Tests.{lt-leb}
+use Rattle.numbers.specs.Numbers.{between}
+use Rattle.taskset.specs.Refusals.{PlanFault, IsBadPlan}
+use Rattle.walk.specs.Answers.{Holds}
+
+-- ---- check 8: the words before place k are 1 to m
+pub out-of-range : (m r : ℕ) → (r < 1) ⊎ (m < r) → between 1 m r ≡ false
+out-of-range m r (inl h) = rw (lt-leb 1 r h) refl
+out-of-range m r (inr h) = rw (lt-leb r m h) (both (leb 1 r))
+  where
+    both : (x : Bool) → (x && false) ≡ false
+    both true = refl
+    both false = refl
+
+module _ (m n : ℕ) (P : List ℕ) (k : ℕ) (inside : k ≤ length P) (few : k ≤ n) (fine : (j : ℕ) → j < k → between 1 m (getD P j 0) ≡ true) where
+  none-before : (j : ℕ) → j < k → PlanFault m n P j → ⊥
+  none-before j l f =
+      ⊎-elim
+      (λ w. true≢false (sym (fine j l) ∙ w .1))
+      (λ w. ⊎-elim (λ v. absurd (omega arith)) (λ v. absurd (omega arith)) w)
+      f
+
+  pub bad-word : k < length P → between 1 m (getD P k 0) ≡ false → IsBadPlan m n P k
+  bad-word l e = record { here = inl (l, e); before = none-before }
+
+  pub too-long : k < length P → n ≤ k → IsBadPlan m n P n
+  too-long l h = record { here = inr (inr (refl, omega arith)); before = λ j i. none-before j (omega arith) }
+
+  pub too-short : length P ≤ k → k < n → IsBadPlan m n P k
+  too-short e h = record { here = inr (inl (omega arith, omega arith)); before = none-before }
+
+  pub sound : length P ≤ k → n ≤ k → (j : ℕ) → IsBadPlan m n P j → ⊥
+  sound e h j b =
+      ⊎-elim
+      (λ w. none-before j (omega (arith, w .0)) (b .here))
+      (λ w. ⊎-elim (λ v. absurd (omega arith)) (λ v. absurd (omega arith)) w)
+      (b .here)
+
+-- ---- an array filled from its first place on
+pub holds-none : (f : ℕ → ℕ) (r : List ℕ) → length r ≡ 32 → Holds f 0 r
+holds-none f r e = record { size = e; at = λ t l. absurd (omega arith) }
+
+pub holds-more : (f : ℕ → ℕ) (t v : ℕ) (r : List ℕ) → t < 32 → v ≡ f t → Holds f t r → Holds f (t + 1) (set r t v)
+holds-more f t v r l e h = record {
+  size = length-set r t v ∙ h .size;
+  at = λ j i.
+      ⊎-elim
+      (λ (q : j ≡ t). rw (q, getD-set-same r t v 0 (omega (arith, h .size))) e)
+      (λ (q : j < t). rw (getD-set-other r t j v 0 (λ z. absurd (omega arith))) (h .at j q))
+      (eq-or-lt-of-le (omega arith));
+}

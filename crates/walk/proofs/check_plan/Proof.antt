@@ -1,0 +1,120 @@
+-- Check 8. The invariant: every word before the place in hand is a rate number.
+-- Assumes nothing.
+use Prim.Native.Nat.{ℕ, _≤_, _<_, _-_}
+use mathlib.Core.Path.{_≡_}
+use mathlib.Core.Bool.{true}
+use mathlib.Core.Logic.{inl, inr, ⊎-elim}
+use native.Mathlib.Nat.{eq-or-lt-of-le}
+use native.Mathlib.Omega.{arith}
+use lib.ListN.{length, getD}
+use Rattle.numbers.specs.Numbers.{between}
+use Rattle.numbers.proofs.Tests.{true-between}
+use Rattle.walk.proofs.Plans.{out-of-range, bad-word, too-long, too-short, sound}
+use borrow.Author.Needs.{needs}
+use Rattle.walk.proofs.check_plan.Statement.{statement}
+use Rattle.walk.proofs.check_plan.Tie as tie
+use Rattle.walk.proofs.check_plan.Reads as reads
+use Rattle.walk.proofs.check_plan.Lts as lts
+
+abbrev Inv-loop : tie.InvT-loop
+Inv-loop plan m n k₀ k = (k ≤ length plan) × (k ≤ n) × ((j : ℕ) → j < k → between 1 m (getD plan j 0) ≡ true)
+
+abbrev μ-loop : tie.MeasureT-loop
+μ-loop plan m n k₀ k = length plan - k
+
+-- src/lib.rt:185:5
+loop-holds : tie.Need-loop-holds Inv-loop μ-loop
+loop-holds c = (omega arith, omega arith, (λ j l. absurd (omega arith)))
+
+-- src/lib.rt:187:13
+returns : tie.Need-returns Inv-loop μ-loop
+returns c =
+    let b = c .before .before in
+    let a = b .before .args in
+    let v = b .loop .inv in
+    too-long (a .m) (a .n) (a .plan .now) (b .loop .k) (omega arith) (omega arith) (v .2) (omega arith) (c .if1 .taken)
+
+-- src/lib.rt:189:17
+mul-r : tie.Need-mul-r Inv-loop μ-loop
+mul-r c = search needs
+
+-- src/lib.rt:189:17
+shared-slice-read-r : tie.Need-shared-slice-read-r Inv-loop μ-loop
+shared-slice-read-r c = search needs
+
+-- src/lib.rt:189:17
+cast-r : tie.Need-cast-r Inv-loop μ-loop
+cast-r c = omega (arith, c .shared-slice-known .given (c .before .before .before .loop .k))
+
+-- src/lib.rt:191:13
+returns-2 : tie.Need-returns-2 Inv-loop μ-loop
+returns-2 c =
+    let b = c .before .before .before .before in
+    let a = b .before .args in
+    let v = b .loop .inv in
+    bad-word (a .m) (a .n) (a .plan .now) (b .loop .k) (omega arith) (omega arith) (v .2) (omega arith) (out-of-range (a .m) _ (inl (c .if2 .taken)))
+
+-- src/lib.rt:194:13
+returns-3 : tie.Need-returns-3 Inv-loop μ-loop
+returns-3 c =
+    let b = c .before .before .before .before .before in
+    let a = b .before .args in
+    let v = b .loop .inv in
+    bad-word (a .m) (a .n) (a .plan .now) (b .loop .k) (omega arith) (omega arith) (v .2) (omega arith) (out-of-range (a .m) _ (inr (c .if3 .taken)))
+
+-- src/lib.rt:196:9
+add-k : tie.Need-add-k Inv-loop μ-loop
+add-k c = search needs
+
+-- src/lib.rt:185:5
+loop-less : tie.Need-loop-less Inv-loop μ-loop
+loop-less c = omega arith
+
+-- src/lib.rt:185:5
+loop-again : tie.Need-loop-again Inv-loop μ-loop
+loop-again c =
+    let b = c .before .before .before .before .before in
+    let a = b .before .args in
+    let v = b .loop .inv in (
+      omega arith,
+      omega arith,
+      (λ j l. ⊎-elim
+          (λ (e : j ≡ b .loop .k). rw e (true-between 1 (a .m) _ (c .before .if2 .left) (c .if3 .left)))
+          (λ (i : j < b .loop .k). v .2 j i)
+          (eq-or-lt-of-le (omega arith))),
+    )
+
+-- src/lib.rt:199:9
+returns-4 : tie.Need-returns-4 Inv-loop μ-loop
+returns-4 c =
+    let b = c .before .before in
+    let a = b .before .args in
+    let v = b .loop .inv in
+    too-short (a .m) (a .n) (a .plan .now) (b .loop .k) (omega arith) (omega arith) (v .2) (omega arith) (c .if4 .taken)
+
+-- src/lib.rt:181:1
+returns-5 : tie.Need-returns-5 Inv-loop μ-loop
+returns-5 c =
+    let b = c .before .before in
+    let a = b .before .args in
+    let v = b .loop .inv in
+    sound (a .m) (a .n) (a .plan .now) (b .loop .k) (omega arith) (omega arith) (v .2) (omega arith) (c .if4 .left)
+
+pub check-plan-spec : {M : Type 1} → statement M
+check-plan-spec =
+    tie.close
+    (tie.spec
+    Inv-loop
+    μ-loop
+    loop-holds
+    returns
+    mul-r
+    shared-slice-read-r
+    cast-r
+    returns-2
+    returns-3
+    add-k
+    loop-less
+    loop-again
+    returns-4
+    returns-5)
