@@ -8,6 +8,7 @@ pub mod Verdict
 pub mod PlanVerdict
 pub mod Sets
 pub mod Access
+pub mod Small
 pub mod DemandThree
 pub mod Unique
 pub mod Cases

@@ -216,7 +216,7 @@ fn periods(set: &[u32], m: usize, n: usize) -> [u32; 32]
 }
 
 // The job times of a set's n tasks under a plan.
-fn times<'a>(set: &'a [u32], plan: &'a [u32], m: usize, n: usize) -> [u32; 32]
+fn times(set: &[u32], plan: &[u32], m: usize, n: usize) -> [u32; 32]
     requires { ⌜ SetGiven m n (now set) ⌝ }
     requires { ⌜ PlanGiven m n (now plan) ⌝ }
     ensures { λ r. ⌜ Holds (timeAt (now (set .entry)) (now (plan .entry))) n r ⌝ }
@@ -232,7 +232,7 @@ fn times<'a>(set: &'a [u32], plan: &'a [u32], m: usize, n: usize) -> [u32; 32]
 }
 
 // The walk of a set under a plan: refusal 2, 3, 4 or 8, or what the walk from 0 to the hyper-period says.
-pub fn walk<'a>(set: &'a [u32], plan: &'a [u32]) -> WalkAnswer
+pub fn walk(set: &[u32], plan: &[u32]) -> WalkAnswer
     ensures { λ r. ⌜ Walked (now (set .entry)) (now (plan .entry)) r ⌝ }
 {
     let checked = taskset::check_set(set, LIST_HEAD, LIST_EXTRA);

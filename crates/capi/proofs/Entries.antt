@@ -1,0 +1,79 @@
+-- From the walk's answer to what its C entry gives.
+-- Assumes nothing.
+use Prim.Native.Nat.{ℕ, _+_, _*_, _^_, _≤_, _<_}
+use mathlib.Core.Path.{_≡_, refl, sym, ap, _∙_}
+use mathlib.Core.List.{List, [], _∷_, _++_}
+use mathlib.Core.Logic.{inl, inr}
+use native.Mathlib.Omega.{arith}
+use lib.ListN.{length, drop}
+use Rattle.selection.specs.Plan.{planLoad}
+use Rattle.taskset.specs.Words.{listHead, listExtra}
+use Rattle.taskset.specs.Quantities.{problem}
+use Rattle.taskset.specs.Refusals.{number, second, IsShort, check, Accepts, Refuses, setChecks, walkChecks}
+use Rattle.taskset.specs.Calls.{code, walkValues, WalkAnswers}
+use Rattle.taskset.specs.DemandThree.{Keeps}
+use Rattle.taskset.specs.declared.Refusal.{Refusal}
+use Rattle.taskset.specs.declared.Refusal.the-variants.{TextDeparts, BadWord, NotAbove, TooLong, WorkShort, TooShort, NoPlan, BadPlan}
+use Rattle.taskset.specs.declared.WalkAnswer.{WalkAnswer}
+use Rattle.taskset.specs.declared.WalkAnswer.the-variants.{Kept, Missed, Refused as NotWalked}
+use Rattle.taskset.proofs.Checks.{accepts-join, refuses-front, refuses-back}
+use Rattle.taskset.proofs.Sets.{set-of}
+use Rattle.taskset.proofs.DemandThree.{keeps-iff-fits}
+use Rattle.walk.specs.Answers.{Walked}
+use Rattle.capi.specs.Entry.{resultBytes, resultAt, resultSize, walkEntryChecks, WalkEntry}
+use Rattle.capi.proofs.Bytes.{result-first, result-second}
+
+-- No refusal is returned as 0.
+code-positive : (r : Refusal) → code r ≡ 0 → ⊥
+code-positive (TextDeparts o) e = omega arith
+code-positive (BadWord q) e = omega arith
+code-positive (NotAbove q) e = omega arith
+code-positive (TooLong q) e = omega arith
+code-positive (WorkShort w) e = omega arith
+code-positive (TooShort w) e = omega arith
+code-positive NoPlan e = omega arith
+code-positive (BadPlan k) e = omega arith
+
+module _ (s P d : List ℕ) where
+  refused : (r : Refusal) (x : ℕ) → x ≡ code r → Refuses (walkEntryChecks s P (length d)) (number r) (second r) → WalkEntry s P d d x
+  refused r x e h = record {
+    gives = inr (r, h, e, refl);
+    kept-iff-keeps = λ z. absurd (code-positive r (sym e ∙ z));
+    busy-is-load = λ z. absurd (code-positive r (sym e ∙ z));
+  }
+
+  -- A refusal of the walk is the entry's.
+  pub walk-refused : (r : Refusal) (x : ℕ) → x ≡ code r → Walked s P (NotWalked r) → WalkEntry s P d d x
+  walk-refused r x e w =
+      refused r x e (refuses-front (walkChecks s P) (check 6 (IsShort resultSize (length d)) ∷ []) (number r) (second r) (w .answers))
+
+  -- Too few result bytes, where the walk has an answer.
+  pub results-short : (x : ℕ) → x ≡ code (TooShort 32) → Accepts (walkChecks s P) → length d < 32 → WalkEntry s P d d x
+  results-short x e a l =
+      refused (TooShort 32) x e (refuses-back (walkChecks s P) (check 6 (IsShort resultSize (length d)) ∷ []) 6 32 a (inl (refl, (l, refl))))
+
+  module _ (enough : 32 ≤ length d) (d′ : List ℕ) where
+    accepts : Accepts (walkChecks s P) → Accepts (walkEntryChecks s P (length d))
+    accepts a = accepts-join (walkChecks s P) (check 6 (IsShort resultSize (length d)) ∷ []) a ((λ k h. omega (arith, h .0)), tt)
+
+    pub entry-kept : (b i p : ℕ) → Walked s P (Kept b i p) → d′ ≡ resultBytes (1 ∷ b ∷ i ∷ p ∷ []) ++ drop 32 d → WalkEntry s P d d′ 0
+    entry-kept b i p w e =
+        let set : Accepts (setChecks listHead listExtra s) = (w .answers .0 .0, (w .answers .0 .1 .0, (w .answers .0 .1 .1 .0, tt))) in
+        let load = keeps-iff-fits s set P .0 (w .owes .0) .fits in
+        let hyper = set-of listHead listExtra s set .hyper-range .1 in
+        let one : resultAt d′ 0 ≡ 1 = ap (λ (x : List ℕ). resultAt x 0) e ∙ result-first 1 b i p (drop 32 d) (omega arith) in
+        let busy : resultAt d′ 1 ≡ b = ap (λ (x : List ℕ). resultAt x 1) e ∙ result-second 1 b i p (drop 32 d) (omega (arith, w .owes .1)) in
+        record {
+          gives = inl (Kept b i p, accepts (w .answers .0), w .answers, refl, e);
+          kept-iff-keeps = λ z. ((λ h. w .owes .0), (λ k. one));
+          busy-is-load = λ z h. busy ∙ w .owes .1;
+        }
+
+    pub entry-missed : (t k : ℕ) → Walked s P (Missed t k) → d′ ≡ resultBytes (0 ∷ t ∷ k ∷ 0 ∷ []) ++ drop 32 d → WalkEntry s P d d′ 0
+    entry-missed t k w e =
+        let none : resultAt d′ 0 ≡ 0 = ap (λ (x : List ℕ). resultAt x 0) e ∙ result-first 0 t k 0 (drop 32 d) (omega arith) in
+        record {
+          gives = inl (Missed t k, accepts (w .answers .0), w .answers, refl, e);
+          kept-iff-keeps = λ z. ((λ h. absurd (omega arith)), (λ q. absurd (w .owes (q .for-ever))));
+          busy-is-load = λ z h. absurd (omega arith);
+        }

@@ -1,0 +1,83 @@
+// The entries for C: word lists and numbers in, a number out, results in a lent byte list. Thin: each entry calls the library's
+// function and puts its answer into bytes. Pointers are not null and aligned, and lists lent together do not overlap
+// (include/seedspell.h).
+ghost use mathlib.Core.Path.{_≡_};
+ghost use Prim.Native.Nat.{ℕ, _+_, _<_, _≤_, _^_};
+ghost use lib.ListN.{length};
+ghost use Rattle.taskset.specs.Refusals.{second};
+ghost use Rattle.taskset.specs.Calls.{code};
+ghost use Rattle.capi.specs.Entry.{WalkEntry};
+ghost use Rattle.capi.specs.Put.{Placed, Four};
+use taskset::Refusal;
+use taskset::WalkAnswer;
+
+// A refusal in one number: its number times 2^32, plus its second number.
+fn code_of(r: Refusal) -> u64
+    requires { ⌜ second r < 2 ^ 32 ⌝ }
+    ensures { λ x. ⌜ x ≡ code r ⌝ }
+{
+    match r {
+        Refusal::TextDeparts(o) => 4_294_967_296 + o as u64,
+        Refusal::BadWord(q) => 8_589_934_592 + q as u64,
+        Refusal::NotAbove(q) => 12_884_901_888 + q as u64,
+        Refusal::TooLong(q) => 17_179_869_184 + q as u64,
+        Refusal::WorkShort(w) => 21_474_836_480 + w as u64,
+        Refusal::TooShort(w) => 25_769_803_776 + w as u64,
+        Refusal::NoPlan => 30_064_771_072,
+        Refusal::BadPlan(k) => 34_359_738_368 + k as u64,
+    }
+}
+
+// Puts the eight bytes of v, lowest first, at a place of d.
+fn put_value(d: &mut [u8], at: usize, v: u64)
+    requires { ⌜ at + 8 ≤ length (now d) ⌝ }
+    ensures { λ r. ⌜ Placed at v (now (d .entry)) (now (d .exit)) ⌝ }
+{
+    let mut rest = v;
+    let mut i: usize = 0;
+    while i < 8 {
+        d[at + i] = (rest % 256) as u8;
+        rest = rest / 256;
+        i += 1;
+    }
+}
+
+// Puts four values into the first 32 bytes of d.
+fn put_values(d: &mut [u8], a: u64, b: u64, c: u64, e: u64)
+    requires { ⌜ 32 ≤ length (now d) ⌝ }
+    ensures { λ r. ⌜ Four a b c e (now (d .entry)) (now (d .exit)) ⌝ }
+{
+    put_value(d, 0, a);
+    put_value(d, 8, b);
+    put_value(d, 16, c);
+    put_value(d, 24, e);
+}
+
+// The walk: 0 and 32 result bytes (1, busy, idle, preempted; or 0, tick, task, 0), or a refusal.
+#[no_mangle]
+pub extern "C" fn seedspell_walk(set: &[u32], plan: &[u32], results: &mut [u8]) -> u64
+    ensures { λ r. ⌜ WalkEntry (now (set .entry)) (now (plan .entry)) (now (results .entry)) (now (results .exit)) r ⌝ }
+{
+    let answer = walk::walk(set, plan);
+    match answer {
+        WalkAnswer::Refused(r) => code_of(r),
+        WalkAnswer::Kept {
+            busy,
+            idle,
+            preempted,
+        } => {
+            if results.len() < 32 {
+                return code_of(Refusal::TooShort(32));
+            }
+            put_values(results, 1, busy, idle, preempted);
+            0
+        }
+        WalkAnswer::Missed { tick, task } => {
+            if results.len() < 32 {
+                return code_of(Refusal::TooShort(32));
+            }
+            put_values(results, 0, tick, task, 0);
+            0
+        }
+    }
+}
