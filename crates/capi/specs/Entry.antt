@@ -1,6 +1,6 @@
 -- What a C caller is given (document 01, 'The planner and its neighbours').
 use Prim.Native.Nat.{ℕ, zero, suc, _+_, _*_, _/_, _%_}
-use mathlib.Core.Path.{_≡_}
+use mathlib.Core.Path.{_≡_, refl}
 use mathlib.Core.List.{List, [], _∷_, _++_}
 use mathlib.Core.Logic.{_⊎_, _↔_}
 use lib.ListN.{length, take, drop}
@@ -20,6 +20,10 @@ bytesOf (suc k) v = v % 256 ∷ bytesOf k (v / 256)
 unfoldable pub resultBytes : List ℕ → List ℕ
 resultBytes [] = []
 resultBytes (v ∷ vs) = bytesOf 8 v ++ resultBytes vs
+
+lowest-first : resultBytes (258 ∷ []) ≡ 2 ∷ 1 ∷ 0 ∷ 0 ∷ 0 ∷ 0 ∷ 0 ∷ 0 ∷ []
+unfolding bytesOf resultBytes
+lowest-first = refl
 
 -- The value that bytes stand for, lowest first; the value at place k of a list of results.
 unfoldable pub valueOf : List ℕ → ℕ

@@ -1,0 +1,51 @@
+-- Texts put into a buffer one behind the other, and how long they are.
+-- Assumes nothing.
+use Prim.Native.Nat.{ℕ, _+_, _*_, _≤_, _<_}
+use mathlib.Core.Path.{sym, _∙_}
+use mathlib.Core.List.{List, [], _∷_, _++_, append-assoc, append-nil}
+use native.Mathlib.Omega.{arith}
+use native.Mathlib.Numerals.{add-one}
+use lib.ListN.{length, getD, take, length-append}
+use lib.Seq.{take-suc}
+use Rattle.cases.specs.Decimal.{decimal, spaced}
+use Rattle.cases.specs.Answers.{Put, refusedText, checkedText, walkedText}
+use Rattle.cases.proofs.Digits.{decimal-short}
+use Rattle.cases.proofs.Parts.{spaced-more}
+use Rattle.taskset.specs.Refusals.{number, second}
+use Rattle.taskset.specs.declared.Refusal.{Refusal}
+use Rattle.taskset.specs.declared.Checked.{Checked}
+use Rattle.taskset.specs.declared.Checked.the-variants.{Good, Refused as NotGood}
+use Rattle.taskset.specs.declared.WalkAnswer.{WalkAnswer}
+use Rattle.taskset.specs.declared.WalkAnswer.the-variants.{Kept, Missed, Refused as NotWalked}
+
+-- A text behind another, and none at all.
+pub put-then : {t u : List ℕ} {at m r : ℕ} {old mid new : List ℕ} → Put t at old m mid → Put u m mid r new → Put (t ++ u) at old r new
+put-then {t} {u} {at} {m} {r} {old} {mid} {new} p q = record {
+  ends = q .ends ∙ rw (p .ends, length-append) (omega arith);
+  is = q .is ∙ rw (p .is, append-assoc);
+}
+
+pub put-none : (at : ℕ) (d : List ℕ) → Put [] at d at d
+put-none at d = record { ends = omega arith; is = sym (append-nil (take at d)) }
+
+-- One number more of several.
+pub put-more : {at n r : ℕ} {old mid new : List ℕ} (xs : List ℕ) (i : ℕ) → i < length xs → Put (spaced (take i xs)) at old n mid
+    → Put (32 ∷ decimal (getD xs i 0)) n mid r new → Put (spaced (take (i + 1) xs)) at old r new
+put-more xs i h p q = rw (add-one i, take-suc xs i 0 h, spaced-more) (put-then p q)
+
+-- A number takes at most 21 bytes with its space, and an answer at most 71.
+pub spaced-short : (xs : List ℕ) → length (spaced xs) ≤ 21 * length xs
+spaced-short [] = omega arith
+spaced-short (x ∷ xs) = rw (length-append (32 ∷ decimal x) (spaced xs)) (omega (arith, decimal-short x, spaced-short xs))
+
+refused-short : (f : Refusal) → length (refusedText f) ≤ 71
+refused-short f = omega (arith, spaced-short (number f ∷ second f ∷ []))
+
+pub checked-short : (a : Checked) → length (checkedText a) ≤ 71
+checked-short (Good rates tasks hyper) = omega (arith, spaced-short (rates ∷ tasks ∷ hyper ∷ []))
+checked-short (NotGood f) = refused-short f
+
+pub walked-short : (a : WalkAnswer) → length (walkedText a) ≤ 71
+walked-short (Kept busy idle preempted) = omega (arith, spaced-short (busy ∷ idle ∷ preempted ∷ []))
+walked-short (Missed tick task) = omega (arith, spaced-short (tick ∷ task ∷ []))
+walked-short (NotWalked f) = refused-short f

@@ -1,0 +1,44 @@
+-- The texts of the answers.
+use Prim.Native.Nat.{ℕ, _+_, _<_}
+use Prim.Native.Char.{code}
+use Prim.Native.String as Str
+use Prim.Native.String.{String}
+use mathlib.Core.Path.{_≡_}
+use mathlib.Core.List.{List, [], _∷_, _++_}
+use lib.ListN.{length, take}
+use Rattle.cases.specs.Decimal.{spaced}
+use Rattle.cases.specs.declared.Said.{Said}
+use Rattle.cases.specs.declared.Said.the-variants.{Line, Bad}
+use Rattle.taskset.specs.Refusals.{number, second}
+use Rattle.taskset.specs.declared.Refusal.{Refusal}
+use Rattle.taskset.specs.declared.Checked.{Checked}
+use Rattle.taskset.specs.declared.Checked.the-variants.{Good, Refused as NotGood}
+use Rattle.taskset.specs.declared.WalkAnswer.{WalkAnswer}
+use Rattle.taskset.specs.declared.WalkAnswer.the-variants.{Kept, Missed, Refused as NotWalked}
+
+-- The bytes of a text of ASCII characters.
+abbrev pub bytes : String → List ℕ
+bytes Str.[] = []
+bytes (Str._∷_ c s) = code c ∷ bytes s
+
+abbrev pub refusedText : Refusal → List ℕ
+refusedText f = bytes " refused" ++ spaced (number f ∷ second f ∷ [])
+
+abbrev pub checkedText : Checked → List ℕ
+checkedText (Good rates tasks hyper) = bytes " good" ++ spaced (rates ∷ tasks ∷ hyper ∷ [])
+checkedText (NotGood f) = refusedText f
+
+abbrev pub walkedText : WalkAnswer → List ℕ
+walkedText (Kept busy idle preempted) = bytes " kept" ++ spaced (busy ∷ idle ∷ preempted ∷ [])
+walkedText (Missed tick task) = bytes " missed" ++ spaced (tick ∷ task ∷ [])
+walkedText (NotWalked f) = refusedText f
+
+-- The text stands in the buffer `new` from `at` to r, and before it is what the buffer `old` has there.
+pub record Put (text : List ℕ) (at : ℕ) (old : List ℕ) (r : ℕ) (new : List ℕ) : Type 0 where
+  pub ends : r ≡ at + length text
+  pub is : take r new ≡ take at old ++ text
+
+-- A line that was put together leaves room for the byte that ends it.
+abbrev pub SaidFits : Said → Type 0
+SaidFits (Line n) = n < 65536
+SaidFits Bad = Unit {0}

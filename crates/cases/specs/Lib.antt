@@ -1,0 +1,4 @@
+pub mod Decimal
+pub mod Items
+pub mod Lines
+pub mod Answers

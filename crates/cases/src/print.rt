@@ -1,0 +1,146 @@
+// The line that answers a record, put together part by part in a buffer. A `put_` function puts its part from a place on and gives
+// the place after it. The buffer has room for far longer lines than those of the kinds below.
+use libc::STDOUT_FILENO;
+use taskset::Checked;
+use taskset::Refusal;
+use taskset::WalkAnswer;
+ghost use mathlib.Core.Path.{_≡_};
+ghost use mathlib.Core.List.{_∷_, _++_};
+ghost use Prim.Native.Nat.{_+_, _*_, _≤_, _<_};
+ghost use lib.ListN.{length};
+ghost use Rattle.cases.specs.Decimal.{decimal, spaced};
+ghost use Rattle.cases.specs.Answers.{Put, refusedText, checkedText, walkedText};
+ghost use Rattle.taskset.specs.Refusals.{number, second};
+
+// Copies a text.
+pub(crate) fn put_text(out: &mut [u8], at: usize, text: &[u8]) -> usize
+    requires { ⌜ at + length (now text) ≤ length (now out) ⌝ }
+    ensures { λ r. ⌜ Put (now (text .entry)) at (now (out .entry)) r (now (out .exit)) ⌝ }
+{
+    let mut i = 0;
+    while i < text.len() {
+        out[at + i] = text[i];
+        i += 1;
+    }
+    at + i
+}
+
+// A space and a number in decimal.
+fn put_number(out: &mut [u8; 65536], at: usize, x: u64) -> usize
+    requires { ⌜ at + 21 ≤ 65536 ⌝ }
+    ensures { λ r. ⌜ Put (32 ∷ decimal x) at (now (out .entry)) r (now (out .exit)) ⌝ }
+{
+    let mut digits = [0u8; 20];
+    let k = io::decimal(x, &mut digits);
+    let n = put_text(out, at, b" ");
+    put_text(out, n, &digits[..k])
+}
+
+// Numbers in a row.
+fn put_numbers(out: &mut [u8; 65536], at: usize, xs: &[u64]) -> usize
+    requires { ⌜ at + 21 * length (now xs) ≤ 65536 ⌝ }
+    ensures { λ r. ⌜ Put (spaced (now (xs .entry))) at (now (out .entry)) r (now (out .exit)) ⌝ }
+{
+    let mut n = at;
+    let mut i = 0;
+    while i < xs.len() {
+        n = put_number(out, n, xs[i]);
+        i += 1;
+    }
+    n
+}
+
+// A word, with its space in front, and its numbers: the form of every answer.
+fn put_said(out: &mut [u8; 65536], at: usize, word: &[u8], xs: &[u64]) -> usize
+    requires { ⌜ at + length (now word) + 21 * length (now xs) ≤ 65536 ⌝ }
+    ensures { λ r. ⌜ Put (now (word .entry) ++ spaced (now (xs .entry))) at (now (out .entry)) r (now (out .exit)) ⌝ }
+{
+    let n = put_text(out, at, word);
+    put_numbers(out, n, xs)
+}
+
+// The number of a refusal.
+fn number_of(f: Refusal) -> u64
+    ensures { λ r. ⌜ r ≡ number f ⌝ }
+{
+    match f {
+        Refusal::TextDeparts(_) => 1,
+        Refusal::BadWord(_) => 2,
+        Refusal::NotAbove(_) => 3,
+        Refusal::TooLong(_) => 4,
+        Refusal::WorkShort(_) => 5,
+        Refusal::TooShort(_) => 6,
+        Refusal::NoPlan => 7,
+        Refusal::BadPlan(_) => 8,
+    }
+}
+
+// The number that is returned beside it.
+fn second_of(f: Refusal) -> u64
+    ensures { λ r. ⌜ r ≡ second f ⌝ }
+{
+    match f {
+        Refusal::TextDeparts(k) => k as u64,
+        Refusal::BadWord(k) => k as u64,
+        Refusal::NotAbove(k) => k as u64,
+        Refusal::TooLong(k) => k as u64,
+        Refusal::WorkShort(k) => k as u64,
+        Refusal::TooShort(k) => k as u64,
+        Refusal::NoPlan => 0,
+        Refusal::BadPlan(k) => k as u64,
+    }
+}
+
+// A refusal, from any call. A name of at most 40 bytes stands in front.
+fn put_refused(out: &mut [u8; 65536], at: usize, f: Refusal) -> usize
+    requires { ⌜ at ≤ 40 ⌝ }
+    ensures { λ r. ⌜ Put (refusedText f) at (now (out .entry)) r (now (out .exit)) ⌝ }
+{
+    put_said(out, at, b" refused", &[number_of(f), second_of(f)])
+}
+
+// The answer of check_set.
+pub(crate) fn put_checked(out: &mut [u8; 65536], at: usize, a: Checked) -> usize
+    requires { ⌜ at ≤ 40 ⌝ }
+    ensures { λ r. ⌜ Put (checkedText a) at (now (out .entry)) r (now (out .exit)) ⌝ }
+{
+    match a {
+        Checked::Good {
+            rates,
+            tasks,
+            hyper,
+        } => { put_said(out, at, b" good", &[rates as u64, tasks as u64, hyper]) }
+        Checked::Refused(f) => put_refused(out, at, f),
+    }
+}
+
+// The answer of the walk.
+pub(crate) fn put_walked(out: &mut [u8; 65536], at: usize, a: WalkAnswer) -> usize
+    requires { ⌜ at ≤ 40 ⌝ }
+    ensures { λ r. ⌜ Put (walkedText a) at (now (out .entry)) r (now (out .exit)) ⌝ }
+{
+    match a {
+        WalkAnswer::Kept {
+            busy,
+            idle,
+            preempted,
+        } => { put_said(out, at, b" kept", &[busy, idle, preempted]) }
+        WalkAnswer::Missed { tick, task } => put_said(out, at, b" missed", &[tick, task]),
+        WalkAnswer::Refused(f) => put_refused(out, at, f),
+    }
+}
+
+// Ends the line and writes it in one call. Whether all of it was written.
+pub(crate) fn write_line(out: &mut [u8; 65536], at: usize) -> bool
+    requires { ⌜ at < 65536 ⌝ }
+{
+    let end = put_text(out, at, b"\n");
+    write_first(out, end)
+}
+
+// Writes a buffer's bytes before a place.
+fn write_first(out: &[u8], end: usize) -> bool
+    requires { ⌜ end ≤ length (now out) ⌝ }
+{
+    io::write_all(STDOUT_FILENO, &out[0..end])
+}
