@@ -16,14 +16,6 @@ use Rattle.taskset.specs.Refusals.{PlanFault, IsBadPlan}
 use Rattle.walk.specs.Answers.{Holds}
 
 -- ---- check 8: the words before place k are 1 to m
-pub out-of-range : (m r : ℕ) → (r < 1) ⊎ (m < r) → between 1 m r ≡ false
-out-of-range m r (inl h) = rw (lt-leb 1 r h) refl
-out-of-range m r (inr h) = rw (lt-leb r m h) (both (leb 1 r))
-  where
-    both : (x : Bool) → (x && false) ≡ false
-    both true = refl
-    both false = refl
-
 module _ (m n : ℕ) (P : List ℕ) (k : ℕ) (inside : k ≤ length P) (few : k ≤ n) (fine : (j : ℕ) → j < k → between 1 m (getD P j 0) ≡ true) where
   none-before : (j : ℕ) → j < k → PlanFault m n P j → ⊥
   none-before j l f =
@@ -38,8 +30,8 @@ module _ (m n : ℕ) (P : List ℕ) (k : ℕ) (inside : k ≤ length P) (few : k
   pub too-long : k < length P → n ≤ k → IsBadPlan m n P n
   too-long l h = record { here = inr (inr (refl, omega arith)); before = λ j i. none-before j (omega arith) }
 
-  pub too-short : length P ≤ k → k < n → IsBadPlan m n P k
-  too-short e h = record { here = inr (inl (omega arith, omega arith)); before = none-before }
+  pub too-short : length P ≤ k → k < n → IsBadPlan m n P (length P)
+  too-short e h = record { here = inr (inl (refl, omega arith)); before = λ j i. none-before j (omega arith) }
 
   pub sound : length P ≤ k → n ≤ k → (j : ℕ) → IsBadPlan m n P j → ⊥
   sound e h j b =

@@ -4,6 +4,7 @@ ghost use mathlib.Core.Path.{_≡_};
 ghost use Prim.Native.Nat.{ℕ, _+_, _≤_, _<_};
 ghost use lib.ListN.{getD, length};
 ghost use Rattle.walk.specs.Arrays.{chosen, cuts, Early, Lesser, Begun, Ready, Ticked, Given};
+ghost use Rattle.numbers.specs.Numbers.{between};
 ghost use Rattle.taskset.specs.Words.{listHead, listExtra, period};
 ghost use Rattle.walk.specs.Answers.{Says, PlanAnswers, Holds, SetGiven, PlanGiven, timeAt, Walked};
 use taskset::Checked;
@@ -177,6 +178,13 @@ pub fn run(p: &[u32; 32], c: &[u32; 32], n: usize, end: u32) -> WalkAnswer
     }
 }
 
+// Whether r is 1 to m.
+fn is_rate_number(m: usize, r: usize) -> bool
+    ensures { λ x. ⌜ x ≡ between 1 m r ⌝ }
+{
+    if 1 <= r { r <= m } else { false }
+}
+
 // Check 8: the first word that is not 1 to m, the plan's length if it is short, n if it is long.
 fn check_plan(plan: &[u32], m: usize, n: usize) -> PlanCheck
     ensures { λ r. ⌜ PlanAnswers m n (now (plan .entry)) r ⌝ }
@@ -187,16 +195,13 @@ fn check_plan(plan: &[u32], m: usize, n: usize) -> PlanCheck
             return PlanCheck::At(n);
         }
         let r = plan[k] as usize;
-        if r < 1 {
-            return PlanCheck::At(k);
-        }
-        if m < r {
+        if !is_rate_number(m, r) {
             return PlanCheck::At(k);
         }
         k += 1;
     }
     if k < n {
-        return PlanCheck::At(k);
+        return PlanCheck::At(plan.len());
     }
     PlanCheck::Sound
 }

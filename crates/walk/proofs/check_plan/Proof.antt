@@ -1,16 +1,17 @@
 -- Check 8. The invariant: every word before the place in hand is a rate number.
 -- Assumes nothing.
 use Prim.Native.Nat.{ℕ, _≤_, _<_, _-_}
-use mathlib.Core.Path.{_≡_}
+use mathlib.Core.Path.{_≡_, sym, _∙_}
 use mathlib.Core.Bool.{true}
-use mathlib.Core.Logic.{inl, inr, ⊎-elim}
+use mathlib.Core.Logic.{⊎-elim}
 use native.Mathlib.Nat.{eq-or-lt-of-le}
 use native.Mathlib.Omega.{arith}
 use lib.ListN.{length, getD}
 use Rattle.numbers.specs.Numbers.{between}
-use Rattle.numbers.proofs.Tests.{true-between}
-use Rattle.walk.proofs.Plans.{out-of-range, bad-word, too-long, too-short, sound}
+use Rattle.walk.proofs.Plans.{bad-word, too-long, too-short, sound}
 use borrow.Author.Needs.{needs}
+use borrow.Author.Tests.{not-true, not-false}
+use Rattle.walk.proofs.is_rate_number.Reads as is-rate-number-reads
 use Rattle.walk.proofs.check_plan.Statement.{statement}
 use Rattle.walk.proofs.check_plan.Tie as tie
 use Rattle.walk.proofs.check_plan.Reads as reads
@@ -30,7 +31,7 @@ loop-holds c = (omega arith, omega arith, (λ j l. absurd (omega arith)))
 returns : tie.Need-returns Inv-loop μ-loop
 returns c =
     let b = c .before .before in
-    let a = b .before .args in
+    let a = b .before .before .args in
     let v = b .loop .inv in
     too-long (a .m) (a .n) (a .plan .now) (b .loop .k) (omega arith) (omega arith) (v .2) (omega arith) (c .if1 .taken)
 
@@ -44,23 +45,19 @@ shared-slice-read-r c = search needs
 
 -- src/lib.rt:189:17
 cast-r : tie.Need-cast-r Inv-loop μ-loop
-cast-r c = omega (arith, c .shared-slice-known .given (c .before .before .before .loop .k))
+cast-r c = omega (arith, c .shared-slice-known2 .given (c .before .before .before .loop .k))
 
--- src/lib.rt:191:13
+-- src/lib.rt:199:13
+is-rate-number-requires : tie.Need-is-rate-number-requires Inv-loop μ-loop
+is-rate-number-requires c κs = search needs
+
+-- src/lib.rt:200:13
 returns-2 : tie.Need-returns-2 Inv-loop μ-loop
 returns-2 c =
-    let b = c .before .before .before .before in
-    let a = b .before .args in
-    let v = b .loop .inv in
-    bad-word (a .m) (a .n) (a .plan .now) (b .loop .k) (omega arith) (omega arith) (v .2) (omega arith) (out-of-range (a .m) _ (inl (c .if2 .taken)))
-
--- src/lib.rt:194:13
-returns-3 : tie.Need-returns-3 Inv-loop μ-loop
-returns-3 c =
     let b = c .before .before .before .before .before in
-    let a = b .before .args in
+    let a = b .before .before .args in
     let v = b .loop .inv in
-    bad-word (a .m) (a .n) (a .plan .now) (b .loop .k) (omega arith) (omega arith) (v .2) (omega arith) (out-of-range (a .m) _ (inr (c .if3 .taken)))
+    bad-word (a .m) (a .n) (a .plan .now) (b .loop .k) (omega arith) (omega arith) (v .2) (omega arith) (sym (c .before .is-rate-number .ensures) ∙ not-true _ (c .if2 .taken))
 
 -- src/lib.rt:196:9
 add-k : tie.Need-add-k Inv-loop μ-loop
@@ -74,31 +71,31 @@ loop-less c = omega arith
 loop-again : tie.Need-loop-again Inv-loop μ-loop
 loop-again c =
     let b = c .before .before .before .before .before in
-    let a = b .before .args in
+    let a = b .before .before .args in
     let v = b .loop .inv in (
       omega arith,
       omega arith,
       (λ j l. ⊎-elim
-          (λ (e : j ≡ b .loop .k). rw e (true-between 1 (a .m) _ (c .before .if2 .left) (c .if3 .left)))
+          (λ (e : j ≡ b .loop .k). rw e (sym (c .before .is-rate-number .ensures) ∙ not-false _ (c .if2 .left)))
           (λ (i : j < b .loop .k). v .2 j i)
           (eq-or-lt-of-le (omega arith))),
     )
 
 -- src/lib.rt:199:9
+returns-3 : tie.Need-returns-3 Inv-loop μ-loop
+returns-3 c =
+    let b = c .before .before in
+    let a = b .before .before .args in
+    let v = b .loop .inv in
+    too-short (a .m) (a .n) (a .plan .now) (b .loop .k) (omega arith) (omega arith) (v .2) (omega arith) (c .if3 .taken)
+
+-- src/lib.rt:181:1
 returns-4 : tie.Need-returns-4 Inv-loop μ-loop
 returns-4 c =
     let b = c .before .before in
-    let a = b .before .args in
+    let a = b .before .before .args in
     let v = b .loop .inv in
-    too-short (a .m) (a .n) (a .plan .now) (b .loop .k) (omega arith) (omega arith) (v .2) (omega arith) (c .if4 .taken)
-
--- src/lib.rt:181:1
-returns-5 : tie.Need-returns-5 Inv-loop μ-loop
-returns-5 c =
-    let b = c .before .before in
-    let a = b .before .args in
-    let v = b .loop .inv in
-    sound (a .m) (a .n) (a .plan .now) (b .loop .k) (omega arith) (omega arith) (v .2) (omega arith) (c .if4 .left)
+    sound (a .m) (a .n) (a .plan .now) (b .loop .k) (omega arith) (omega arith) (v .2) (omega arith) (c .if3 .left)
 
 pub check-plan-spec : {M : Type 1} → statement M
 check-plan-spec =
@@ -111,10 +108,10 @@ check-plan-spec =
     mul-r
     shared-slice-read-r
     cast-r
+    is-rate-number-requires
     returns-2
-    returns-3
     add-k
     loop-less
     loop-again
-    returns-4
-    returns-5)
+    returns-3
+    returns-4)

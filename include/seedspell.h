@@ -1,0 +1,72 @@
+/* Seedspell: the clock-rate planner for battery-run water-level recorders, as C calls it.
+ *
+ * Link with libcapi.a, which `rt staticlib capi` writes. What each call gives, down to the byte and the refusal, is proved of
+ * that archive's code; docs/CALLS.md is the reference.
+ *
+ * OF EVERY CALL
+ *
+ * - A list is a pointer and its length: the number of words (uint32_t) or bytes (uint8_t) that are lent. No call reads or
+ *   writes outside them.
+ * - A pointer is not null and is aligned to its words, also where the length is 0.
+ * - Lists lent together do not overlap, unless both are only read.
+ * - A call returns 0, or a refusal: its number x 2^32 + its second number (SEEDSPELL_REFUSAL, SEEDSPELL_SECOND).
+ * - On a refusal no lent word or byte has changed. On success only those that the call names have.
+ * - Calls keep nothing from one to the next, take no memory of their own beyond the stack, and always return.
+ *
+ * NUMBERS AND PLACES
+ *
+ * Rate numbers and task numbers count from 1: rate number 1 is the lowest rate, task number 1 the first task. Places in a list
+ * count from 0, as C counts: in a table of the M rates of a set, rate number r stands at entry r - 1, and entry M is past its
+ * end. In a plan, the rate number of task number k stands at entry k - 1.
+ *
+ * A SET is 3 + M + N x (2 + M) words: the slack in thousandths, 1 to 1,000; the number of rates M, 2 to 8; the M rates in
+ * cycles a tick, each 1 to 1,000,000 and above the one before it; the number of tasks N, 1 to 32; then for each task its period
+ * in ticks, 1 to 10,000,000, the cycles of one job, 1 to 4,000,000,000, and M energies, its charge for one job at rate number
+ * 1, 2, .. M, each 1 to 1,000,000. The hyper-period, the least common multiple of the periods, is at most 10,000,000.
+ */
+#ifndef SEEDSPELL_H
+#define SEEDSPELL_H
+
+#include <stddef.h>
+#include <stdint.h>
+
+#ifdef __cplusplus
+extern "C" {
+#endif
+
+/* The refusals' numbers; of several causes the first in a call's own order is the one returned. */
+#define SEEDSPELL_TEXT_DEPARTS 1 /* the text departs from the form; second number: offset of its first byte that does */
+#define SEEDSPELL_BAD_WORD 2     /* a set word out of its range, missing or left over; its place */
+#define SEEDSPELL_NOT_ABOVE 3    /* a rate not above the one before it; its place */
+#define SEEDSPELL_TOO_LONG 4     /* the hyper-period passes 10,000,000; the place of the first period at which it does */
+#define SEEDSPELL_WORK_SHORT 5   /* the working list is too short; the words needed */
+#define SEEDSPELL_TOO_SHORT 6    /* a receiving list is too short; the words or bytes needed */
+#define SEEDSPELL_NO_PLAN 7      /* no plan fits; 0 */
+#define SEEDSPELL_BAD_PLAN 8     /* the plan: the lowest place of a word that is not 1 to M, or its length if it is short, or N if it is long */
+
+#define SEEDSPELL_REFUSAL(returned) ((uint32_t)((returned) >> 32))
+#define SEEDSPELL_SECOND(returned) ((uint32_t)(returned))
+
+/* Bytes of results that a call leaves: four values of eight bytes each, lowest byte first. */
+#define SEEDSPELL_RESULT_BYTES 32
+
+/* The walk: every tick from 0 to the hyper-period, all tasks released at 0, the earliest deadline first and of equal deadlines
+ * the lower task number.
+ *
+ * set, set_len          the set
+ * plan, plan_len        a rate number, 1 to M, for each of the N tasks
+ * results, results_len  receives the results, at least 32 bytes
+ *
+ * Returns 0 and leaves in the first 32 bytes of results
+ *   1, busy ticks, idle ticks, preempted jobs   if every deadline is kept: then the plan keeps every deadline for ever, and
+ *                                               the busy ticks are its load;
+ *   0, tick, task number, 0                     if a deadline is missed, at that tick, by that task, the lowest numbered of
+ *                                               those that miss theirs then: the plan does not keep every deadline for ever;
+ * or refuses: 2, 3, 4, 8, and then 6 with 32, in this order. */
+uint64_t seedspell_walk(const uint32_t *set, size_t set_len, const uint32_t *plan, size_t plan_len, uint8_t *results, size_t results_len);
+
+#ifdef __cplusplus
+}
+#endif
+
+#endif
