@@ -21,7 +21,7 @@
  *
  * A SET is 3 + M + N x (2 + M) words: the slack in thousandths, 1 to 1,000; the number of rates M, 2 to 8; the M rates in
  * cycles a tick, each 1 to 1,000,000 and above the one before it; the number of tasks N, 1 to 32; then for each task its period
- * in ticks, 1 to 10,000,000, the cycles of one job, 1 to 4,000,000,000, and M energies, its charge for one job at rate number
+ * in ticks, 1 to 10,000,000, the cycles of one job, 1 to 4,000,000,000, and M energies in microjoules per job, at rate numbers
  * 1, 2, .. M, each 1 to 1,000,000. The hyper-period, the least common multiple of the periods, is at most 10,000,000.
  */
 #ifndef SEEDSPELL_H
@@ -58,7 +58,7 @@ extern "C" {
  * results, results_len  receives the results, at least 32 bytes
  *
  * Returns 0 and leaves in the first 32 bytes of results
- *   1, busy ticks, idle ticks, preempted jobs   if every deadline is kept: then the plan keeps every deadline for ever, and
+ *   1, busy ticks, idle ticks, preemptions       if every deadline is kept: then the plan keeps every deadline for ever, and
  *                                               the busy ticks are its load;
  *   0, tick, task number, 0                     if a deadline is missed, at that tick, by that task, the lowest numbered of
  *                                               those that miss theirs then: the plan does not keep every deadline for ever;

@@ -12,17 +12,13 @@
 #include <stdlib.h>
 #include <time.h>
 
+#include "../../include/seedspell.h"
+
 #define SPAN 10000000u          /* L of every case: the longest there is */
 #define LOAD (SPAN / 1000 * 999)
 #define MOST_TASKS 32
 #define RATES 2
 #define MOST_WORDS (3 + RATES + MOST_TASKS * (2 + RATES))
-#define RESULT_BYTES 32
-
-/* The archive's call: 0 and the results, or a refusal. */
-uint64_t seedspell_walk(const uint32_t *set, size_t set_len,
-                        const uint32_t *plan, size_t plan_len,
-                        uint8_t *results, size_t results_len);
 
 /* walk.c */
 void plain_walk(uint32_t tasks, const uint32_t *period, const uint32_t *time,
@@ -156,7 +152,7 @@ static int measure(const char *name, const struct tasks *t, int repetitions)
 
     make_list(&list, t);
     for (int i = 0; i < repetitions; i++) {
-        uint8_t results[RESULT_BYTES] = {0};
+        uint8_t results[SEEDSPELL_RESULT_BYTES] = {0};
         uint64_t plain[4] = {0};
 
         double start = now();
