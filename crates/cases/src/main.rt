@@ -21,6 +21,8 @@ use input::Line;
 use input::Window;
 use items::Counted;
 use libc::STDOUT_FILENO;
+use taskset::LIST_EXTRA;
+use taskset::LIST_HEAD;
 
 // What a record gets: so many bytes of a line in the buffer, or none where the record is not of its form.
 enum Said {
@@ -40,7 +42,7 @@ fn check_record(s: &[u8], at: usize, out: &mut [u8; 65536], n: usize) -> Said
     if end < s.len() {
         return Said::Bad;
     }
-    let a = taskset::check_set(&words[..k], 1, 0);
+    let a = taskset::check_set(&words[..k], LIST_HEAD, LIST_EXTRA);
     Said::Line(print::put_checked(out, n, a))
 }
 
