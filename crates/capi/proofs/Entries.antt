@@ -1,20 +1,16 @@
 -- From the walk's answer to what its C entry gives.
 -- Assumes nothing.
-use Prim.Native.Nat.{ℕ, _+_, _*_, _^_, _≤_, _<_}
+use Prim.Native.Nat.{ℕ, _≤_, _<_}
 use mathlib.Core.Path.{_≡_, refl, sym, ap, _∙_}
 use mathlib.Core.List.{List, [], _∷_, _++_}
 use mathlib.Core.Logic.{inl, inr}
 use native.Mathlib.Omega.{arith}
 use lib.ListN.{length, drop}
-use Rattle.selection.specs.Plan.{planLoad}
 use Rattle.taskset.specs.Words.{listHead, listExtra}
-use Rattle.taskset.specs.Quantities.{problem}
 use Rattle.taskset.specs.Refusals.{number, second, IsShort, check, Accepts, Refuses, setChecks, walkChecks}
-use Rattle.taskset.specs.Calls.{code, walkValues, WalkAnswers}
-use Rattle.taskset.specs.DemandThree.{Keeps}
+use Rattle.taskset.specs.Calls.{code}
 use Rattle.taskset.specs.declared.Refusal.{Refusal}
 use Rattle.taskset.specs.declared.Refusal.the-variants.{TextDeparts, BadWord, NotAbove, TooLong, WorkShort, TooShort, NoPlan, BadPlan}
-use Rattle.taskset.specs.declared.WalkAnswer.{WalkAnswer}
 use Rattle.taskset.specs.declared.WalkAnswer.the-variants.{Kept, Missed, Refused as NotWalked}
 use Rattle.taskset.proofs.Checks.{accepts-join, refuses-front, refuses-back}
 use Rattle.taskset.proofs.Sets.{set-of}

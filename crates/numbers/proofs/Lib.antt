@@ -5,3 +5,4 @@ pub mod Divisors
 pub mod Multiples
 pub mod Powers
 pub mod Search
+pub mod Searches

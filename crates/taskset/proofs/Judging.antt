@@ -12,7 +12,8 @@ use Rattle.numbers.proofs.Tests.{bool-cases}
 use Rattle.taskset.specs.Words.{word, rateCount, taskCount, wordCount, taskCountPlace, periodPlace, period, kindAt, allows}
 use Rattle.taskset.specs.Refusals.{WordFault, IsBadWord, RateFault}
 use Rattle.taskset.specs.Calls.{ShapeAnswers, SetAnswers}
-use Rattle.taskset.specs.Steps.{Found, Bad, Falls, HasTasks, Followed}
+use Rattle.numbers.specs.Search.{Found}
+use Rattle.taskset.specs.Steps.{Bad, Falls, HasTasks, Followed}
 use Rattle.taskset.specs.declared.Refusal.the-variants.{BadWord, NotAbove, TooLong}
 use Rattle.taskset.specs.declared.Shape.the-variants.{Whole, Refused as NotWhole}
 use Rattle.taskset.specs.declared.Checked.the-variants.{Good, Refused as NotGood}

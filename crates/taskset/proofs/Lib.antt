@@ -1,7 +1,6 @@
 pub mod Checks
 pub mod Places
 pub mod Whole
-pub mod Searches
 pub mod Following
 pub mod Judging
 pub mod Verdict

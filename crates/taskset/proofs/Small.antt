@@ -1,17 +1,17 @@
 -- Second numbers of refusals are small, however long the lists: so a refusal and its second number fit one 64-bit number.
 -- Assumes nothing.
-use Prim.Native.Nat.{ℕ, suc, _+_, _*_, _≤_, _<_, _^_}
-use mathlib.Core.Path.{_≡_, refl, sym, _∙_, subst}
+use Prim.Native.Nat.{ℕ, _≤_, _<_, _^_}
+use mathlib.Core.Path.{_≡_, refl, sym, subst}
 use mathlib.Core.Bool.{true, false}
-use mathlib.Core.List.{List, [], _∷_}
-use mathlib.Core.Logic.{_⊎_, inl, inr, ⊎-elim}
+use mathlib.Core.List.{List}
+use mathlib.Core.Logic.{inl, inr, ⊎-elim}
 use native.Mathlib.Omega.{arith}
 use lib.ListN.{length}
 use Rattle.numbers.proofs.Tests.{bool-cases, lt-or-le, between-true}
 use Rattle.taskset.specs.Words.{word, listHead, listExtra, rateCount, taskCount, wordCount, taskCountPlace, kindAt, allows}
-use Rattle.taskset.specs.Refusals.{IsBadWord, IsNotAbove, IsTooLong, IsBadPlan, Passes, check, Accepts, Refuses, walkChecks}
+use Rattle.taskset.specs.Refusals.{IsBadWord, IsNotAbove, IsTooLong, IsBadPlan, Refuses, walkChecks}
 use Rattle.taskset.specs.declared.Kind.{Kind}
-use Rattle.taskset.specs.declared.Kind.the-variants.{RateCount, TaskCount, LeftOver}
+use Rattle.taskset.specs.declared.Kind.the-variants.{RateCount, TaskCount}
 use Rattle.taskset.proofs.Checks.{no-word-fault}
 use Rattle.taskset.proofs.Places.{kind-rates, kind-tasks, kind-past}
 use Rattle.taskset.proofs.Whole.{IsWhole, whole-of, task-words}

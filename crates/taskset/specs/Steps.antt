@@ -6,16 +6,10 @@ use mathlib.Core.Bool.{false}
 use mathlib.Core.List.{List}
 use lib.ListN.{length}
 use Rattle.numbers.specs.Numbers.{running}
+use Rattle.numbers.specs.Search.{Found}
 use Rattle.taskset.specs.Words.{word, rateCount, taskCount, periodPlace, period, kindAt, allows}
 use Rattle.taskset.specs.Quantities.{hyperLimit}
 use Rattle.taskset.specs.Refusals.{Accepts, setChecks}
-
--- r is what a search from lo on and below hi for a number with P gives: the first such, or hi.
-pub record Found (P : ℕ → Type 0) (lo hi r : ℕ) : Type 0 where
-  pub from : lo ≤ r
-  pub to : r ≤ hi
-  pub none : (k : ℕ) → lo ≤ k → k < r → P k → ⊥
-  pub hit : r < hi → P r
 
 -- The word at q is out of its range or left over; it is not above the one before; the running multiple passes the limit at task t.
 abbrev pub Bad : ℕ → ℕ → List ℕ → ℕ → Type 0

@@ -5,10 +5,11 @@ ghost use mathlib.Core.Path.{_≡_};
 ghost use Prim.Native.Nat.{ℕ, _+_, _*_, _<_, _≤_};
 ghost use lib.ListN.{length};
 ghost use Rattle.numbers.specs.Numbers.{between};
+ghost use Rattle.numbers.specs.Search.{Found};
 ghost use Rattle.taskset.specs.Words.{word, rateCount, rate, periodPlace, period, cycles, taskKind, kindAt, allows};
 ghost use Rattle.taskset.specs.Quantities.{jobTime};
 ghost use Rattle.taskset.specs.Calls.{ShapeAnswers, SetAnswers};
-ghost use Rattle.taskset.specs.Steps.{Found, Bad, Falls, HasTasks, Followed, OfTask};
+ghost use Rattle.taskset.specs.Steps.{Bad, Falls, HasTasks, Followed, OfTask};
 
 // What a word of a set's list stands for.
 pub enum Kind {

@@ -5,7 +5,7 @@ use mathlib.Core.Bool.{true≢false}
 use borrow.Author.Tests.{not-true, not-false}
 use Rattle.taskset.specs.Words.{word, allows}
 use Rattle.taskset.specs.declared.Kind.{Kind}
-use Rattle.taskset.proofs.Searches.{found-here, found-end, none-more}
+use Rattle.numbers.proofs.Searches.{found-here, found-end, none-more}
 use Prim.Native.Nat.{ℕ, _≤_, _<_, _-_}
 use lib.ListN.{length}
 use native.Mathlib.Omega.{arith}

@@ -1,6 +1,6 @@
 -- The first rate that is not above the one before it. The invariant: none before the place in hand.
 -- Assumes nothing.
-use Rattle.taskset.proofs.Searches.{found-here, found-end, none-more}
+use Rattle.numbers.proofs.Searches.{found-here, found-end, none-more}
 use Prim.Native.Nat.{ℕ, _+_, _≤_, _<_, _-_}
 use native.Mathlib.Omega.{arith}
 use Rattle.taskset.specs.Steps.{Falls}

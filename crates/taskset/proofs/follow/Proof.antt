@@ -10,7 +10,7 @@ use Rattle.numbers.specs.Numbers.{running}
 use Rattle.taskset.specs.Words.{periodPlace, period}
 use Rattle.taskset.specs.Quantities.{hyperLimit}
 use Rattle.taskset.specs.Steps.{Passed}
-use Rattle.taskset.proofs.Searches.{found-here, found-end, none-more}
+use Rattle.numbers.proofs.Searches.{found-here, found-end, none-more}
 use borrow.Author.Needs.{needs}
 use Rattle.taskset.proofs.follow.Statement.{statement}
 use Rattle.taskset.proofs.follow.Tie as tie

@@ -5,7 +5,7 @@ use mathlib.Core.Path.{_≡_, subst}
 use mathlib.Core.Logic.{⊎-elim}
 use native.Mathlib.Nat.{eq-or-lt-of-le}
 use native.Mathlib.Omega.{arith}
-use Rattle.taskset.specs.Steps.{Found}
+use Rattle.numbers.specs.Search.{Found}
 
 module _ {P : ℕ → Type 0} {lo q : ℕ} (from : lo ≤ q) (none : (k : ℕ) → lo ≤ k → k < q → P k → ⊥) where
   -- P holds at the place in hand.
