@@ -6,7 +6,7 @@ ghost use Prim.Native.Nat.{ℕ, _+_, _*_, _<_, _≤_};
 ghost use lib.ListN.{length};
 ghost use Rattle.numbers.specs.Numbers.{between};
 ghost use Rattle.numbers.specs.Search.{Found};
-ghost use Rattle.taskset.specs.Words.{word, rateCount, rate, periodPlace, period, cycles, taskKind, kindAt, allows};
+ghost use Rattle.taskset.specs.Words.{word, slack, rateCount, rate, periodPlace, period, cycles, taskKind, kindAt, allows};
 ghost use Rattle.taskset.specs.Quantities.{jobTime};
 ghost use Rattle.taskset.specs.Calls.{ShapeAnswers, SetAnswers};
 ghost use Rattle.taskset.specs.Steps.{Bad, Falls, HasTasks, Followed, OfTask};
@@ -281,6 +281,14 @@ pub fn check_set(s: &[u32], head: usize, extra: usize) -> Checked
             }
         }
     }
+}
+
+// The slack.
+pub fn slack_of(s: &[u32]) -> u32
+    requires { ⌜ 0 < length (now s) ⌝ }
+    ensures { λ r. ⌜ r ≡ slack (now (s .entry)) ⌝ }
+{
+    s[0]
 }
 
 // The period of the task at place t of a set.

@@ -1,0 +1,74 @@
+-- Checks 5 and 6 after 2, 3 and 4.
+-- Assumes nothing.
+use Prim.Native.Nat.{ℕ, _+_, _*_, _/_, _≤_, _<_}
+use mathlib.Core.Path.{_≡_, refl}
+use mathlib.Core.List.{List, [], _∷_}
+use mathlib.Core.Logic.{inl, inr}
+use native.Mathlib.Nat.{div-mul-le-self, mul-le-mul-left, mul-le-mul-right}
+use native.Mathlib.Omega.{arith}
+use lib.ListN.{length}
+use Rattle.numbers.proofs.Tests.{between-true}
+use Rattle.taskset.specs.Words.{listHead, listExtra, slack, taskCount, headKind, allows}
+use Rattle.taskset.specs.Quantities.{workWords, workNeeded}
+use Rattle.taskset.specs.Refusals.{number, second, IsShort, check, setChecks}
+use Rattle.taskset.specs.Calls.{SetAnswers}
+use Rattle.taskset.specs.declared.Refusal.{Refusal}
+use Rattle.taskset.specs.declared.Refusal.the-variants.{WorkShort, TooShort}
+use Rattle.taskset.specs.declared.Checked.the-variants.{Good, Refused as NotGood}
+use Rattle.taskset.proofs.Checks.{accepts-join, refuses-front, refuses-back}
+use Rattle.taskset.proofs.Sets.{IsSet, set-of}
+use Rattle.planner.specs.Ready.{ReadyAnswers}
+
+-- The working words of any set fit a machine word.
+pub last-small : (n g : ℕ) → n ≤ 32 → 1 ≤ g → 4000 * n / g ≤ 128000
+last-small n g a b = omega (arith, div-mul-le-self (4000 * n) g, mul-le-mul-left (4000 * n / g) b)
+
+pub work-small : (n last : ℕ) → n ≤ 32 → last ≤ 128000 → (n + 1) * (last + 1) ≤ 4224033
+work-small n last a b = omega (arith, mul-le-mul-right {m = n + 1} {n = 33} (last + 1) (omega arith))
+
+module _ (s : List ℕ) (planLength workLength : ℕ) where
+  -- A refusal of the set is this call's.
+  pub set-refused : (r : Refusal) → SetAnswers listHead listExtra s (NotGood r) → ReadyAnswers s planLength workLength (NotGood r)
+  set-refused r h =
+      refuses-front (setChecks listHead listExtra s) (check 5 (IsShort (workNeeded s) workLength) ∷ check 6 (IsShort (taskCount listHead s) planLength) ∷ []) (number r) (second r) h
+
+  module _ (m n l : ℕ) (good : SetAnswers listHead listExtra s (Good m n l)) where
+    set : IsSet listHead listExtra s
+    set = set-of listHead listExtra s (good .0)
+
+    pub slack-range : (1 ≤ slack s) × (slack s ≤ 1000)
+    unfolding headKind allows
+    slack-range = between-true 1 1000 (slack s) (set .whole .head-word 0 (omega arith))
+
+    pub tasks-few : n ≤ 32
+    tasks-few = omega (arith, good .2, set .whole .tasks-range .1)
+
+    pub some-words : 0 < length s
+    some-words = omega (arith, set .whole .size)
+
+    module _ (w : ℕ) (is : w ≡ workWords n (slack s)) where
+      needed : w ≡ workNeeded s
+      needed = rw (← good .2) is
+
+      pub work-short : workLength < w → ReadyAnswers s planLength workLength (NotGood (WorkShort w))
+      work-short h =
+          refuses-back (setChecks listHead listExtra s) (check 5 (IsShort (workNeeded s) workLength) ∷ check 6 (IsShort (taskCount listHead s) planLength) ∷ []) 5 w (good .0)
+          (inl (refl, (rw (← needed) h, needed)))
+
+      module _ (enough : w ≤ workLength) where
+        five : (k : ℕ) → IsShort (workNeeded s) workLength k → ⊥
+        five k h = omega (arith, h .0, needed)
+
+        pub plan-short : planLength < n → ReadyAnswers s planLength workLength (NotGood (TooShort n))
+        plan-short h =
+            refuses-back (setChecks listHead listExtra s) (check 5 (IsShort (workNeeded s) workLength) ∷ check 6 (IsShort (taskCount listHead s) planLength) ∷ []) 6 n (good .0)
+            (inr (five, inl (refl, (omega (arith, good .2), good .2))))
+
+        pub is-ready : n ≤ planLength → ReadyAnswers s planLength workLength (Good m n l)
+        is-ready h = (
+          accepts-join (setChecks listHead listExtra s) (check 5 (IsShort (workNeeded s) workLength) ∷ check 6 (IsShort (taskCount listHead s) planLength) ∷ []) (good .0)
+              (five, ((λ k x. omega (arith, x .0, good .2)), tt)),
+          good .1,
+          good .2,
+          good .3,
+        )
