@@ -21,7 +21,7 @@ use Rattle.selection.proofs.Compute.{trace, leastEnergy, choose, usedFrom, used
 use Rattle.taskset.specs.Words.{listHead, listExtra, slack, rateCount, taskCount, headKind, taskKind, kindAt, allows}
 use Rattle.taskset.specs.Quantities.{hyperPeriod, problem, workNeeded}
 use Rattle.taskset.specs.Refusals.{number, second, check, Accepts, setChecks, readyChecks, walkChecks, IsShort, NoneOk}
-use Rattle.taskset.specs.Calls.{plannerReturns, walkReturns, plannerValues, walkValues, SetAnswers, PlannerGives, WalkAnswers}
+use Rattle.taskset.specs.Calls.{code, plannerValues, walkValues, SetAnswers, PlannerGives, WalkAnswers}
 use Rattle.taskset.specs.declared.Refusal.{Refusal}
 use Rattle.taskset.specs.declared.Refusal.the-variants.{BadWord, NotAbove, TooLong, WorkShort, TooShort, NoPlan, BadPlan}
 use Rattle.taskset.specs.declared.Checked.{Checked}
@@ -183,7 +183,7 @@ pub record Cases : Type 0 where
   plan-list-1 : (plan work : List ℕ) → length plan ≡ 1 → length work ≡ 243 → PlannerGives (S 100) plan work plan work (NotPlanned (TooShort 2))
   tie : (plan work : List ℕ) → length plan ≡ 2 → length work ≡ 243 → PlannerGives even-tasks plan work (2 ∷ 1 ∷ []) (replicate 243 0) (Planned 1 4 4 6)
   -- What C is given: 0 and the values, or the refusal's number and second number in one.
-  returns : (plannerReturns (Planned 1 29 30 41) ≡ 0) × (plannerReturns (NotPlanned (WorkShort 243)) ≡ 21474836723) × (walkReturns (NotWalked (BadPlan 1)) ≡ 34359738369)
+  returns : (code (WorkShort 243) ≡ 21474836723) × (code (BadPlan 1) ≡ 34359738369)
   values : (plannerValues (Planned 1 29 30 41) ≡ 1 ∷ 29 ∷ 30 ∷ 41 ∷ []) × (walkValues (Kept 29 1 1) ≡ 1 ∷ 29 ∷ 1 ∷ 1 ∷ []) × (walkValues (Missed 15 2) ≡ 0 ∷ 15 ∷ 2 ∷ 0 ∷ [])
   -- A plan that is short, two that are long, and none at all, for a walk of two tasks.
   short-plan : WalkAnswers (S 100) (1 ∷ []) (NotWalked (BadPlan 1))
@@ -217,7 +217,7 @@ cases = record {
   long-bad-plan = plan-refused (S 100) 3 2 30 refl (1 ∷ 1 ∷ 9 ∷ 9 ∷ []) 2 refl;
   plan-list-1 = λ plan work p q. plan-short (S 100) 3 2 30 refl plan work (omega arith) (omega arith);
   tie = planned even-tasks 2 2 4 refl (2 ∷ 1 ∷ []) 0 1 4 6 (le-by-compare _ _ tt) (le-by-compare _ _ tt) refl refl refl refl refl refl;
-  returns = (refl, refl, refl);
+  returns = (refl, refl);
   values = (refl, refl, refl);
   empty-plan = plan-refused (S 100) 3 2 30 refl [] 0 refl;
 }

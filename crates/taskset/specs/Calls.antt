@@ -24,15 +24,6 @@ use Rattle.taskset.specs.declared.CopyAnswer.the-variants.{Wrote, Refuse
 abbrev pub code : Refusal → ℕ
 code r = number r * 2 ^ 32 + second r
 
-abbrev pub plannerReturns : PlannerAnswer → ℕ
-plannerReturns (Planned unit load hyper energy) = 0
-plannerReturns (NotPlanned r) = code r
-
-abbrev pub walkReturns : WalkAnswer → ℕ
-walkReturns (Kept busy idle preempted) = 0
-walkReturns (Missed tick task) = 0
-walkReturns (NotWalked r) = code r
-
 -- "unit, load, L, energy; for the walk 1, busy, idle, preemptions, or 0, tick, task, 0."
 abbrev pub plannerValues : PlannerAnswer → List ℕ
 plannerValues (Planned unit load hyper energy) = unit ∷ load ∷ hyper ∷ energy ∷ []

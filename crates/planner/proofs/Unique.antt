@@ -1,0 +1,22 @@
+-- Two answers of checks 2 to 6 are equal.
+-- Assumes nothing.
+use Prim.Native.Nat.{ℕ}
+use mathlib.Core.Path.{_≡_, sym, ap, _∙_}
+use mathlib.Core.List.{List}
+use Rattle.taskset.specs.Words.{listHead, listExtra}
+use Rattle.taskset.specs.Refusals.{number, second, readyChecks}
+use Rattle.taskset.specs.declared.Checked.{Checked}
+use Rattle.taskset.specs.declared.Checked.the-variants.{Good, Refused as NotGood}
+use Rattle.taskset.proofs.Checks.{AllSingle, lowest-single, too-long-single, not-both}
+use Rattle.taskset.proofs.Unique.{refusal-unique}
+use Rattle.planner.specs.Ready.{ReadyAnswers}
+
+ready-single : (s : List ℕ) (planLength workLength : ℕ) → AllSingle (readyChecks s planLength workLength)
+ready-single s pl wl =
+    (lowest-single, (lowest-single, (too-long-single listHead listExtra s, ((λ j k a b. a .1 ∙ sym (b .1)), ((λ j k a b. a .1 ∙ sym (b .1)), tt)))))
+
+pub ready-unique : (s : List ℕ) (planLength workLength : ℕ) (a b : Checked) → ReadyAnswers s planLength workLength a → ReadyAnswers s planLength workLength b → a ≡ b
+ready-unique s pl wl (Good m n l) (Good m′ n′ l′) x y = cc (x .1, y .1, x .2, y .2, x .3, y .3)
+ready-unique s pl wl (Good m n l) (NotGood r) x y = absurd (not-both (readyChecks s pl wl) (number r) (second r) (x .0) y)
+ready-unique s pl wl (NotGood r) (Good m n l) x y = absurd (not-both (readyChecks s pl wl) (number r) (second r) (y .0) x)
+ready-unique s pl wl (NotGood q) (NotGood r) x y = ap NotGood (refusal-unique (readyChecks s pl wl) (ready-single s pl wl) q r x y)
