@@ -1,10 +1,11 @@
 -- The smallest power of two not below a number: there is one, and only one.
 -- Assumes nothing.
-use Prim.Native.Nat.{ℕ, zero, suc, _^_, _≤_, _<_}
-use mathlib.Core.Path.{_≡_, refl}
+use Prim.Native.Nat.{ℕ, zero, suc, _+_, _*_, _^_, _≤_, _<_}
+use mathlib.Core.Path.{_≡_, refl, ap}
 use mathlib.Core.Bool.{Bool}
 use mathlib.Core.Logic.{⊎-elim}
-use native.Mathlib.Nat.{one-le-pow, le-antisymm}
+use native.Mathlib.Nat.{one-le-pow, le-antisymm, eq-or-lt-of-le, pow-succ'}
+use native.Mathlib.Numerals.{add-one}
 use native.Mathlib.Omega.{arith}
 use lib.Dec.{leb}
 use borrow.Author.Tests.{leb-true, leb-false}
@@ -46,3 +47,25 @@ exponent-is x =
 -- "1 if that energy is 0".
 pub power-of-none : (e : ℕ) → LeastPower 0 e → 2 ^ e ≡ 1
 power-of-none e h = let z : e ≡ 0 = omega (arith, h .smallest 0 (omega arith)) in rw z refl
+
+-- Doubling from 1 on: v is 2 ^ a, and no smaller power reaches x.
+pub record Doubled (x a v : ℕ) : Type 0 where
+  pub power : v ≡ 2 ^ a
+  pub smallest : (b : ℕ) → x ≤ 2 ^ b → a ≤ b
+
+module _ {x a v : ℕ} (d : Doubled x a v) where
+  pub doubled-positive : 0 < v
+  doubled-positive = rw (d .power) (power-positive a)
+
+  pub doubled-turn : v < x → Doubled x (a + 1) (v * 2)
+  doubled-turn l = record {
+    power = rw (add-one a) (omega (arith, d .power, pow-succ' 2 a));
+    smallest = λ b h.
+        ⊎-elim
+        (λ (e : a ≡ b). absurd (omega (arith, d .power, ap (λ (n : ℕ). 2 ^ n) e)))
+        (λ (e : a < b). omega arith)
+        (eq-or-lt-of-le (d .smallest b h));
+  }
+
+  pub doubled-end : x ≤ v → LeastPower x a × (v ≡ 2 ^ a)
+  doubled-end l = (record { enough = rw (← d .power) l; smallest = d .smallest }, d .power)

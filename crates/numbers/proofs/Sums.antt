@@ -1,7 +1,7 @@
 -- Sums over the tasks of a plan, over a stretch of ticks, and over a list.
 -- Assumes nothing.
 use Prim.Native.Nat.{ℕ, zero, suc, _+_, _*_, _≤_, _<_}
-use mathlib.Core.Path.{_≡_, refl, sym, ap, _∙_}
+use mathlib.Core.Path.{_≡_, refl, sym, ap, ap₂, _∙_}
 use mathlib.Core.List.{List, [], _∷_, map}
 use native.Mathlib.Nat.{add-zero, zero-add, add-suc, suc-add}
 use native.Mathlib.Omega.{arith}
@@ -22,6 +22,11 @@ pub total-mono : (f g : ℕ → ℕ → ℕ) (n : ℕ) (P Q : List ℕ) → ((t 
 unfolding total
 total-mono f g zero P Q h = omega arith
 total-mono f g (suc n) P Q h = omega (arith, total-mono f g n P Q (λ t l. h t (omega arith)), h n (omega arith))
+
+pub total-same : (f g : ℕ → ℕ → ℕ) (n : ℕ) (P Q : List ℕ) → ((t : ℕ) → t < n → f t (getD P t 0) ≡ g t (getD Q t 0)) → total f n P ≡ total g n Q
+unfolding total
+total-same f g zero P Q h = refl
+total-same f g (suc n) P Q h = ap₂ _+_ (total-same f g n P Q (λ t l. h t (omega arith))) (h n (omega arith))
 
 pub total-scale : (f : ℕ → ℕ → ℕ) (d n : ℕ) (P : List ℕ) → total (λ t r. d * f t r) n P ≡ d * total f n P
 unfolding total

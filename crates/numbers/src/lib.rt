@@ -2,7 +2,8 @@
 // powers of two. specs/ defines each once, proofs/ has its laws, and here is the code that works one out. Tasks, words and
 // times are left to the crates above.
 ghost use mathlib.Core.Path.{_≡_};
-ghost use Rattle.numbers.specs.Numbers.{gcd};
+ghost use Prim.Native.Nat.{_^_, _≤_};
+ghost use Rattle.numbers.specs.Numbers.{gcd, LeastPower};
 
 // The greatest common divisor, by Euclid's division: the second number falls at each turn.
 pub fn common_divisor(x: u64, y: u64) -> u64
@@ -16,4 +17,27 @@ pub fn common_divisor(x: u64, y: u64) -> u64
         b = r;
     }
     a
+}
+
+// A power of two.
+pub struct Power {
+    pub exponent: u32,
+    pub value: u64,
+}
+
+// The smallest power of two not below x.
+pub fn least_power(x: u64) -> Power
+    requires { ⌜ x ≤ 2 ^ 63 ⌝ }
+    ensures { λ r. ⌜ LeastPower x (r .exponent) × (r .value ≡ 2 ^ (r .exponent)) ⌝ }
+{
+    let mut a: u32 = 0;
+    let mut v: u64 = 1;
+    while v < x {
+        v = v * 2;
+        a += 1;
+    }
+    Power {
+        exponent: a,
+        value: v,
+    }
 }

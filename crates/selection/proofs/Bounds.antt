@@ -5,7 +5,7 @@ use Prim.Native.Nat.{ℕ, suc, _+_, _*_, _-_, _/_, _^_, _≤_, _<_}
 use mathlib.Core.Path.{_≡_, refl}
 use mathlib.Core.List.{List}
 use mathlib.Core.Logic.{_⊎_, inl, inr}
-use native.Mathlib.Nat.{mul-le-mul-left, mul-le-mul-right, le-div-iff-mul-le, pow-succ'}
+use native.Mathlib.Nat.{div-mul-le-self, mul-le-mul-left, mul-le-mul-right, le-div-iff-mul-le, pow-succ'}
 use native.Mathlib.Omega.{arith}
 use lib.ListN.{getD}
 use Rattle.numbers.specs.Numbers.{LeastPower}
@@ -38,10 +38,17 @@ module _ (p : Problem) (d : ℕ) (pos : 0 < d) where
       rw (← total-scale (roundedTask p d) d (p .count) P, ← total-plus (p .energy) (d - 1) (p .count) P)
       (total-mono (λ t r. d * roundedTask p d t r) (λ t r. p .energy t r + (d - 1)) (p .count) P P (λ t l. rounded-task-over t (getD P t 0)))
 
-  rounded-half : (P : List ℕ) → rounded p d P ≤ 2 * rounded p (2 * d) P
+  pub rounded-half : (P : List ℕ) → rounded p d P ≤ 2 * rounded p (2 * d) P
   rounded-half P =
       rw (← total-scale (roundedTask p (2 * d)) 2 (p .count) P)
       (total-mono (roundedTask p d) (λ t r. 2 * roundedTask p (2 * d) t r) (p .count) P P (λ t l. rounded-task-half t (getD P t 0)))
+
+  -- At a unit not below the plan's energy every task rounds to 1 at most.
+  pub rounded-small : (P : List ℕ) → planEnergy p P ≤ d → rounded p d P ≤ p .count
+  rounded-small P h =
+      let each : (t : ℕ) → t < p .count → roundedTask p d t (getD P t 0) ≤ 1
+      = λ t l. rounded-task-small t (getD P t 0) (omega (arith, total-at (p .energy) (p .count) P t l)) in
+      omega (arith, total-bound (roundedTask p d) 1 (p .count) P each)
 
 -- ---- k(d) is one number, and the chosen plan's rounded energy is k(d)
 pub least-unique : (Ok : List ℕ → Type 0) (p : Problem) (d j k : ℕ) → IsLeastOf Ok p d j → IsLeastOf Ok p d k → j ≡ k
@@ -86,12 +93,15 @@ module _ (Ok : List ℕ → Type 0) (p : Problem) where
 
   -- At a unit not below the energy of some Ok plan, k is at most N.
   pub first-small : (d : ℕ) → 0 < d → (k : ℕ) → IsLeastOf Ok p d k → (P : List ℕ) → Ok P → planEnergy p P ≤ d → k ≤ p .count
-  first-small d pos k a P f h =
-      let each : (t : ℕ) → t < p .count → roundedTask p d t (getD P t 0) ≤ 1
-      = λ t l. rounded-task-small p d pos t (getD P t 0) (omega (arith, total-at (p .energy) (p .count) P t l)) in
-      omega (arith, a .least P f, total-bound (roundedTask p d) 1 (p .count) P each)
+  first-small d pos k a P f h = omega (arith, a .least P f, rounded-small p d pos P h)
 
--- F = 4,000 × N / G rounded down: what a table must hold.
+-- F = 4,000 × N / G rounded down: what a table must hold. The words of any table fit a machine word.
+pub last-small : (n g : ℕ) → n ≤ 32 → 1 ≤ g → 4000 * n / g ≤ 128000
+last-small n g a b = omega (arith, div-mul-le-self (4000 * n) g, mul-le-mul-left (4000 * n / g) b)
+
+pub work-small : (n last : ℕ) → n ≤ 32 → last ≤ 128000 → (n + 1) * (last + 1) ≤ 4224033
+work-small n last a b = omega (arith, mul-le-mul-right {m = n + 1} {n = 33} (last + 1) (omega arith))
+
 pub first-in-table : (G N k : ℕ) → 0 < G → G ≤ 1000 → k ≤ N → k ≤ 4000 * N / G
 first-in-table G N k pos small h = le-div-iff-mul-le pos .1 (omega (arith, mul-le-mul-left N small, mul-le-mul-right G h))
 

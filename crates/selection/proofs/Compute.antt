@@ -63,6 +63,20 @@ module _ (S : Type 0) (back : ℕ → ℕ → S → Option S) (load : ℕ → �
             follows = (here, λ s″ q. let y : s″ ≡ s′ = cc in rw y (t .follows));
           }
 
+-- The way back from the first column at which the last row is within the limit is the chosen plan, and that column is k(d).
+module _ (p : Problem) (d k : ℕ) (low : cell p d (p .count) k ≤ p .limit) (over : (e : ℕ) → e < k → p .limit < cell p d (p .count) e) where
+  abbrev traced : List ℕ
+  traced = trace ℕ (spend (roundedTask p d)) (p .load) (p .rates) (suc (p .limit)) (p .count) k []
+
+  traced-chosen : IsChosenOf (Fitting p) p d traced × (rounded p d traced ≡ k)
+  unfolding cell WayBack
+  traced-chosen =
+      let t = trace-is ℕ (spend (roundedTask p d)) (p .load) (p .rates) (suc (p .limit)) (p .count) k [] (omega arith) in
+      way-back-chosen p d k traced low over (omega (arith, t .size)) (t .follows)
+
+  pub column-least : IsLeastOf (Fitting p) p d k
+  column-least = rw (← traced-chosen .1) (chosen-least (Fitting p) p d traced (traced-chosen .0))
+
 -- ---- document 01's selection
 module _ (p : Problem) where
   -- The table's last row is within the limit at column e.
@@ -100,11 +114,8 @@ module _ (p : Problem) where
     none-before d e l = leb-false _ _ (first-before (isDefined d) 0 (rounded p d (fastest p)) e (omega arith) l)
 
     choose-is : (d : ℕ) → IsChosenOf (Fitting p) p d (choose d) × (rounded p d (choose d) ≡ leastEnergy d)
-    unfolding choose cell WayBack
-    choose-is d =
-        let low = least-defined d in
-        let t = trace-is ℕ (spend (roundedTask p d)) (p .load) (p .rates) (suc (p .limit)) (p .count) (leastEnergy d) [] (omega arith) in
-        way-back-chosen p d (leastEnergy d) (choose d) low (none-before d) (omega (arith, t .size)) (t .follows)
+    unfolding choose
+    choose-is d = traced-chosen p d (leastEnergy d) (least-defined d) (none-before d)
 
     least-is : (d : ℕ) → IsLeastOf (Fitting p) p d (leastEnergy d)
     least-is d = rw (← choose-is d .1) (chosen-least (Fitting p) p d (choose d) (choose-is d .0))

@@ -3,6 +3,8 @@ pub mod Fastest
 pub mod Table
 pub mod Choose
 pub mod Cells
+pub mod Agree
 pub mod Unique
+pub mod Same
 pub mod Compute
 pub mod Cases
