@@ -1,0 +1,129 @@
+-- From the unit used and its table to the plan, its sums, and every word of the two lists.
+-- Assumes nothing.
+use Prim.Native.Nat.{ℕ, zero, suc, _+_, _-_, _*_, _^_, _≤_, _<_, zero-le}
+use mathlib.Core.Path.{_≡_, refl, sym, ap, _∙_}
+use mathlib.Core.List.{List, _++_}
+use mathlib.Core.Logic.{⊎-elim}
+use native.Mathlib.Nat.{mul-le-mul-left}
+use native.Mathlib.Omega.{arith}
+use lib.ListN.{length, getD, take, drop, replicate, length-replicate, getD-replicate, length-take, length-drop, length-append, List·getD-append}
+use lib.Seq.{ext-getD, getD-append-add, getD-drop, getD-take}
+use Rattle.numbers.specs.Numbers.{total}
+use Rattle.numbers.proofs.Tests.{lt-or-le}
+use Rattle.numbers.proofs.Sums.{total-same}
+use Rattle.selection.specs.Plan.{Problem, Fitting, IsChosenOf}
+use Rattle.selection.proofs.Bounds.{last-small}
+use Rattle.selection.proofs.Agree.{way-places}
+use Rattle.table.specs.Rows.{optionAt, Written}
+use Rattle.table.specs.Choice.{arrays, lastColumn, tableWords, ChoiceReady, Chose}
+use Rattle.table.specs.Units.{Small, SumReady, WayReady, WayTaken, SearchReady, UnitUsed}
+use Rattle.table.proofs.Trying.{chosen-is}
+
+-- ---- lists from their words
+pub zeros-at : (n k : ℕ) → getD (replicate {A = ℕ} n 0) k 0 ≡ 0
+zeros-at zero k = refl
+zeros-at (suc n) zero = refl
+zeros-at (suc n) (suc k) = zeros-at n k
+
+-- Zeros in the first k places, and the rest as before.
+zeros-list : (k : ℕ) (d₀ d : List ℕ) → k ≤ length d₀ → Written (λ p. 0) 0 k d₀ d → d ≡ replicate k 0 ++ drop k d₀
+zeros-list k d₀ d room w =
+    ext-getD 0 d (replicate k 0 ++ drop k d₀)
+    (w .same ∙ omega (arith, length-append (replicate k 0) (drop k d₀), front, length-drop k d₀))
+    (λ i h.
+    ⊎-elim
+    (λ (x : i < k). w .here i zero-le x ∙ sym (List·getD-append (replicate k 0) (drop k d₀) 0 i (omega (arith, front)) ∙ getD-replicate k i 0 0 x))
+    (λ (x : k ≤ i).
+    w .above i x ∙
+    sym (ap (λ (y : ℕ). getD (replicate k 0 ++ drop k d₀) y 0) (place i x) ∙ getD-append-add (replicate k 0) (drop k d₀) (i - k) 0 ∙ getD-drop k d₀ (i - k) 0 ∙
+    ap (λ (y : ℕ). getD d₀ y 0) (omega arith)))
+    (lt-or-le i k))
+  where
+    front : length (replicate {A = ℕ} k 0) ≡ k
+    front = length-replicate k 0
+
+    place : (i : ℕ) → k ≤ i → i ≡ length (replicate {A = ℕ} k 0) + (i - k)
+    place i x = omega (arith, front)
+
+-- Two lists with the same words from n on.
+rest-same : (n : ℕ) (d₀ d : List ℕ) → length d ≡ length d₀ → ((p : ℕ) → n ≤ p → getD d p 0 ≡ getD d₀ p 0) → drop n d ≡ drop n d₀
+rest-same n d₀ d size same =
+    ext-getD 0 (drop n d) (drop n d₀)
+    (omega (arith, length-drop n d, length-drop n d₀))
+    (λ i h. getD-drop n d i 0 ∙ same (n + i) (omega arith) ∙ sym (getD-drop n d₀ i 0))
+
+-- ---- the choice
+module _ {n m limit slack : ℕ} {loads energies plan₀ work₀ : List ℕ} (g : ChoiceReady n m limit slack loads energies plan₀ work₀) where
+  pub search-ready : SearchReady n m limit slack loads energies (replicate 512 0) (replicate 512 0) work₀
+  search-ready = record {
+    tasks = g .tasks;
+    rates = g .rates;
+    small = g .small;
+    slacks = g .slacks;
+    energies-fit = g .energies-fit;
+    load-size = length-replicate {A = ℕ} 512 0;
+    load-none = zeros-at 512;
+    cost-size = length-replicate {A = ℕ} 512 0;
+    fits = g .fits;
+    work-room = g .work-room;
+  }
+
+  pub last-low : lastColumn n slack ≤ 128000
+  last-low = last-small n slack (g .tasks) (g .slacks .0)
+
+  module _ {load cost work : List ℕ} {unit last k : ℕ} (u : UnitUsed n m limit slack loads energies work₀ load cost work unit last k) where
+    pub way-ready : WayReady (limit + 1) (last + 1) n m k cost load work plan₀
+    way-ready = record {
+      tasks = g .tasks;
+      rates = g .rates .1;
+      small = omega (arith, g .small);
+      loads = u .loads-low;
+      holds = u .holds;
+      place = omega (arith, u .place);
+      some = u .some;
+      room = g .plan-room;
+    }
+
+    -- The table used is no larger than the words that are cleared.
+    pub own-words : (n + 1) * (last + 1) ≤ tableWords n slack
+    own-words = mul-le-mul-left (n + 1) (omega (arith, u .narrow))
+
+    module _ {plan : List ℕ} (w : WayTaken (limit + 1) n m k cost load plan₀ plan) where
+      size : length (take n plan) ≡ n
+      size = omega (arith, length-take n plan, w .same, g .plan-room)
+
+      same : (t : ℕ) → t < n → getD (take n plan) t 0 ≡ getD plan t 0
+      same t l = getD-take n plan t 0 l
+
+      chosen : IsChosenOf (Fitting (arrays n m limit loads energies)) (arrays n m limit loads energies) (2 ^ u .exponent) (take n plan)
+      chosen =
+          chosen-is n m limit loads energies load cost (u .exponent) (g .rates .1) (u .loads-cut) (u .costs) k (u .some) (u .before) (take n plan) size
+          (way-places (optionAt cost) (optionAt load) m (limit + 1) n k plan (take n plan) (λ t l. sym (same t l)) (w .way))
+
+      pub sum-ready : (options : List ℕ) → Small options → SumReady n options plan
+      sum-ready options small = record {
+        tasks = g .tasks;
+        room = omega (arith, w .same, g .plan-room);
+        numbers = λ t l. omega (arith, same t l, chosen .ok .plan .below t l, g .rates .1);
+        small = small;
+      }
+
+      sums : (f : ℕ → ℕ → ℕ) → total f n plan ≡ total f n (take n plan)
+      sums f = total-same f f n plan (take n plan) (λ t l. ap (f t) (sym (same t l)))
+
+      pub chose : {work′ : List ℕ} (l e : ℕ) → l ≡ total (optionAt loads) n plan → e ≡ total (optionAt energies) n plan
+          → Written (λ p. 0) 0 (tableWords n slack) work work′
+          → Chose (arrays n m limit loads energies) slack (tableWords n slack) plan₀ work₀ plan work′ unit l e
+      chose {work′} l e x y z = record {
+        exponent = u .exponent;
+        unit-is = u .unit-is;
+        planned = record { used = u .used; chosen = chosen };
+        load-is = x ∙ sums (optionAt loads);
+        energy-is = y ∙ sums (optionAt energies);
+        rest = rest-same n plan₀ plan (w .same) (w .rest);
+        cleared =
+            zeros-list (tableWords n slack) work₀ work′ (g .work-room)
+            (record { same = z .same ∙ u .work-size; here = z .here; below = λ p h. absurd (omega arith); above = λ p h. z .above p h ∙ u .above p h });
+        plan-size = w .same;
+        work-size = z .same ∙ u .work-size;
+      }

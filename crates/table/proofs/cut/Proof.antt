@@ -1,0 +1,79 @@
+use Prim.Native.Nat.{_≤_, _-_, _*_}
+use native.Mathlib.Omega.{arith}
+use Rattle.table.specs.Rows.{Written}
+use Rattle.table.specs.Units.{cutOf}
+use Rattle.table.proofs.Writing.{written-none, written-more, written-to}
+use borrow.Author.Needs.{needs}
+use Rattle.table.proofs.cut.Statement.{statement}
+use Rattle.table.proofs.cut.Tie as tie
+use Rattle.table.proofs.cut.Reads as reads
+use Rattle.table.proofs.cut.Lts as lts
+use Rattle.table.proofs.cut_one.Reads as cut-one-reads
+
+abbrev Inv-loop : tie.InvT-loop
+Inv-loop loads n cap load₀ end k₀ load k = (k ≤ n * 16) × Written (cutOf loads cap) 0 k load₀ load
+
+abbrev μ-loop : tie.MeasureT-loop
+μ-loop loads n cap load₀ end k₀ load k = n * 16 - k
+
+-- src/lib.rt:192:15
+mul-end : tie.Need-mul-end Inv-loop μ-loop
+mul-end c = search needs
+
+-- src/lib.rt:194:5
+loop-holds : tie.Need-loop-holds Inv-loop μ-loop
+loop-holds c = (omega arith, written-none _ _ _)
+
+-- src/lib.rt:195:27
+mul-cut-one : tie.Need-mul-cut-one Inv-loop μ-loop
+mul-cut-one c = search needs
+
+-- src/lib.rt:195:27
+element-copy-out-cut-one : tie.Need-element-copy-out-cut-one Inv-loop μ-loop
+element-copy-out-cut-one c = search needs
+
+-- src/lib.rt:195:19
+cut-one-requires : tie.Need-cut-one-requires Inv-loop μ-loop
+cut-one-requires c κs = search needs
+
+-- src/lib.rt:195:9
+mul-load : tie.Need-mul-load Inv-loop μ-loop
+mul-load c = search needs
+
+-- src/lib.rt:195:9
+element-write-load : tie.Need-element-write-load Inv-loop μ-loop
+element-write-load c = search needs
+
+-- src/lib.rt:196:9
+add-k : tie.Need-add-k Inv-loop μ-loop
+add-k c = search needs
+
+-- src/lib.rt:194:5
+loop-less : tie.Need-loop-less Inv-loop μ-loop
+loop-less c = search needs
+
+-- src/lib.rt:194:5
+loop-again : tie.Need-loop-again Inv-loop μ-loop
+loop-again c = (omega arith, written-more (c .before .before .before .loop .inv .1) _ (c .cut-one .ensures) (omega arith) (omega arith))
+
+-- src/lib.rt:188:1
+returns : tie.Need-returns Inv-loop μ-loop
+returns c = written-to _ (omega arith) (c .before .loop .inv .1)
+
+pub cut-spec : {M : Type 1} → statement M
+cut-spec =
+    tie.close
+    (tie.spec
+    Inv-loop
+    μ-loop
+    mul-end
+    loop-holds
+    mul-cut-one
+    element-copy-out-cut-one
+    cut-one-requires
+    mul-load
+    element-write-load
+    add-k
+    loop-less
+    loop-again
+    returns)

@@ -1,0 +1,89 @@
+use Rattle.table.proofs.Adding.{unit-positive, unit-low, cost-is}
+use Prim.Native.Nat.{_≤_, _-_, _*_}
+use native.Mathlib.Omega.{arith}
+use Rattle.table.specs.Rows.{Written}
+use Rattle.table.specs.Units.{costOf}
+use Rattle.table.proofs.Writing.{written-none, written-more, written-to}
+use borrow.Author.Needs.{needs}
+use Rattle.table.proofs.round_up.Statement.{statement}
+use Rattle.table.proofs.round_up.Tie as tie
+use Rattle.table.proofs.round_up.Reads as reads
+use Rattle.table.proofs.round_up.Lts as lts
+
+abbrev Inv-loop : tie.InvT-loop
+Inv-loop energies n a unit cost₀ less end k₀ cost k = (k ≤ n * 16) × Written (costOf energies a) 0 k cost₀ cost
+
+abbrev μ-loop : tie.MeasureT-loop
+μ-loop energies n a unit cost₀ less end k₀ cost k = n * 16 - k
+
+-- src/lib.rt:205:16
+sub-less : tie.Need-sub-less Inv-loop μ-loop
+sub-less c = omega (arith, unit-positive (c .pre))
+
+-- src/lib.rt:206:15
+mul-end : tie.Need-mul-end Inv-loop μ-loop
+mul-end c = search needs
+
+-- src/lib.rt:208:5
+loop-holds : tie.Need-loop-holds Inv-loop μ-loop
+loop-holds c = (omega arith, written-none _ _ _)
+
+-- src/lib.rt:209:21
+mul-cost : tie.Need-mul-cost Inv-loop μ-loop
+mul-cost c = search needs
+
+-- src/lib.rt:209:21
+element-copy-out-cost : tie.Need-element-copy-out-cost Inv-loop μ-loop
+element-copy-out-cost c = search needs
+
+-- src/lib.rt:209:21
+add-cost : tie.Need-add-cost Inv-loop μ-loop
+add-cost c = let g = c .before .before .before .pre in omega (arith, unit-low g, unit-positive g, g .small (c .before .before .loop .k))
+
+-- src/lib.rt:209:20
+shr-cost : tie.Need-shr-cost Inv-loop μ-loop
+shr-cost c = search needs
+
+-- src/lib.rt:209:9
+mul-cost-2 : tie.Need-mul-cost-2 Inv-loop μ-loop
+mul-cost-2 c = search needs
+
+-- src/lib.rt:209:9
+element-write-cost : tie.Need-element-write-cost Inv-loop μ-loop
+element-write-cost c = search needs
+
+-- src/lib.rt:210:9
+add-k : tie.Need-add-k Inv-loop μ-loop
+add-k c = search needs
+
+-- src/lib.rt:208:5
+loop-less : tie.Need-loop-less Inv-loop μ-loop
+loop-less c = search needs
+
+-- src/lib.rt:208:5
+loop-again : tie.Need-loop-again Inv-loop μ-loop
+loop-again c = (omega arith, written-more (c .before .before .loop .inv .1) _ (cost-is (c .before .before .before .pre) _) (omega arith) (omega arith))
+
+-- src/lib.rt:201:1
+returns : tie.Need-returns Inv-loop μ-loop
+returns c = written-to _ (omega arith) (c .before .loop .inv .1)
+
+pub round-up-spec : {M : Type 1} → statement M
+round-up-spec =
+    tie.close
+    (tie.spec
+    Inv-loop
+    μ-loop
+    sub-less
+    mul-end
+    loop-holds
+    mul-cost
+    element-copy-out-cost
+    add-cost
+    shr-cost
+    mul-cost-2
+    element-write-cost
+    add-k
+    loop-less
+    loop-again
+    returns)
