@@ -7,7 +7,7 @@ use native.Mathlib.Omega.{arith}
 use lib.ListN.{length}
 use Rattle.numbers.specs.Numbers.{ceil}
 use Rattle.numbers.proofs.Rounding.{ceil-least}
-use Rattle.taskset.specs.Words.{word, periodPlace, rate, period, cycles}
+use Rattle.taskset.specs.Words.{word, periodPlace, energyPlace, rate, period, cycles, energy}
 use Rattle.taskset.specs.Steps.{OfTask}
 use Rattle.taskset.proofs.Sets.{set-of}
 
@@ -16,8 +16,10 @@ pub record Located (head extra m t : ℕ) (s : List ℕ) : Type 0 where
   pub few-tasks : t ≤ 32
   pub inside : periodPlace head extra m t + 2 ≤ length s
   pub rates-inside : head + m < length s
+  pub energies-inside : (r : ℕ) → r ≤ m → energyPlace head extra m t r < length s
   pub period-is : word s (periodPlace head extra m t) ≡ period head extra s t
   pub cycles-is : word s (periodPlace head extra m t + 1) ≡ cycles head extra s t
+  pub energy-is : (r : ℕ) → word s (energyPlace head extra m t r) ≡ energy head extra s t r
   pub cycles-range : (1 ≤ cycles head extra s t) × (cycles head extra s t ≤ 4000000000)
   pub rate-range : (r : ℕ) → 1 ≤ r → r ≤ m → (1 ≤ rate head extra s r) × (rate head extra s r ≤ 1000000)
 
@@ -31,8 +33,10 @@ located {head} {extra} {m} {t} {s} o =
       few-tasks = omega (arith, o .task, w .tasks-range .1);
       inside = omega arith;
       rates-inside = omega (arith, w .size);
+      energies-inside = λ r l. w .in-list t (1 + extra + r) (o .task) (omega arith);
       period-is = refl;
       cycles-is = refl;
+      energy-is = λ r. refl;
       cycles-range = w .cycles-range t (o .task);
       rate-range = w .rate-range;
     })

@@ -34,6 +34,11 @@ pub refuses-back : (cs ds : List Check) (n k : ℕ) → Accepts cs → Refuses d
 refuses-back [] ds n k a r = r
 refuses-back (c ∷ cs) ds n k a r = inr (a .0, refuses-back cs ds n k (a .1) r)
 
+-- Where the first checks pass, a refusal is one of the rest.
+pub refuses-rest : (cs ds : List Check) (n k : ℕ) → Accepts cs → Refuses (cs ++ ds) n k → Refuses ds n k
+refuses-rest [] ds n k a r = r
+refuses-rest (c ∷ cs) ds n k a r = ⊎-elim (λ h. absurd (a .0 k (h .1))) (λ h. refuses-rest cs ds n k (a .1) (h .1)) r
+
 -- A refusal whose number no check but the last has is the last's, after all others have passed.
 abbrev pub Without : ℕ → List Check → Type 0
 Without n [] = Unit {0}

@@ -5,7 +5,7 @@
 use Prim.Native.Nat.{ℕ, _+_, _≤_, _<_}
 use mathlib.Core.Path.{_≡_, refl, subst}
 use mathlib.Core.Bool.{true, false}
-use mathlib.Core.List.{List, [], _∷_}
+use mathlib.Core.List.{List, [], _∷_, _++_}
 use mathlib.Core.Logic.{inl, inr, ⊎-elim, _↔_}
 use native.Mathlib.Omega.{arith}
 use lib.ListN.{length, getD}
@@ -16,27 +16,22 @@ use Rattle.schedule.specs.Counted.{Outcome, IsKept, walk, kept, missed}
 use Rattle.schedule.proofs.Finite.{kept-iff-keeps, kept-counts}
 use Rattle.selection.specs.Plan.{Fitting, IsPlan, planLoad}
 use Rattle.selection.proofs.Bounds.{planned-within}
-use Rattle.taskset.specs.Words.{listHead, listExtra, slack, rateCount, taskCount, headKind, allows}
-use Rattle.taskset.specs.Quantities.{hyperPeriod, problem, tasks, reportedEnergy}
-use Rattle.taskset.specs.Refusals.{number, second, Check, check, Accepts, Refuses, setChecks, readyChecks, plannerChecks, NoneOk, PlanFault, IsBadPlan}
+use Rattle.taskset.specs.Words.{listHead, listExtra, slack, rateCount, taskCount}
+use Rattle.taskset.specs.Quantities.{hyperPeriod, problem, tasks, reportedEnergy, workNeeded}
+use Rattle.taskset.specs.Refusals.{number, second, IsShort, Check, check, Accepts, Refuses, setChecks, NoneOk, PlanFault, IsBadPlan}
 use Rattle.taskset.specs.Calls.{plannerValues, Selected, PlannerGives, outcomeValues, WalkAnswers}
 use Rattle.taskset.specs.DemandThree.{Keeps, PlanPromise, NoneKeeps, PlannerOwes, WalkOwes}
-use Rattle.taskset.specs.declared.Refusal.{Refusal}
 use Rattle.taskset.specs.declared.PlannerAnswer.{PlannerAnswer}
 use Rattle.taskset.specs.declared.PlannerAnswer.the-variants.{Planned, Refused as NotPlanned}
 use Rattle.taskset.specs.declared.WalkAnswer.{WalkAnswer}
 use Rattle.taskset.specs.declared.WalkAnswer.the-variants.{Kept, Missed, Refused as NotWalked}
-use Rattle.taskset.proofs.Checks.{no-plan-fault, Without, accepts-front, refuses-last, refuses-back, refuses-unique}
-use Rattle.taskset.proofs.Unique.{planner-single}
+use Rattle.taskset.proofs.Checks.{no-plan-fault, Without, accepts-front, refuses-last, refuses-back, refuses-rest}
+use Rattle.taskset.proofs.Whole.{slack-in}
 use Rattle.taskset.proofs.Sets.{IsSet, set-of, regular, walk-load, keeps-iff-load}
 
 module _ (s : List ℕ) (passes : Accepts (setChecks listHead listExtra s)) where
   set : IsSet listHead listExtra s
   set = set-of listHead listExtra s passes
-
-  slack-range : (1 ≤ slack s) × (slack s ≤ 1000)
-  unfolding headKind allows
-  slack-range = between-true 1 1000 (slack s) (set .whole .head-word 0 (omega arith))
 
   -- A plan keeps every deadline for ever exactly when it fits.
   pub keeps-iff-fits : (Q : List ℕ) → Keeps s Q ↔ Fitting (problem s) Q
@@ -55,7 +50,7 @@ module _ (s : List ℕ) (passes : Accepts (setChecks listHead listExtra s)) wher
         own = own;
         within = λ Q k.
             rw own
-            (planned-within (Fitting (problem s)) (problem s) (slack s) (c .exponent) (slack-range .1) P (c .planned) Q (keeps-iff-fits Q .0 k));
+            (planned-within (Fitting (problem s)) (problem s) (slack s) (c .exponent) (slack-in listHead listExtra s (omega arith) (set .whole) .1) P (c .planned) Q (keeps-iff-fits Q .0 k));
       }
 
   -- No plan fits exactly when no plan keeps every deadline for ever.
@@ -73,44 +68,53 @@ module _ (s : List ℕ) (passes : Accepts (setChecks listHead listExtra s)) wher
       let c = kept-counts (tasks s P) (hyperPeriod listHead listExtra s) (set .hyper-range .0) (regular listHead listExtra s set P) busy idle preempted e in
       (omega (arith, c .busy-is-load, walk-load listHead listExtra s set P), c .rest-is-idle)
 
--- The planner refuses with 7 exactly when checks 2 to 6 pass and no plan keeps every deadline for ever.
-module _ (s : List ℕ) (pl wl : ℕ) where
+-- A call that checks 2, 3 and 4 first, then others, cs, and 7 last, refuses with 7 exactly when all before it pass and no plan keeps every
+-- deadline for ever.
+module _ (s : List ℕ) (cs : List Check) (others : Without 7 cs) where
   abbrev last : Check
   last = check 7 (NoneOk (Fitting (problem s)))
 
-  passes-set : Accepts (readyChecks s pl wl) → Accepts (setChecks listHead listExtra s)
-  passes-set a = (a .0, (a .1 .0, (a .1 .1 .0, tt)))
+  abbrev before : List Check
+  before = setChecks listHead listExtra s ++ cs
 
-  others : Without 7 (readyChecks s pl wl)
-  others = ((λ e. omega arith), ((λ e. omega arith), ((λ e. omega arith), ((λ e. omega arith), ((λ e. omega arith), tt)))))
+  passes-set : Accepts before → Accepts (setChecks listHead listExtra s)
+  passes-set = accepts-front (setChecks listHead listExtra s) cs
 
-  pub refused-7-iff : Refuses (plannerChecks s pl wl) 7 0 ↔ (Accepts (readyChecks s pl wl) × NoneKeeps s)
+  refused-7 : (k : ℕ) → Refuses (before ++ (last ∷ [])) 7 k → Accepts before × NoneKeeps s
+  refused-7 k r =
+      let l = refuses-last before last 7 k ((λ e. omega arith), ((λ e. omega arith), ((λ e. omega arith), others))) r in
+      (l .0, none-fits-iff-none-keeps s (passes-set (l .0)) .0 (refl, l .1 .1))
+
+  pub refused-7-iff : Refuses (before ++ (last ∷ [])) 7 0 ↔ (Accepts before × NoneKeeps s)
   refused-7-iff = (
-    λ r.
-        let l = refuses-last (readyChecks s pl wl) last 7 0 others r in
-        (l .0, none-fits-iff-none-keeps s (passes-set (l .0)) .0 (l .1)),
-    λ h. refuses-back (readyChecks s pl wl) (last ∷ []) 7 0 (h .0) (inl (refl, none-fits-iff-none-keeps s (passes-set (h .0)) .1 (h .1))),
+    refused-7 0,
+    λ h. refuses-back before (last ∷ []) 7 0 (h .0) (inl (refl, none-fits-iff-none-keeps s (passes-set (h .0)) .1 (h .1))),
   )
 
-  -- Of a refusal that is the planner's: its number is 7 in that case and in no other.
-  refusal-owes : (r : Refusal) → Refuses (plannerChecks s pl wl) (number r) (second r) → (number r ≡ 7) ↔ (Accepts (readyChecks s pl wl) × NoneKeeps s)
-  refusal-owes r h = (
-    λ e. refused-7-iff .0 (seven e),
-    λ w. refuses-unique (plannerChecks s pl wl) (planner-single s pl wl) (number r) (second r) 7 0 h (refused-7-iff .1 w) .0,
+  -- So the number of any refusal is 7 in that case, then with 0, and in no other.
+  pub refusal-owes : (n k : ℕ) → Refuses (before ++ (last ∷ [])) n k
+      → (n ≡ 7 → Accepts before × NoneKeeps s) × (Accepts before × NoneKeeps s → (n ≡ 7) × (k ≡ 0))
+  refusal-owes n k h = (
+    λ e. refused-7 k (subst (λ (x : ℕ). Refuses (before ++ (last ∷ [])) x k) e h),
+    λ w. ⊎-elim (λ x. (x .0, x .1 .0)) (λ x. absurd (x .1)) (refuses-rest before (last ∷ []) n k (w .0) h),
   )
-    where
-      seven : number r ≡ 7 → Refuses (plannerChecks s pl wl) 7 0
-      seven e =
-          let k = refuses-last (readyChecks s pl wl) last 7 (second r) others (subst (λ (n : ℕ). Refuses (plannerChecks s pl wl) n (second r)) e h) in
-          subst (λ (n : ℕ). Refuses (plannerChecks s pl wl) 7 n) (k .1 .0) (subst (λ (n : ℕ). Refuses (plannerChecks s pl wl) n (second r)) e h)
 
 -- Whatever meets the planner's definition keeps what demand 3 asks of it.
-pub answer-owes : (s plan work plan′ work′ : List ℕ) (a : PlannerAnswer) → PlannerGives s plan work plan′ work′ a → PlannerOwes s plan work plan′ a
-answer-owes s plan work plan′ work′ (Planned unit load hyper energy) g =
-    rw (g .1 .2 .front)
-    (plan-given s (passes-set s (length plan) (length work) (accepts-front (readyChecks s (length plan) (length work)) (last s (length plan) (length work) ∷ []) (g .0)))
-    (g .1 .0) unit load hyper energy (g .1 .1))
-answer-owes s plan work plan′ work′ (NotPlanned r) g = refusal-owes s (length plan) (length work) r (g .0)
+module _ (s plan work : List ℕ) where
+  -- Checks 5 and 6.
+  abbrev lengths : List Check
+  lengths = check 5 (IsShort (workNeeded s) (length work)) ∷ check 6 (IsShort (taskCount listHead s) (length plan)) ∷ []
+
+  not-7 : Without 7 lengths
+  not-7 = ((λ e. omega arith), ((λ e. omega arith), tt))
+
+  pub answer-owes : (plan′ work′ : List ℕ) (a : PlannerAnswer) → PlannerGives s plan work plan′ work′ a → PlannerOwes s plan work plan′ a
+  answer-owes plan′ work′ (Planned unit load hyper energy) g =
+      rw (g .1 .2 .front)
+      (plan-given s (accepts-front (setChecks listHead listExtra s) (lengths ++ (last s lengths not-7 ∷ [])) (g .0)) (g .1 .0) unit load hyper energy (g .1 .1))
+  answer-owes plan′ work′ (NotPlanned r) g =
+      let owes = refusal-owes s lengths not-7 (number r) (second r) (g .0) in
+      (owes .0, (λ w. owes .1 w .0))
 
 -- ---- the walk's answer
 -- An outcome is known by its values.

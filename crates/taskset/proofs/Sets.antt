@@ -1,24 +1,24 @@
 -- What a list that passes checks 2, 3 and 4 is: a set, with every fact that its users want; and 'fits' means 'keeps every deadline
 -- for ever'.
 -- Assumes nothing.
-use Prim.Native.Nat.{ℕ, zero, suc, _+_, _-_, _≤_, _<_, _∣_}
+use Prim.Native.Nat.{ℕ, zero, suc, _+_, _-_, _/_, _≤_, _<_, _∣_}
 use mathlib.Core.Path.{_≡_, sym, _∙_}
 use mathlib.Core.List.{List}
 use mathlib.Core.Logic.{_↔_, ⊎-elim}
-use native.Mathlib.Nat.{mul-le-mul-left, mod-eq-zero-of-dvd}
+use native.Mathlib.Nat.{mul-le-mul, mul-le-mul-left, div-le-self, mod-eq-zero-of-dvd}
 use native.Mathlib.Omega.{arith}
 use lib.ListN.{getD}
 use Rattle.numbers.proofs.Tests.{lt-or-le}
 use Rattle.numbers.proofs.Rounding.{ceil-falls, ceil-positive}
-use Rattle.numbers.proofs.Sums.{sum, All, total-over}
+use Rattle.numbers.proofs.Sums.{sum, All, total-bound, total-over}
 use Rattle.numbers.proofs.Multiples.{running-positive, running-divides, running-least}
 use Rattle.schedule.specs.Walk.{KeepsForEver}
 use Rattle.schedule.proofs.Demand.{load}
 use Rattle.schedule.proofs.Periodic.{Regular, keeps-iff-fits, tasks-regular, tasks-load}
-use Rattle.selection.specs.Plan.{planLoad}
+use Rattle.selection.specs.Plan.{IsPlan, planLoad, planEnergy}
 use Rattle.selection.proofs.Fastest.{Falling}
 use Rattle.taskset.specs.Words.{rateCount, taskCount, ratePlace, rate, period}
-use Rattle.taskset.specs.Quantities.{hyperLimit, jobTime, hyperPeriod, taskLoad, problemOf, tasksOf}
+use Rattle.taskset.specs.Quantities.{hyperLimit, jobTime, hyperPeriod, taskLoad, taskEnergy, problemOf, tasksOf}
 use Rattle.taskset.specs.Refusals.{RateFault, PassesLimit, Accepts, setChecks}
 use Rattle.taskset.proofs.Checks.{no-word-fault, no-rate-fault, none-passes}
 use Rattle.taskset.proofs.Whole.{IsWhole, whole-of}
@@ -77,6 +77,20 @@ module _ (head extra : ℕ) (s : List ℕ) where
     -- Every job takes at least one tick.
     pub job-time-positive : (t r : ℕ) → t < taskCount head s → 1 ≤ r → r ≤ rateCount head s → 1 ≤ jobTime head extra s t r
     job-time-positive t r l a b = ceil-positive _ _ (set .whole .cycles-range t l .0) (set .whole .rate-range r a b .0)
+
+    -- Energies: at most 10,000,000 jobs of at most 1,000,000 microjoules for each of at most 32 tasks.
+    pub task-energy-small : (t r : ℕ) → t < taskCount head s → 1 ≤ r → r ≤ rateCount head s → taskEnergy head extra s t r ≤ 10000000000000
+    task-energy-small t r l a b =
+        let jobs : hyperPeriod head extra s / period head extra s t ≤ 10000000 = omega (arith, div-le-self (hyperPeriod head extra s) (period head extra s t), set .hyper-range .1) in
+        omega (arith, mul-le-mul jobs (set .whole .energy-range t r l a b .1))
+
+    pub plan-energy-small : (P : List ℕ) → IsPlan (problemOf head extra s) P → planEnergy (problemOf head extra s) P ≤ 320000000000000
+    plan-energy-small P p =
+        omega (
+          arith,
+          total-bound (taskEnergy head extra s) 10000000000000 (taskCount head s) P (λ t l. task-energy-small t (getD P t 0) l (p .above t l) (p .below t l)),
+          set .whole .tasks-range .1,
+        )
 
     -- The walk's tasks under a list of rate numbers.
     pub regular : (P : List ℕ) → All (Regular (hyperPeriod head extra s)) (tasksOf head extra s P)

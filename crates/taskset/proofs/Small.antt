@@ -3,18 +3,21 @@
 use Prim.Native.Nat.{ℕ, _≤_, _<_, _^_}
 use mathlib.Core.Path.{_≡_, refl, sym, subst}
 use mathlib.Core.Bool.{true, false}
-use mathlib.Core.List.{List}
+use mathlib.Core.List.{List, [], _∷_, _++_}
 use mathlib.Core.Logic.{inl, inr, ⊎-elim}
 use native.Mathlib.Omega.{arith}
 use lib.ListN.{length}
 use Rattle.numbers.proofs.Tests.{bool-cases, lt-or-le, between-true}
-use Rattle.taskset.specs.Words.{word, listHead, listExtra, rateCount, taskCount, wordCount, taskCountPlace, kindAt, allows}
-use Rattle.taskset.specs.Refusals.{IsBadWord, IsNotAbove, IsTooLong, IsBadPlan, Refuses, walkChecks}
+use Rattle.selection.specs.Plan.{Fitting}
+use Rattle.selection.proofs.Bounds.{last-small, work-small}
+use Rattle.taskset.specs.Words.{word, slack, listHead, listExtra, rateCount, taskCount, wordCount, taskCountPlace, kindAt, allows}
+use Rattle.taskset.specs.Quantities.{workNeeded, problem}
+use Rattle.taskset.specs.Refusals.{IsBadWord, IsNotAbove, IsTooLong, IsShort, NoneOk, IsBadPlan, Check, check, Refuses, setChecks, plannerChecks, walkChecks}
 use Rattle.taskset.specs.declared.Kind.{Kind}
 use Rattle.taskset.specs.declared.Kind.the-variants.{RateCount, TaskCount}
 use Rattle.taskset.proofs.Checks.{no-word-fault}
 use Rattle.taskset.proofs.Places.{kind-rates, kind-tasks, kind-past}
-use Rattle.taskset.proofs.Whole.{IsWhole, whole-of, task-words}
+use Rattle.taskset.proofs.Whole.{IsWhole, whole-of, slack-in, task-words}
 
 module _ (s : List ℕ) where
   -- A list that is sound up to place 1,000 has a word left over before that.
@@ -79,16 +82,41 @@ module _ (s : List ℕ) where
         (λ (l : k ≤ taskCount listHead s). omega (arith, whole .tasks-range .1))
         (lt-or-le (taskCount listHead s) k)
 
--- The walk's refusals.
+    -- The working words, as the slack is at least 1.
+    work-short-small : (lent k : ℕ) → IsShort (workNeeded s) lent k → k ≤ 4224033
+    work-short-small lent k h =
+        let n : taskCount listHead s ≤ 32 = whole .tasks-range .1 in
+        omega (arith, h .1, work-small (taskCount listHead s) _ n (last-small (taskCount listHead s) (slack s) n (slack-in listHead listExtra s (omega arith) whole .0)))
+
+    plan-short-small : (lent k : ℕ) → IsShort (taskCount listHead s) lent k → k ≤ 1000
+    plan-short-small lent k h = omega (arith, h .1, whole .tasks-range .1)
+
+  -- Checks 2, 3 and 4, and then others, cs.
+  set-second-small : (cs : List Check) → (((q : ℕ) → IsBadWord listHead listExtra s q → ⊥) → (n k : ℕ) → Refuses cs n k → k < 2 ^ 32)
+      → (n k : ℕ) → Refuses (setChecks listHead listExtra s ++ cs) n k → k < 2 ^ 32
+  set-second-small cs then n k r =
+      ⊎-elim
+      (λ a. omega (arith, bad-word-small k (a .1)))
+      (λ a. ⊎-elim
+      (λ b. omega (arith, not-above-small (a .0) k (b .1)))
+      (λ b. ⊎-elim (λ c. omega (arith, too-long-small (a .0) k (c .1))) (λ c. then (a .0) n k (c .1)) (b .1))
+      (a .1))
+      r
+
+-- The walk's refusals, and the planner's.
 pub walk-second-small : (s P : List ℕ) (n k : ℕ) → Refuses (walkChecks s P) n k → k < 2 ^ 32
-walk-second-small s P n k r =
+walk-second-small s P =
+    set-second-small s (check 8 (IsBadPlan (rateCount listHead s) (taskCount listHead s) P) ∷ [])
+    (λ pass n k. ⊎-elim (λ d. omega (arith, bad-plan-small s pass P k (d .1))) (λ d. absurd (d .1)))
+
+pub planner-second-small : (s : List ℕ) (planLength workLength n k : ℕ) → Refuses (plannerChecks s planLength workLength) n k → k < 2 ^ 32
+planner-second-small s pl wl =
+    set-second-small s
+    (check 5 (IsShort (workNeeded s) wl) ∷ check 6 (IsShort (taskCount listHead s) pl) ∷ check 7 (NoneOk (Fitting (problem s))) ∷ [])
+    (λ pass n k.
     ⊎-elim
-    (λ a. omega (arith, bad-word-small s k (a .1)))
-    (λ a. ⊎-elim
-    (λ b. omega (arith, not-above-small s (a .0) k (b .1)))
-    (λ b. ⊎-elim
-    (λ c. omega (arith, too-long-small s (a .0) k (c .1)))
-    (λ c. ⊎-elim (λ d. omega (arith, bad-plan-small s (a .0) P k (d .1))) (λ d. absurd (d .1)) (c .1))
-    (b .1))
-    (a .1))
-    r
+    (λ d. omega (arith, work-short-small s pass wl k (d .1)))
+    (λ d. ⊎-elim
+    (λ e. omega (arith, plan-short-small s pass pl k (e .1)))
+    (λ e. ⊎-elim (λ f. omega (arith, f .1 .0)) (λ f. absurd (f .1)) (e .1))
+    (d .1)))

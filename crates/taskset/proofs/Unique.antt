@@ -53,10 +53,10 @@ refusal-unique cs a p r x y =
     let e = refuses-unique cs a (number p) (second p) (number r) (second r) x y in
     sym (refusal-of p) ∙ ap (λ (n : ℕ). refusal n (second p)) (e .0) ∙ ap (refusal (number r)) (e .1) ∙ refusal-of r
 
-short-single : (needed lent : ℕ) (j k : ℕ) → IsShort needed lent j → IsShort needed lent k → j ≡ k
+pub short-single : (needed lent : ℕ) (j k : ℕ) → IsShort needed lent j → IsShort needed lent k → j ≡ k
 short-single needed lent j k a b = a .1 ∙ sym (b .1)
 
-none-single : (Ok : List ℕ → Type 0) (j k : ℕ) → NoneOk Ok j → NoneOk Ok k → j ≡ k
+pub none-single : (Ok : List ℕ → Type 0) (j k : ℕ) → NoneOk Ok j → NoneOk Ok k → j ≡ k
 none-single Ok j k a b = a .0 ∙ sym (b .0)
 
 pub planner-single : (s : List ℕ) (planLength workLength : ℕ) → AllSingle (plannerChecks s planLength workLength)

@@ -10,7 +10,7 @@ use native.Mathlib.Omega.{arith}
 use borrow.Author.Tests.{ne-eqb}
 use lib.ListN.{length}
 use Rattle.numbers.proofs.Tests.{bool-cases, lt-or-le, between-true}
-use Rattle.taskset.specs.Words.{word, rateCount, taskCount, ratePlace, taskCountPlace, periodPlace, taskSize, wordCount, rate, period, cycles, energy, headKind, taskKind, kindAt, allows}
+use Rattle.taskset.specs.Words.{word, slack, rateCount, taskCount, ratePlace, taskCountPlace, periodPlace, taskSize, wordCount, rate, period, cycles, energy, headKind, taskKind, kindAt, allows}
 use Rattle.taskset.specs.Refusals.{WordFault}
 use Rattle.taskset.specs.declared.Kind.{Kind}
 use Rattle.taskset.specs.declared.Kind.the-variants.{RateCount, Rate, TaskCount, Period, Cycles, Energy, LeftOver}
@@ -110,6 +110,11 @@ whole-of head extra s fine = is-whole head extra s judged enough
     enough =
         ⊎-elim (λ (l : length s < wordCount head extra s). absurd (fine (length s) (inr (refl, l)))) (λ (l : wordCount head extra s ≤ length s). l)
         (lt-or-le (length s) (wordCount head extra s))
+
+-- The slack, of a list that begins with it.
+pub slack-in : (head extra : ℕ) (s : List ℕ) → 0 < head → IsWhole head extra s → (1 ≤ slack s) × (slack s ≤ 1000)
+unfolding headKind allows
+slack-in head extra s h w = between-true 1 1000 (slack s) (w .head-word 0 h)
 
 -- The words of at most 32 tasks are few.
 pub task-words : (extra m t : ℕ) → extra ≤ 8 → m ≤ 8 → t ≤ 32 → t * taskSize extra m ≤ 576

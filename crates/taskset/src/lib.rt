@@ -6,7 +6,7 @@ ghost use Prim.Native.Nat.{ℕ, _+_, _*_, _<_, _≤_};
 ghost use lib.ListN.{length};
 ghost use Rattle.numbers.specs.Numbers.{between};
 ghost use Rattle.numbers.specs.Search.{Found};
-ghost use Rattle.taskset.specs.Words.{word, slack, rateCount, rate, periodPlace, period, cycles, taskKind, kindAt, allows};
+ghost use Rattle.taskset.specs.Words.{word, slack, rateCount, rate, periodPlace, period, cycles, energy, taskKind, kindAt, allows};
 ghost use Rattle.taskset.specs.Quantities.{jobTime};
 ghost use Rattle.taskset.specs.Calls.{ShapeAnswers, SetAnswers};
 ghost use Rattle.taskset.specs.Steps.{Bad, Falls, HasTasks, Followed, OfTask};
@@ -325,4 +325,13 @@ pub fn job_time(s: &[u32], head: usize, extra: usize, m: usize, t: usize, r: usi
     let c = cycles_of(s, head, extra, m, t) as u64;
     let f = rate_of(s, head, extra, m, t, r) as u64;
     ((c + (f - 1)) / f) as u32
+}
+
+// The energy of one job of the task at place t at rate number r.
+pub fn energy_of(s: &[u32], head: usize, extra: usize, m: usize, t: usize, r: usize) -> u32
+    requires { ⌜ OfTask head extra m t (now s) × (1 ≤ r) × (r ≤ m) ⌝ }
+    ensures { λ x. ⌜ x ≡ energy head extra (now (s .entry)) t r ⌝ }
+{
+    let at = period_place(head, extra, m, t) + (1 + extra + r);
+    s[at]
 }
