@@ -1,14 +1,12 @@
 -- Checks 5 and 6 after 2, 3 and 4.
 -- Assumes nothing.
-use Prim.Native.Nat.{ℕ, _+_, _*_, _/_, _≤_, _<_}
+use Prim.Native.Nat.{ℕ, _≤_, _<_}
 use mathlib.Core.Path.{_≡_, refl}
 use mathlib.Core.List.{List, [], _∷_}
 use mathlib.Core.Logic.{inl, inr}
-use native.Mathlib.Nat.{div-mul-le-self, mul-le-mul-left, mul-le-mul-right}
 use native.Mathlib.Omega.{arith}
 use lib.ListN.{length}
-use Rattle.numbers.proofs.Tests.{between-true}
-use Rattle.taskset.specs.Words.{listHead, listExtra, slack, taskCount, headKind, allows}
+use Rattle.taskset.specs.Words.{listHead, listExtra, slack, taskCount}
 use Rattle.taskset.specs.Quantities.{workWords, workNeeded}
 use Rattle.taskset.specs.Refusals.{number, second, IsShort, check, setChecks}
 use Rattle.taskset.specs.Calls.{SetAnswers}
@@ -17,14 +15,8 @@ use Rattle.taskset.specs.declared.Refusal.the-variants.{WorkShort, TooShort}
 use Rattle.taskset.specs.declared.Checked.the-variants.{Good, Refused as NotGood}
 use Rattle.taskset.proofs.Checks.{accepts-join, refuses-front, refuses-back}
 use Rattle.taskset.proofs.Sets.{IsSet, set-of}
+use Rattle.taskset.proofs.Whole.{slack-in}
 use Rattle.planner.specs.Ready.{ReadyAnswers}
-
--- The working words of any set fit a machine word.
-pub last-small : (n g : ℕ) → n ≤ 32 → 1 ≤ g → 4000 * n / g ≤ 128000
-last-small n g a b = omega (arith, div-mul-le-self (4000 * n) g, mul-le-mul-left (4000 * n / g) b)
-
-pub work-small : (n last : ℕ) → n ≤ 32 → last ≤ 128000 → (n + 1) * (last + 1) ≤ 4224033
-work-small n last a b = omega (arith, mul-le-mul-right {m = n + 1} {n = 33} (last + 1) (omega arith))
 
 module _ (s : List ℕ) (planLength workLength : ℕ) where
   -- A refusal of the set is this call's.
@@ -37,8 +29,7 @@ module _ (s : List ℕ) (planLength workLength : ℕ) where
     set = set-of listHead listExtra s (good .0)
 
     pub slack-range : (1 ≤ slack s) × (slack s ≤ 1000)
-    unfolding headKind allows
-    slack-range = between-true 1 1000 (slack s) (set .whole .head-word 0 (omega arith))
+    slack-range = slack-in listHead listExtra s (omega arith) (set .whole)
 
     pub tasks-few : n ≤ 32
     tasks-few = omega (arith, good .2, set .whole .tasks-range .1)

@@ -1,2 +1,4 @@
 pub mod Enough
+pub mod Options
+pub mod Calls
 pub mod Unique

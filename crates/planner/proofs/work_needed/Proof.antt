@@ -1,5 +1,5 @@
 use native.Mathlib.Omega.{arith}
-use Rattle.planner.proofs.Enough.{last-small, work-small}
+use Rattle.selection.proofs.Bounds.{last-small, work-small}
 use borrow.Author.Needs.{needs}
 use Rattle.planner.proofs.work_needed.Statement.{statement}
 use Rattle.planner.proofs.work_needed.Tie as tie

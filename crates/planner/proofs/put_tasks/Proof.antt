@@ -1,0 +1,52 @@
+-- The options of all tasks, task by task. The invariant: the arrays hold those of the tasks before the one in hand.
+-- Assumes nothing.
+use Prim.Native.Nat.{ℕ, _-_, _≤_}
+use mathlib.Core.Path.{subst}
+use native.Mathlib.Omega.{arith}
+use Rattle.planner.specs.Options.{PutBoth}
+use borrow.Author.Needs.{needs}
+use Rattle.planner.proofs.put_tasks.Statement.{statement}
+use Rattle.planner.proofs.put_tasks.Tie as tie
+use Rattle.planner.proofs.put_tasks.Reads as reads
+use Rattle.planner.proofs.put_tasks.Lts as lts
+use Rattle.planner.proofs.put_task.Reads as put-task-reads
+
+abbrev Inv-loop : tie.InvT-loop
+Inv-loop loads₀ energies₀ set m n hyper t₀ loads energies t = (t ≤ n) × PutBoth set m t 1 loads energies
+
+abbrev μ-loop : tie.MeasureT-loop
+μ-loop loads₀ energies₀ set m n hyper t₀ loads energies t = n - t
+
+-- src/lib.rt:93:5
+loop-holds : tie.Need-loop-holds Inv-loop μ-loop
+loop-holds c = (omega arith, c .before .pre .1)
+
+-- src/lib.rt:94:9
+put-task-requires : tie.Need-put-task-requires Inv-loop μ-loop
+put-task-requires c κs =
+    let a = c .before .before .before in
+    (a .before .before .pre .0 .each (a .loop .t) (omega arith), a .loop .inv .1)
+
+-- src/lib.rt:95:9
+add-t : tie.Need-add-t Inv-loop μ-loop
+add-t c = search needs
+
+-- src/lib.rt:93:5
+loop-less : tie.Need-loop-less Inv-loop μ-loop
+loop-less c = omega arith
+
+-- src/lib.rt:93:5
+loop-again : tie.Need-loop-again Inv-loop μ-loop
+loop-again c = (omega arith, c .put-task .ensures)
+
+-- src/lib.rt:80:1
+returns : tie.Need-returns Inv-loop μ-loop
+returns c =
+    let a = c .before in
+    let g = a .before .before .args in
+    subst (λ (x : ℕ). PutBoth (g .set .now) (g .m) x 1 (a .loop .loads) (a .loop .energies)) (omega arith) (a .loop .inv .1)
+
+pub put-tasks-spec : {M : Type 1} → statement M
+put-tasks-spec =
+    tie.close
+    (tie.spec Inv-loop μ-loop loop-holds put-task-requires add-t loop-less loop-again returns)
