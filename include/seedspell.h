@@ -65,6 +65,28 @@ extern "C" {
  * or refuses: 2, 3, 4, 8, and then 6 with 32, in this order. */
 uint64_t seedspell_walk(const uint32_t *set, size_t set_len, const uint32_t *plan, size_t plan_len, uint8_t *results, size_t results_len);
 
+/* The planner: a rate for each task, so that every deadline is kept for ever, at an energy over the hyper-period that is within
+ * the slack of the least possible.
+ *
+ * set, set_len          the set
+ * plan, plan_len        receives the plan, at least N words
+ * work, work_len        working words, at least W = (N + 1) x (4,000 x N / slack rounded down, + 1): at most 4,224,033, for 32
+ *                       tasks and slack 1. What they hold before the call makes no difference
+ * results, results_len  receives the results, at least 32 bytes
+ *
+ * Returns 0 and leaves in the first N words of plan a rate number, 1 to M, for each task; 0 in the first W working words; and in
+ * the first 32 bytes of results
+ *   unit, load, L, energy                       the unit of energy that the plan was chosen with, a power of two; the plan's load,
+ *                                               at most L; the hyper-period L; the plan's energy over the hyper-period in
+ *                                               microjoules. The plan keeps every deadline for ever, and (1,000 + slack) x the
+ *                                               energy of any other that does is at least 1,000 x this one;
+ * or refuses: 2, 3, 4, 5 with W, 6 with N for the plan list, 6 with 32 for the results, and then 7, in this order. 7 is returned
+ * if and only if none of the others applies and no plan keeps every deadline for ever. On a refusal nothing is changed.
+ *
+ * Whoever turns a rate number into a clock setting uses table entry number - 1, since rate numbers count from 1 and C's tables
+ * from 0: a table of M settings has entries 0 to M - 1. */
+uint64_t seedspell_plan(const uint32_t *set, size_t set_len, uint32_t *plan, size_t plan_len, uint32_t *work, size_t work_len, uint8_t *results, size_t results_len);
+
 #ifdef __cplusplus
 }
 #endif

@@ -6,8 +6,8 @@ use mathlib.Core.List.{List, [], _∷_, _++_, append-assoc, append-nil}
 use native.Mathlib.Nat.{add-zero, pow-succ', div-lt-iff-lt-mul}
 use native.Mathlib.Numerals.{add-one}
 use native.Mathlib.Omega.{arith}
-use lib.ListN.{length, take, drop, set, length-append, length-take, length-drop, take-append-drop}
-use lib.Seq.{take-suc-set, drop-set-lt, take-append-seam, drop-append-seam, drop-append-add, drop-drop, take-at}
+use lib.ListN.{length, getD, take, drop, set, length-append, length-take, length-drop, take-append-drop}
+use lib.Seq.{take-suc-set, drop-set-lt, take-append-seam, drop-append-add, drop-drop, take-at}
 use Rattle.capi.specs.Entry.{bytesOf, resultBytes, valueOf, resultAt}
 use Rattle.capi.specs.Put.{placed, Placed, Four}
 
@@ -75,19 +75,16 @@ value-of-bytes (suc k) v h =
     let l = div-lt-iff-lt-mul {k = 256} {x = v} {y = 256 ^ k} (omega arith) .1 (omega (arith, pow-succ' 256 k)) in
     omega (arith, value-of-bytes k (v / 256) l)
 
--- the value that stands behind the first k values
-value-behind : (f d : List ℕ) (v k : ℕ) → length f ≡ 8 * k → v < 2 ^ 64 → resultAt (f ++ (bytesOf 8 v ++ d)) k ≡ v
-value-behind f d v k s h =
-    rw (← s, drop-append-seam f (bytesOf 8 v ++ d), take-at (bytesOf 8 v) d 8 (length-bytes 8 v)) (value-of-bytes 8 v h)
-
-pub result-first : (a b c e : ℕ) (d : List ℕ) → a < 2 ^ 64 → resultAt (resultBytes (a ∷ b ∷ c ∷ e ∷ []) ++ d) 0 ≡ a
+-- the value at place k of those whose bytes stand first
+pub result-value : (vs d : List ℕ) (k : ℕ) → k < length vs → getD vs k 0 < 2 ^ 64 → resultAt (resultBytes vs ++ d) k ≡ getD vs k 0
 unfolding resultBytes
-result-first a b c e d h =
-    ap (λ (x : List ℕ). resultAt x 0) (append-assoc (bytesOf 8 a) (resultBytes (b ∷ c ∷ e ∷ [])) d) ∙ value-behind [] (resultBytes (b ∷ c ∷ e ∷ []) ++ d) a 0 refl h
-
-pub result-second : (a b c e : ℕ) (d : List ℕ) → b < 2 ^ 64 → resultAt (resultBytes (a ∷ b ∷ c ∷ e ∷ []) ++ d) 1 ≡ b
-unfolding resultBytes
-result-second a b c e d h =
-    ap (λ (x : List ℕ). resultAt x 1)
-    (append-assoc (bytesOf 8 a) (resultBytes (b ∷ c ∷ e ∷ [])) d ∙ ap (λ (x : List ℕ). bytesOf 8 a ++ x) (append-assoc (bytesOf 8 b) (resultBytes (c ∷ e ∷ [])) d)) ∙
-    value-behind (bytesOf 8 a) (resultBytes (c ∷ e ∷ []) ++ d) b 1 (length-bytes 8 a) h
+result-value [] d k l h = absurd (omega arith)
+result-value (v ∷ vs) d zero l h =
+    rw (append-assoc (bytesOf 8 v) (resultBytes vs) d, take-at (bytesOf 8 v) (resultBytes vs ++ d) 8 (length-bytes 8 v)) (value-of-bytes 8 v h)
+result-value (v ∷ vs) d (suc k) l h =
+    let past : 8 * suc k ≡ length (bytesOf 8 v) + 8 * k = omega (arith, length-bytes 8 v) in
+    ap (λ (x : List ℕ). valueOf (take 8 x))
+    (ap (λ (x : List ℕ). drop (8 * suc k) x) (append-assoc (bytesOf 8 v) (resultBytes vs) d) ∙
+    ap (λ (n : ℕ). drop n (bytesOf 8 v ++ (resultBytes vs ++ d))) past ∙
+    drop-append-add (bytesOf 8 v) (resultBytes vs ++ d) (8 * k)) ∙
+    result-value vs d k (omega arith) h

@@ -17,10 +17,10 @@ use Rattle.taskset.proofs.Sets.{set-of}
 use Rattle.taskset.proofs.DemandThree.{keeps-iff-fits}
 use Rattle.walk.specs.Answers.{Walked}
 use Rattle.capi.specs.Entry.{resultBytes, resultAt, resultSize, walkEntryChecks, WalkEntry}
-use Rattle.capi.proofs.Bytes.{result-first, result-second}
+use Rattle.capi.proofs.Bytes.{result-value}
 
 -- No refusal is returned as 0.
-code-positive : (r : Refusal) → code r ≡ 0 → ⊥
+pub code-positive : (r : Refusal) → code r ≡ 0 → ⊥
 code-positive (TextDeparts o) e = omega arith
 code-positive (BadWord q) e = omega arith
 code-positive (NotAbove q) e = omega arith
@@ -57,8 +57,8 @@ module _ (s P d : List ℕ) where
         let set : Accepts (setChecks listHead listExtra s) = (w .answers .0 .0, (w .answers .0 .1 .0, (w .answers .0 .1 .1 .0, tt))) in
         let load = keeps-iff-fits s set P .0 (w .owes .0) .fits in
         let hyper = set-of listHead listExtra s set .hyper-range .1 in
-        let one : resultAt d′ 0 ≡ 1 = ap (λ (x : List ℕ). resultAt x 0) e ∙ result-first 1 b i p (drop 32 d) (omega arith) in
-        let busy : resultAt d′ 1 ≡ b = ap (λ (x : List ℕ). resultAt x 1) e ∙ result-second 1 b i p (drop 32 d) (omega (arith, w .owes .1)) in
+        let one : resultAt d′ 0 ≡ 1 = ap (λ (x : List ℕ). resultAt x 0) e ∙ result-value (1 ∷ b ∷ i ∷ p ∷ []) (drop 32 d) 0 (omega arith) (omega arith) in
+        let busy : resultAt d′ 1 ≡ b = ap (λ (x : List ℕ). resultAt x 1) e ∙ result-value (1 ∷ b ∷ i ∷ p ∷ []) (drop 32 d) 1 (omega arith) (omega (arith, w .owes .1)) in
         record {
           gives = inl (Kept b i p, accepts (w .answers .0), w .answers, refl, e);
           kept-iff-keeps = λ z. ((λ h. w .owes .0), (λ k. one));
@@ -67,7 +67,7 @@ module _ (s P d : List ℕ) where
 
     pub entry-missed : (t k : ℕ) → Walked s P (Missed t k) → d′ ≡ resultBytes (0 ∷ t ∷ k ∷ 0 ∷ []) ++ drop 32 d → WalkEntry s P d d′ 0
     entry-missed t k w e =
-        let none : resultAt d′ 0 ≡ 0 = ap (λ (x : List ℕ). resultAt x 0) e ∙ result-first 0 t k 0 (drop 32 d) (omega arith) in
+        let none : resultAt d′ 0 ≡ 0 = ap (λ (x : List ℕ). resultAt x 0) e ∙ result-value (0 ∷ t ∷ k ∷ 0 ∷ []) (drop 32 d) 0 (omega arith) (omega arith) in
         record {
           gives = inl (Missed t k, accepts (w .answers .0), w .answers, refl, e);
           kept-iff-keeps = λ z. ((λ h. absurd (omega arith)), (λ q. absurd (w .owes (q .for-ever))));

@@ -1,16 +1,19 @@
 -- What a C caller is given (document 01, 'The planner and its neighbours').
-use Prim.Native.Nat.{ℕ, zero, suc, _+_, _*_, _/_, _%_}
+use Prim.Native.Nat.{ℕ, zero, suc, _+_, _*_, _/_, _%_, _^_, _<_}
 use mathlib.Core.Path.{_≡_, refl}
 use mathlib.Core.List.{List, [], _∷_, _++_}
 use mathlib.Core.Logic.{_⊎_, _↔_}
-use lib.ListN.{length, take, drop}
-use Rattle.selection.specs.Plan.{planLoad}
-use Rattle.taskset.specs.Quantities.{problem}
-use Rattle.taskset.specs.Refusals.{number, second, IsShort, Check, check, Accepts, Refuses, walkChecks}
-use Rattle.taskset.specs.Calls.{code, walkValues, WalkAnswers}
-use Rattle.taskset.specs.DemandThree.{Keeps}
+use lib.ListN.{length, getD, take, drop}
+use Rattle.selection.specs.Plan.{Fitting, planLoad}
+use Rattle.taskset.specs.Words.{listHead, listExtra, rateCount, taskCount}
+use Rattle.taskset.specs.Quantities.{hyperPeriod, problem}
+use Rattle.taskset.specs.Refusals.{number, second, IsShort, NoneOk, Check, check, Accepts, Refuses, readyChecks, walkChecks}
+use Rattle.taskset.specs.Calls.{code, plannerValues, walkValues, PlannerGives, WalkAnswers}
+use Rattle.taskset.specs.DemandThree.{Keeps, PlanPromise, NoneKeeps}
 use Rattle.taskset.specs.declared.Refusal.{Refusal}
+use Rattle.taskset.specs.declared.PlannerAnswer.{PlannerAnswer}
 use Rattle.taskset.specs.declared.WalkAnswer.{WalkAnswer}
+use Rattle.planner.specs.Answers.{RateNumber}
 
 -- "It leaves its results, eight bytes each, lowest byte first": the first k bytes of a value, and the bytes of a list of values.
 unfoldable pub bytesOf : ℕ → ℕ → List ℕ
@@ -54,3 +57,30 @@ pub record WalkEntry (s P results results′ : List ℕ) (returned : ℕ) : Type
   pub gives : WalkEntryGives s P results results′ returned
   pub kept-iff-keeps : returned ≡ 0 → (resultAt results′ 0 ≡ 1) ↔ Keeps s P
   pub busy-is-load : returned ≡ 0 → resultAt results′ 0 ≡ 1 → resultAt results′ 1 ≡ planLoad (problem s) P
+
+-- THE PLANNER FROM C. Its own checks but 7, then the result bytes, then 7. The lengths are those of the plan list, the working list and the
+-- result bytes.
+abbrev pub beforeSeven : List ℕ → ℕ → ℕ → ℕ → List Check
+beforeSeven s planLength workLength size = readyChecks s planLength workLength ++ (check 6 (IsShort resultSize size) ∷ [])
+
+abbrev pub planEntryChecks : List ℕ → ℕ → ℕ → ℕ → List Check
+planEntryChecks s planLength workLength size = beforeSeven s planLength workLength size ++ (check 7 (NoneOk (Fitting (problem s))) ∷ [])
+
+-- plan, work and results are the lists as lent, plan′, work′ and results′ as given back.
+abbrev pub PlanEntryGives : (s plan work results plan′ work′ results′ : List ℕ) → ℕ → Type 0
+PlanEntryGives s plan work results plan′ work′ results′ returned =
+    ((a : PlannerAnswer) × Accepts (planEntryChecks s (length plan) (length work) (length results)) × PlannerGives s plan work plan′ work′ a ×
+    (returned ≡ 0) × (results′ ≡ resultBytes (plannerValues a) ++ drop resultSize results)) ⊎
+    ((r : Refusal) × Refuses (planEntryChecks s (length plan) (length work) (length results)) (number r) (second r) × (returned ≡ code r) ×
+    (plan′ ≡ plan) × (work′ ≡ work) × (results′ ≡ results))
+
+-- The entry's contract: the above; and demand 3 again over the plan words and the bytes. Where 0 is returned, every plan word is a rate number, and the
+-- plan keeps its promise with the energy that the fourth value is; the values are its own. And 7 is returned if and only if no cause before it holds and no
+-- plan keeps every deadline for ever.
+pub record PlanEntry (s plan work results plan′ work′ results′ : List ℕ) (returned : ℕ) : Type 0 where
+  pub gives : PlanEntryGives s plan work results plan′ work′ results′ returned
+  pub numbers : returned ≡ 0 → (t : ℕ) → t < taskCount listHead s → RateNumber (rateCount listHead s) (getD plan′ t 0)
+  pub promise : returned ≡ 0 → PlanPromise s (take (taskCount listHead s) plan′) (resultAt results′ 3)
+  pub load-is : returned ≡ 0 → resultAt results′ 1 ≡ planLoad (problem s) (take (taskCount listHead s) plan′)
+  pub hyper-is : returned ≡ 0 → resultAt results′ 2 ≡ hyperPeriod listHead listExtra s
+  pub seven-iff : (returned ≡ 7 * 2 ^ 32) ↔ (Accepts (beforeSeven s (length plan) (length work) (length results)) × NoneKeeps s)

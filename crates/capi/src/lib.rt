@@ -6,8 +6,10 @@ ghost use Prim.Native.Nat.{ℕ, _+_, _<_, _≤_, _^_};
 ghost use lib.ListN.{length};
 ghost use Rattle.taskset.specs.Refusals.{second};
 ghost use Rattle.taskset.specs.Calls.{code};
-ghost use Rattle.capi.specs.Entry.{WalkEntry};
+ghost use Rattle.capi.specs.Entry.{PlanEntry, WalkEntry};
 ghost use Rattle.capi.specs.Put.{Placed, Four};
+use taskset::Checked;
+use taskset::PlannerAnswer;
 use taskset::Refusal;
 use taskset::WalkAnswer;
 
@@ -78,6 +80,45 @@ pub extern "C" fn seedspell_walk(set: &[u32], plan: &[u32], results: &mut [u8]) 
             }
             put_values(results, 0, tick, task, 0);
             0
+        }
+    }
+}
+
+// The planner: 0 and 32 result bytes (unit, load, L, energy), or a refusal. Too few result bytes are refused before 7.
+#[no_mangle]
+pub extern "C" fn seedspell_plan(
+    set: &[u32],
+    plan: &mut [u32],
+    work: &mut [u32],
+    results: &mut [u8],
+) -> u64
+    ensures { λ r. ⌜ PlanEntry (now (set .entry)) (now (plan .entry)) (now (work .entry)) (now (results .entry)) (now (plan .exit)) (now (work .exit)) (now (results .exit)) r ⌝ }
+{
+    let checked = planner::ready(set, plan.len(), work.len());
+    match checked {
+        Checked::Refused(r) => code_of(r),
+        Checked::Good {
+            rates,
+            tasks,
+            hyper,
+        } => {
+            let size = results.len();
+            if size < 32 {
+                return code_of(Refusal::TooShort(32));
+            }
+            let answer = planner::plan_checked(set, plan, work, rates, tasks, hyper);
+            match answer {
+                PlannerAnswer::Refused(r) => code_of(r),
+                PlannerAnswer::Planned {
+                    unit,
+                    load,
+                    hyper,
+                    energy,
+                } => {
+                    put_values(results, unit, load, hyper, energy);
+                    0
+                }
+            }
         }
     }
 }
