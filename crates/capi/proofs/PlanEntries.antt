@@ -9,7 +9,7 @@ use lib.ListN.{length, getD, take, drop}
 use Rattle.selection.specs.Plan.{Fitting, planLoad}
 use Rattle.taskset.specs.Words.{listHead, listExtra, taskCount}
 use Rattle.taskset.specs.Quantities.{hyperPeriod, problem, reportedEnergy, workNeeded}
-use Rattle.taskset.specs.Refusals.{number, second, IsShort, NoneOk, Check, check, Accepts, Refuses, setChecks, readyChecks}
+use Rattle.taskset.specs.Refusals.{number, second, IsShort, NoneOk, Check, check, Accepts, Refuses, setChecks, readyChecks, lengthChecks}
 use Rattle.taskset.specs.Calls.{code}
 use Rattle.taskset.specs.DemandThree.{PlanPromise}
 use Rattle.taskset.specs.declared.Refusal.{Refusal}
@@ -37,7 +37,7 @@ module _ (s plan work d : List ℕ) where
 
   -- The checks between 4 and 7.
   abbrev lengths : List Check
-  lengths = check 5 (IsShort (workNeeded s) (length work)) ∷ check 6 (IsShort (taskCount listHead s) (length plan)) ∷ six ∷ []
+  lengths = lengthChecks s (length plan) (length work) ++ (six ∷ [])
 
   not-7 : Without 7 lengths
   not-7 = ((λ e. omega arith), ((λ e. omega arith), ((λ e. omega arith), tt)))

@@ -15,7 +15,7 @@ use Rattle.selection.proofs.Fastest.{some-fits-iff-fastest}
 use Rattle.selection.proofs.Same.{Same, load-same, energy-same, fastest-load-same, planned-same}
 use Rattle.taskset.specs.Words.{listHead, listExtra, slack, rateCount, taskCount}
 use Rattle.taskset.specs.Quantities.{hyperPeriod, problem, workNeeded}
-use Rattle.taskset.specs.Refusals.{number, second, IsShort, NoneOk, check, Accepts, Refuses, setChecks, readyChecks, plannerChecks}
+use Rattle.taskset.specs.Refusals.{number, second, IsShort, NoneOk, check, Accepts, Refuses, setChecks, readyChecks, plannerChecks, lengthChecks}
 use Rattle.taskset.specs.Calls.{plannerValues, SetAnswers, Selected, Filled, PlannerGives}
 use Rattle.taskset.specs.declared.Refusal.{Refusal}
 use Rattle.taskset.specs.declared.Refusal.the-variants.{NoPlan}
@@ -54,7 +54,7 @@ long-enough needed lent pass =
 
 module _ (s plan work : List ℕ) (m n l : ℕ) (ready : ReadyAnswers s (length plan) (length work) (Good m n l)) where
   good : SetAnswers listHead listExtra s (Good m n l)
-  good = (accepts-front (setChecks listHead listExtra s) (check 5 (IsShort (workNeeded s) (length work)) ∷ check 6 (IsShort (taskCount listHead s) (length plan)) ∷ []) (ready .0), ready .1, ready .2, ready .3)
+  good = (accepts-front (setChecks listHead listExtra s) (lengthChecks s (length plan) (length work)) (ready .0), ready .1, ready .2, ready .3)
 
   set : IsSet listHead listExtra s
   set = set-of listHead listExtra s (good .0)

@@ -8,7 +8,7 @@ use native.Mathlib.Omega.{arith}
 use lib.ListN.{length}
 use Rattle.taskset.specs.Words.{listHead, listExtra, slack, taskCount}
 use Rattle.taskset.specs.Quantities.{workWords, workNeeded}
-use Rattle.taskset.specs.Refusals.{number, second, IsShort, check, setChecks}
+use Rattle.taskset.specs.Refusals.{number, second, IsShort, setChecks, lengthChecks}
 use Rattle.taskset.specs.Calls.{SetAnswers}
 use Rattle.taskset.specs.declared.Refusal.{Refusal}
 use Rattle.taskset.specs.declared.Refusal.the-variants.{WorkShort, TooShort}
@@ -22,7 +22,7 @@ module _ (s : List ℕ) (planLength workLength : ℕ) where
   -- A refusal of the set is this call's.
   pub set-refused : (r : Refusal) → SetAnswers listHead listExtra s (NotGood r) → ReadyAnswers s planLength workLength (NotGood r)
   set-refused r h =
-      refuses-front (setChecks listHead listExtra s) (check 5 (IsShort (workNeeded s) workLength) ∷ check 6 (IsShort (taskCount listHead s) planLength) ∷ []) (number r) (second r) h
+      refuses-front (setChecks listHead listExtra s) (lengthChecks s planLength workLength) (number r) (second r) h
 
   module _ (m n l : ℕ) (good : SetAnswers listHead listExtra s (Good m n l)) where
     set : IsSet listHead listExtra s
@@ -43,7 +43,7 @@ module _ (s : List ℕ) (planLength workLength : ℕ) where
 
       pub work-short : workLength < w → ReadyAnswers s planLength workLength (NotGood (WorkShort w))
       work-short h =
-          refuses-back (setChecks listHead listExtra s) (check 5 (IsShort (workNeeded s) workLength) ∷ check 6 (IsShort (taskCount listHead s) planLength) ∷ []) 5 w (good .0)
+          refuses-back (setChecks listHead listExtra s) (lengthChecks s planLength workLength) 5 w (good .0)
           (inl (refl, (rw (← needed) h, needed)))
 
       module _ (enough : w ≤ workLength) where
@@ -52,12 +52,12 @@ module _ (s : List ℕ) (planLength workLength : ℕ) where
 
         pub plan-short : planLength < n → ReadyAnswers s planLength workLength (NotGood (TooShort n))
         plan-short h =
-            refuses-back (setChecks listHead listExtra s) (check 5 (IsShort (workNeeded s) workLength) ∷ check 6 (IsShort (taskCount listHead s) planLength) ∷ []) 6 n (good .0)
+            refuses-back (setChecks listHead listExtra s) (lengthChecks s planLength workLength) 6 n (good .0)
             (inr (five, inl (refl, (omega (arith, good .2), good .2))))
 
         pub is-ready : n ≤ planLength → ReadyAnswers s planLength workLength (Good m n l)
         is-ready h = (
-          accepts-join (setChecks listHead listExtra s) (check 5 (IsShort (workNeeded s) workLength) ∷ check 6 (IsShort (taskCount listHead s) planLength) ∷ []) (good .0)
+          accepts-join (setChecks listHead listExtra s) (lengthChecks s planLength workLength) (good .0)
               (five, ((λ k x. omega (arith, x .0, good .2)), tt)),
           good .1,
           good .2,

@@ -20,7 +20,7 @@ use Rattle.selection.proofs.Choose.{spend, cell}
 use Rattle.selection.proofs.Compute.{trace, leastEnergy, choose, usedFrom, usedExponent, planned-is}
 use Rattle.taskset.specs.Words.{listHead, listExtra, slack, rateCount, taskCount, headKind, taskKind, kindAt, allows}
 use Rattle.taskset.specs.Quantities.{hyperPeriod, problem, workNeeded}
-use Rattle.taskset.specs.Refusals.{number, second, check, Accepts, setChecks, readyChecks, walkChecks, IsShort, NoneOk}
+use Rattle.taskset.specs.Refusals.{number, second, check, Accepts, setChecks, readyChecks, walkChecks, NoneOk, lengthChecks}
 use Rattle.taskset.specs.Calls.{code, plannerValues, walkValues, SetAnswers, PlannerGives, WalkAnswers}
 use Rattle.taskset.specs.declared.Refusal.{Refusal}
 use Rattle.taskset.specs.declared.Refusal.the-variants.{BadWord, NotAbove, TooLong, WorkShort, TooShort, NoPlan, BadPlan}
@@ -75,7 +75,7 @@ module _ (s : List ℕ) where
   set-refused : (r : Refusal) → checked ≡ NotGood r → Declined s r
   set-refused r e plan work = (
     refuses-front (readyChecks s (length plan) (length work)) (check 7 (NoneOk (Fitting (problem s))) ∷ []) (number r) (second r)
-        (refuses-front (setChecks listHead listExtra s) (check 5 (IsShort (workNeeded s) (length work)) ∷ check 6 (IsShort (taskCount listHead s) (length plan)) ∷ []) (number r) (second r)
+        (refuses-front (setChecks listHead listExtra s) (lengthChecks s (length plan) (length work)) (number r) (second r)
         (answered (NotGood r) e)),
     refl,
     refl,

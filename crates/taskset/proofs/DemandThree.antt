@@ -18,7 +18,7 @@ use Rattle.selection.specs.Plan.{Fitting, IsPlan, planLoad}
 use Rattle.selection.proofs.Bounds.{planned-within}
 use Rattle.taskset.specs.Words.{listHead, listExtra, slack, rateCount, taskCount}
 use Rattle.taskset.specs.Quantities.{hyperPeriod, problem, tasks, reportedEnergy, workNeeded}
-use Rattle.taskset.specs.Refusals.{number, second, IsShort, Check, check, Accepts, Refuses, setChecks, NoneOk, PlanFault, IsBadPlan}
+use Rattle.taskset.specs.Refusals.{number, second, Check, check, Accepts, Refuses, setChecks, NoneOk, PlanFault, IsBadPlan, lengthChecks}
 use Rattle.taskset.specs.Calls.{plannerValues, Selected, PlannerGives, outcomeValues, WalkAnswers}
 use Rattle.taskset.specs.DemandThree.{Keeps, PlanPromise, NoneKeeps, PlannerOwes, WalkOwes}
 use Rattle.taskset.specs.declared.PlannerAnswer.{PlannerAnswer}
@@ -101,19 +101,15 @@ module _ (s : List ℕ) (cs : List Check) (others : Without 7 cs) where
 
 -- Whatever meets the planner's definition keeps what demand 3 asks of it.
 module _ (s plan work : List ℕ) where
-  -- Checks 5 and 6.
-  abbrev lengths : List Check
-  lengths = check 5 (IsShort (workNeeded s) (length work)) ∷ check 6 (IsShort (taskCount listHead s) (length plan)) ∷ []
-
-  not-7 : Without 7 lengths
+  not-7 : Without 7 (lengthChecks s (length plan) (length work))
   not-7 = ((λ e. omega arith), ((λ e. omega arith), tt))
 
   pub answer-owes : (plan′ work′ : List ℕ) (a : PlannerAnswer) → PlannerGives s plan work plan′ work′ a → PlannerOwes s plan work plan′ a
   answer-owes plan′ work′ (Planned unit load hyper energy) g =
       rw (g .1 .2 .front)
-      (plan-given s (accepts-front (setChecks listHead listExtra s) (lengths ++ (last s lengths not-7 ∷ [])) (g .0)) (g .1 .0) unit load hyper energy (g .1 .1))
+      (plan-given s (accepts-front (setChecks listHead listExtra s) (lengthChecks s (length plan) (length work) ++ (last s (lengthChecks s (length plan) (length work)) not-7 ∷ [])) (g .0)) (g .1 .0) unit load hyper energy (g .1 .1))
   answer-owes plan′ work′ (NotPlanned r) g =
-      let owes = refusal-owes s lengths not-7 (number r) (second r) (g .0) in
+      let owes = refusal-owes s (lengthChecks s (length plan) (length work)) not-7 (number r) (second r) (g .0) in
       (owes .0, (λ w. owes .1 w .0))
 
 -- ---- the walk's answer

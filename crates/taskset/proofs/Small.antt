@@ -12,7 +12,7 @@ use Rattle.selection.specs.Plan.{Fitting}
 use Rattle.selection.proofs.Bounds.{last-small, work-small}
 use Rattle.taskset.specs.Words.{word, slack, listHead, listExtra, rateCount, taskCount, wordCount, taskCountPlace, kindAt, allows}
 use Rattle.taskset.specs.Quantities.{workNeeded, problem}
-use Rattle.taskset.specs.Refusals.{IsBadWord, IsNotAbove, IsTooLong, IsShort, NoneOk, IsBadPlan, Check, check, Refuses, setChecks, plannerChecks, walkChecks}
+use Rattle.taskset.specs.Refusals.{IsBadWord, IsNotAbove, IsTooLong, IsShort, NoneOk, IsBadPlan, Check, check, Refuses, setChecks, plannerChecks, walkChecks, lengthChecks}
 use Rattle.taskset.specs.declared.Kind.{Kind}
 use Rattle.taskset.specs.declared.Kind.the-variants.{RateCount, TaskCount}
 use Rattle.taskset.proofs.Checks.{no-word-fault}
@@ -112,7 +112,7 @@ walk-second-small s P =
 pub planner-second-small : (s : List ℕ) (planLength workLength n k : ℕ) → Refuses (plannerChecks s planLength workLength) n k → k < 2 ^ 32
 planner-second-small s pl wl =
     set-second-small s
-    (check 5 (IsShort (workNeeded s) wl) ∷ check 6 (IsShort (taskCount listHead s) pl) ∷ check 7 (NoneOk (Fitting (problem s))) ∷ [])
+    (lengthChecks s pl wl ++ (check 7 (NoneOk (Fitting (problem s))) ∷ []))
     (λ pass n k.
     ⊎-elim
     (λ d. omega (arith, work-short-small s pass wl k (d .1)))

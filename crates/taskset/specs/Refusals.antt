@@ -109,10 +109,11 @@ abbrev pub setChecks : ℕ → ℕ → List ℕ → List Check
 setChecks head extra s = wordChecks head extra s ++ (check 4 (IsTooLong head extra s) ∷ [])
 
 -- "Planner: 2, 3, 4, 5, 6, 7." The lengths are those of the plan list and the working list.
+abbrev pub lengthChecks : List ℕ → ℕ → ℕ → List Check
+lengthChecks s planLength workLength = check 5 (IsShort (workNeeded s) workLength) ∷ check 6 (IsShort (taskCount listHead s) planLength) ∷ []
+
 abbrev pub readyChecks : List ℕ → ℕ → ℕ → List Check
-readyChecks s planLength workLength =
-    setChecks listHead listExtra s ++
-    (check 5 (IsShort (workNeeded s) workLength) ∷ check 6 (IsShort (taskCount listHead s) planLength) ∷ [])
+readyChecks s planLength workLength = setChecks listHead listExtra s ++ lengthChecks s planLength workLength
 
 abbrev pub plannerChecks : List ℕ → ℕ → ℕ → List Check
 plannerChecks s planLength workLength = readyChecks s planLength workLength ++ (check 7 (NoneOk (Fitting (problem s))) ∷ [])
