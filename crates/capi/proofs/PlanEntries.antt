@@ -8,7 +8,7 @@ use native.Mathlib.Omega.{arith}
 use lib.ListN.{length, getD, take, drop}
 use Rattle.selection.specs.Plan.{Fitting, planLoad}
 use Rattle.taskset.specs.Words.{listHead, listExtra, taskCount}
-use Rattle.taskset.specs.Quantities.{hyperPeriod, problem, reportedEnergy, workNeeded}
+use Rattle.taskset.specs.Quantities.{hyperPeriod, problem, reportedEnergy}
 use Rattle.taskset.specs.Refusals.{number, second, IsShort, NoneOk, Check, check, Accepts, Refuses, setChecks, readyChecks, lengthChecks}
 use Rattle.taskset.specs.Calls.{code}
 use Rattle.taskset.specs.DemandThree.{PlanPromise}

@@ -2,11 +2,11 @@
 -- Assumes nothing.
 use Prim.Native.Nat.{ℕ, _≤_, _<_}
 use mathlib.Core.Path.{_≡_, refl}
-use mathlib.Core.List.{List, [], _∷_}
+use mathlib.Core.List.{List}
 use mathlib.Core.Logic.{inl, inr}
 use native.Mathlib.Omega.{arith}
 use lib.ListN.{length}
-use Rattle.taskset.specs.Words.{listHead, listExtra, slack, taskCount}
+use Rattle.taskset.specs.Words.{listHead, listExtra, slack}
 use Rattle.taskset.specs.Quantities.{workWords, workNeeded}
 use Rattle.taskset.specs.Refusals.{number, second, IsShort, setChecks, lengthChecks}
 use Rattle.taskset.specs.Calls.{SetAnswers}

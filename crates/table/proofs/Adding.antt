@@ -6,8 +6,8 @@ use mathlib.Core.List.{List}
 use native.Mathlib.Nat.{pow-le-pow-right}
 use native.Mathlib.Numerals.{add-one}
 use native.Mathlib.Omega.{arith}
-use lib.ListN.{length, getD, replicate, length-replicate, getD-replicate}
-use Rattle.numbers.specs.Numbers.{total, ceil}
+use lib.ListN.{getD, replicate, length-replicate, getD-replicate}
+use Rattle.numbers.specs.Numbers.{total}
 use Rattle.numbers.proofs.Sums.{total-more, total-bound, total-same}
 use Rattle.numbers.proofs.Powers.{power-positive}
 use Rattle.table.specs.Rows.{optionAt}

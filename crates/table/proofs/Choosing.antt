@@ -11,7 +11,7 @@ use lib.Seq.{ext-getD, getD-append-add, getD-drop, getD-take}
 use Rattle.numbers.specs.Numbers.{total}
 use Rattle.numbers.proofs.Tests.{lt-or-le}
 use Rattle.numbers.proofs.Sums.{total-same}
-use Rattle.selection.specs.Plan.{Problem, Fitting, IsChosenOf}
+use Rattle.selection.specs.Plan.{Fitting, IsChosenOf}
 use Rattle.selection.proofs.Bounds.{last-small}
 use Rattle.selection.proofs.Agree.{way-places}
 use Rattle.table.specs.Rows.{optionAt, Written}

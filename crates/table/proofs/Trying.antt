@@ -12,16 +12,16 @@ use Rattle.numbers.specs.Numbers.{total, LeastPower}
 use Rattle.numbers.specs.Search.{Found}
 use Rattle.numbers.proofs.Tests.{lt-or-le}
 use Rattle.numbers.proofs.Powers.{power-positive}
-use Rattle.selection.specs.Plan.{Problem, Fitting, planEnergy, roundedTask, rounded, fastest, IsLeastOf, IsChosenOf, FallsShortOf, IsUsedOf}
+use Rattle.selection.specs.Plan.{Problem, Fitting, planEnergy, roundedTask, rounded, fastest, IsLeastOf, IsChosenOf, FallsShortOf}
 use Rattle.selection.proofs.Bounds.{rounded-small, rounded-half, last-small, first-in-table, next-in-table}
 use Rattle.selection.proofs.Fastest.{fastest-fits}
-use Rattle.selection.proofs.Choose.{cell, cell-le, WayBack, way-back-chosen}
-use Rattle.selection.proofs.Cells.{entry, Way, cell-entry, way-back-way}
+use Rattle.selection.proofs.Choose.{cell, cell-le, way-back-chosen}
+use Rattle.selection.proofs.Cells.{Way, cell-entry, way-back-way}
 use Rattle.selection.proofs.Agree.{entry-agrees, way-agrees}
 use Rattle.selection.proofs.Compute.{column-least}
 use Rattle.table.specs.Rows.{optionAt, entryOf, Written, Tabled, Defined}
 use Rattle.table.specs.Choice.{arrays, lastColumn, tableWords}
-use Rattle.table.specs.Units.{cutOf, costOf, RoundReady, UnitReady, UnitTabled, SearchReady, UnitUsed}
+use Rattle.table.specs.Units.{cutOf, costOf, UnitReady, UnitTabled, SearchReady, UnitUsed}
 use Rattle.table.proofs.Adding.{sum-low}
 
 -- ---- one unit's table

@@ -17,7 +17,7 @@ use Rattle.schedule.proofs.Finite.{kept-iff-keeps, kept-counts}
 use Rattle.selection.specs.Plan.{Fitting, IsPlan, planLoad}
 use Rattle.selection.proofs.Bounds.{planned-within}
 use Rattle.taskset.specs.Words.{listHead, listExtra, slack, rateCount, taskCount}
-use Rattle.taskset.specs.Quantities.{hyperPeriod, problem, tasks, reportedEnergy, workNeeded}
+use Rattle.taskset.specs.Quantities.{hyperPeriod, problem, tasks, reportedEnergy}
 use Rattle.taskset.specs.Refusals.{number, second, Check, check, Accepts, Refuses, setChecks, NoneOk, PlanFault, IsBadPlan, lengthChecks}
 use Rattle.taskset.specs.Calls.{plannerValues, Selected, PlannerGives, outcomeValues, WalkAnswers}
 use Rattle.taskset.specs.DemandThree.{Keeps, PlanPromise, NoneKeeps, PlannerOwes, WalkOwes}

@@ -21,31 +21,24 @@ Inv-loop d₀ at v rest₀ i₀ d rest i = (i ≤ 8) × (length d ≡ length d�
 abbrev μ-loop : tie.MeasureT-loop
 μ-loop d₀ at v rest₀ i₀ d rest i = 8 - i
 
--- src/lib.rt:38:5
 loop-holds : tie.Need-loop-holds Inv-loop μ-loop
 loop-holds c = (omega arith, refl, rw (add-zero (c .args .at)) refl)
 
--- src/lib.rt:39:21
 cast-d : tie.Need-cast-d Inv-loop μ-loop
 cast-d c = search needs
 
--- src/lib.rt:39:11
 add-d : tie.Need-add-d Inv-loop μ-loop
 add-d c = search needs
 
--- src/lib.rt:39:9
 slice-write-d : tie.Need-slice-write-d Inv-loop μ-loop
 slice-write-d c = omega (arith, c .before .loop .inv .1)
 
--- src/lib.rt:41:9
 add-i : tie.Need-add-i Inv-loop μ-loop
 add-i c = search needs
 
--- src/lib.rt:38:5
 loop-less : tie.Need-loop-less Inv-loop μ-loop
 loop-less c = omega arith
 
--- src/lib.rt:38:5
 loop-again : tie.Need-loop-again Inv-loop μ-loop
 loop-again c =
     let b = c .before in
@@ -60,11 +53,9 @@ loop-again c =
           ap (λ (xs : List ℕ). placed k xs (b .loop .d)) (sym (bytes-step (b .loop .i) (b .loop .rest) (omega arith))) ∙ v .2),
     )
 
--- src/lib.rt:32:1
 same-length : tie.Need-same-length Inv-loop μ-loop
 same-length c = c .before .loop .inv .1
 
--- src/lib.rt:32:1
 returns : tie.Need-returns Inv-loop μ-loop
 returns c =
     let b = c .before in

@@ -6,27 +6,21 @@ use Rattle.capi.proofs.put_values.Reads as reads
 use Rattle.capi.proofs.put_values.Lts as lts
 use Rattle.capi.proofs.put_value.Reads as put-value-reads
 
--- src/lib.rt:50:5
 put-value-requires : tie.Need-put-value-requires
 put-value-requires c κs = search needs
 
--- src/lib.rt:51:5
 put-value-requires-2 : tie.Need-put-value-requires-2
 put-value-requires-2 c κs = search needs
 
--- src/lib.rt:52:5
 put-value-requires-3 : tie.Need-put-value-requires-3
 put-value-requires-3 c κs = search needs
 
--- src/lib.rt:53:5
 put-value-requires-4 : tie.Need-put-value-requires-4
 put-value-requires-4 c κs = search needs
 
--- src/lib.rt:46:1
 same-length : tie.Need-same-length
 same-length c = search needs
 
--- src/lib.rt:46:1
 returns : tie.Need-returns
 returns c =
     four _ _ _ _ _ _ _ _ _

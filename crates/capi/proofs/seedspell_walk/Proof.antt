@@ -13,15 +13,12 @@ use Rattle.capi.proofs.code_of.Reads as code-of-reads
 use Rattle.capi.proofs.put_values.Reads as put-values-reads
 use Rattle.walk.proofs.walk.Reads as walk-reads
 
--- src/lib.rt:61:9
 walk-requires : tie.Need-walk-requires
 walk-requires c κs = search needs
 
--- src/lib.rt:63:29
 enum-known-answer : tie.Need-enum-known-answer
 enum-known-answer c = search needs
 
--- src/lib.rt:63:35
 code-of-requires : tie.Need-code-of-requires
 code-of-requires c κs =
     let w = c .before .before .before in
@@ -30,15 +27,12 @@ code-of-requires c κs =
     let h = subst (Walked (a .set .now) (a .plan .now)) (c .before .answer .given .1) (w .walk .ensures) in
     walk-second-small (a .set .now) (a .plan .now) (number r) (second r) (h .answers)
 
--- src/lib.rt:65:13
 enum-known-answer-2 : tie.Need-enum-known-answer-2
 enum-known-answer-2 c = search needs
 
--- src/lib.rt:70:17
 code-of-requires-2 : tie.Need-code-of-requires-2
 code-of-requires-2 c κs = search needs
 
--- src/lib.rt:70:17
 returns : tie.Need-returns
 returns c =
     let k = c .before .before in
@@ -47,19 +41,15 @@ returns c =
     let h = subst (Walked (a .set .now) (a .plan .now)) (k .before .answer2 .given .1) (w .walk .ensures) in
     results-short (a .set .now) (a .plan .now) (a .results .now) _ (c .code-of2 .ensures) (h .answers .0) (c .before .if1 .taken)
 
--- src/lib.rt:72:13
 put-values-requires : tie.Need-put-values-requires
 put-values-requires c κs = search needs
 
--- src/lib.rt:75:30
 enum-known-answer-3 : tie.Need-enum-known-answer-3
 enum-known-answer-3 c = search needs
 
--- src/lib.rt:77:17
 code-of-requires-3 : tie.Need-code-of-requires-3
 code-of-requires-3 c κs = search needs
 
--- src/lib.rt:77:17
 returns-2 : tie.Need-returns-2
 returns-2 c =
     let k = c .before .before in
@@ -68,11 +58,9 @@ returns-2 c =
     let h = subst (Walked (a .set .now) (a .plan .now)) (k .before .answer3 .given .1) (w .walk .ensures) in
     results-short (a .set .now) (a .plan .now) (a .results .now) _ (c .code-of3 .ensures) (h .answers .0) (c .before .if2 .taken)
 
--- src/lib.rt:79:13
 put-values-requires-2 : tie.Need-put-values-requires-2
 put-values-requires-2 c κs = search needs
 
--- src/lib.rt:57:1
 returns-3 : tie.Need-returns-3
 returns-3 c =
     let k = c .before in
@@ -81,11 +69,9 @@ returns-3 c =
     let h = subst (Walked (a .set .now) (a .plan .now)) (k .before .answer .given .1) (w .walk .ensures) in
     walk-refused (a .set .now) (a .plan .now) (a .results .now) _ _ (c .code-of .ensures) h
 
--- src/lib.rt:57:1
 same-length : tie.Need-same-length
 same-length c = search needs
 
--- src/lib.rt:57:1
 returns-4 : tie.Need-returns-4
 returns-4 c =
     let k = c .before .before .before .before .before in
@@ -94,11 +80,9 @@ returns-4 c =
     let h = subst (Walked (a .set .now) (a .plan .now)) (k .before .answer2 .given .1) (w .walk .ensures) in
     entry-kept (a .set .now) (a .plan .now) (a .results .now) (omega (arith, c .before .before .before .before .if1 .left)) _ _ _ _ h (c .before .before .put-values .ensures .bytes)
 
--- src/lib.rt:57:1
 same-length-2 : tie.Need-same-length-2
 same-length-2 c = search needs
 
--- src/lib.rt:57:1
 returns-5 : tie.Need-returns-5
 returns-5 c =
     let k = c .before .before .before .before .before in

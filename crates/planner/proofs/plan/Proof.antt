@@ -12,19 +12,15 @@ use Rattle.planner.proofs.plan.Lts as lts
 use Rattle.planner.proofs.plan_checked.Reads as plan-checked-reads
 use Rattle.planner.proofs.ready.Reads as ready-reads
 
--- src/lib.rt:149:9
 ready-requires : tie.Need-ready-requires
 ready-requires c κs = search needs
 
--- src/lib.rt:151:26
 enum-known-checked : tie.Need-enum-known-checked
 enum-known-checked c = search needs
 
--- src/lib.rt:153:13
 enum-known-checked-2 : tie.Need-enum-known-checked-2
 enum-known-checked-2 c = search needs
 
--- src/lib.rt:156:14
 plan-checked-requires : tie.Need-plan-checked-requires
 plan-checked-requires c κs =
     let checked = c .before .before .before in
@@ -32,7 +28,6 @@ plan-checked-requires c κs =
     let a = r .before .before .before .before .args in
     subst (ReadyAnswers (a .set .now) (length (a .plan .now)) (length (a .work .now))) (checked .checked2 .given .1) (r .ready .ensures)
 
--- src/lib.rt:145:1
 returns : tie.Need-returns
 returns c =
     let checked = c .before in
@@ -41,15 +36,12 @@ returns c =
     ready-refused (a .set .now) (a .plan .now) (a .work .now) (checked .checked .given .0 .0)
     (subst (ReadyAnswers (a .set .now) (length (a .plan .now)) (length (a .work .now))) (checked .checked .given .1) (r .ready .ensures))
 
--- src/lib.rt:145:1
 same-length : tie.Need-same-length
 same-length c = search needs
 
--- src/lib.rt:145:1
 same-length-2 : tie.Need-same-length-2
 same-length-2 c = search needs
 
--- src/lib.rt:145:1
 returns-2 : tie.Need-returns-2
 returns-2 c = c .before .before .before .before .plan-checked .ensures
 

@@ -12,7 +12,6 @@ use Rattle.table.proofs.choose.Reads as choose-reads
 use Rattle.table.proofs.fastest_sum.Reads as fastest-sum-reads
 use Rattle.taskset.proofs.slack_of.Reads as slack-of-reads
 
--- src/lib.rt:129:5
 put-tasks-requires : tie.Need-put-tasks-requires
 put-tasks-requires c κs =
     let start = c .before .before .before .before .before in
@@ -20,7 +19,6 @@ put-tasks-requires c κs =
     let ready = start .pre in
     (tasks-given (a .set .now) (a .plan .now) (a .work .now) (a .rates) (a .tasks) (a .hyper) ready, both-none (a .set .now) (a .rates))
 
--- src/lib.rt:130:9
 fastest-sum-requires : tie.Need-fastest-sum-requires
 fastest-sum-requires c κs =
     let put = c .before in
@@ -29,7 +27,6 @@ fastest-sum-requires c κs =
     let ready = start .pre in
     sum-given (a .set .now) (a .plan .now) (a .work .now) (a .rates) (a .tasks) (a .hyper) ready _ _ (put .put-tasks .ensures)
 
--- src/lib.rt:132:9
 returns : tie.Need-returns
 returns c =
     let put = c .before .before .before in
@@ -38,7 +35,6 @@ returns c =
     let ready = start .pre in
     none-fits (a .set .now) (a .plan .now) (a .work .now) (a .rates) (a .tasks) (a .hyper) ready _ _ (put .put-tasks .ensures) _ (c .before .fastest-sum .ensures) (c .if1 .taken)
 
--- src/lib.rt:134:9
 slack-of-requires : tie.Need-slack-of-requires
 slack-of-requires c κs =
     let put = c .before .before .before in
@@ -47,7 +43,6 @@ slack-of-requires c κs =
     let ready = start .pre in
     words-given (a .set .now) (a .plan .now) (a .work .now) (a .rates) (a .tasks) (a .hyper) ready
 
--- src/lib.rt:135:60
 cast-choose : tie.Need-cast-choose
 cast-choose c =
     let put = c .before .before .before .before .before .before in
@@ -56,7 +51,6 @@ cast-choose c =
     let ready = start .pre in
     omega (arith, hyper-fits (a .set .now) (a .plan .now) (a .work .now) (a .rates) (a .tasks) (a .hyper) ready)
 
--- src/lib.rt:135:9
 choose-requires : tie.Need-choose-requires
 choose-requires c κs =
     let slack = c .before .before .before .before in
@@ -67,15 +61,12 @@ choose-requires c κs =
     let ready = start .pre in
     choice-ready (a .set .now) (a .plan .now) (a .work .now) (a .rates) (a .tasks) (a .hyper) ready _ _ (put .put-tasks .ensures) _ (fastest .fastest-sum .ensures) (slack .before .if1 .left) _ (slack .slack-of .ensures)
 
--- src/lib.rt:115:1
 same-length : tie.Need-same-length
 same-length c = c .before .before .before .before .choose .ensures .plan-size
 
--- src/lib.rt:115:1
 same-length-2 : tie.Need-same-length-2
 same-length-2 c = c .before .before .before .before .choose .ensures .work-size
 
--- src/lib.rt:115:1
 returns-2 : tie.Need-returns-2
 returns-2 c =
     let choose = c .before .before .before .before in

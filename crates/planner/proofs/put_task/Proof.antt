@@ -20,122 +20,101 @@ Inv-loop loads₀ energies₀ set m hyper t jobs r₀ loads energies r = (1 ≤ 
 abbrev μ-loop : tie.MeasureT-loop
 μ-loop loads₀ energies₀ set m hyper t jobs r₀ loads energies r = m + 1 - r
 
--- src/lib.rt:68:24
 period-of-requires : tie.Need-period-of-requires Inv-loop μ-loop
 period-of-requires c κs = c .before .pre .0 .of-task
 
--- src/lib.rt:68:24
 cast-jobs : tie.Need-cast-jobs Inv-loop μ-loop
 cast-jobs c = search needs
 
--- src/lib.rt:68:16
 div-jobs : tie.Need-div-jobs Inv-loop μ-loop
 div-jobs c = omega (arith, c .period-of .ensures, period-positive (c .before .before .pre .0))
 
--- src/lib.rt:70:5
 loop-holds : tie.Need-loop-holds Inv-loop μ-loop
 loop-holds c = (omega arith, omega arith, c .before .before .pre .1)
 
--- src/lib.rt:71:13
 job-time-requires : tie.Need-job-time-requires Inv-loop μ-loop
 job-time-requires c κs =
     let a = c .before in (a .before .before .before .pre .0 .of-task, a .loop .inv .0, omega arith)
 
--- src/lib.rt:72:13
 energy-of-requires : tie.Need-energy-of-requires Inv-loop μ-loop
 energy-of-requires c κs =
     let a = c .before .before in (a .before .before .before .pre .0 .of-task, a .loop .inv .0, omega arith)
 
--- src/lib.rt:73:36
 cast-loads : tie.Need-cast-loads Inv-loop μ-loop
 cast-loads c = search needs
 
--- src/lib.rt:73:29
 mul-loads : tie.Need-mul-loads Inv-loop μ-loop
 mul-loads c =
     let a = c .before .before .before in
     let g = a .before .before .before in
     omega (arith, load-fits (g .pre .0) _ (a .before .period-of .ensures) (a .loop .r) _ 0 (a .loop .inv .0) (omega arith) (c .before .job-time .ensures))
 
--- src/lib.rt:73:15
 mul-loads-2 : tie.Need-mul-loads-2 Inv-loop μ-loop
 mul-loads-2 c =
     let a = c .before .before .before in
     let g = a .before .before .before in
     omega (arith, task-few (g .pre .0), rates-few (g .pre .0))
 
--- src/lib.rt:73:15
 add-loads : tie.Need-add-loads Inv-loop μ-loop
 add-loads c =
     let a = c .before .before .before in
     let g = a .before .before .before in
     omega (arith, task-few (g .pre .0), rates-few (g .pre .0))
 
--- src/lib.rt:73:9
 mul-loads-3 : tie.Need-mul-loads-3 Inv-loop μ-loop
 mul-loads-3 c =
     let a = c .before .before .before in
     let g = a .before .before .before in
     omega (arith, task-few (g .pre .0), rates-few (g .pre .0))
 
--- src/lib.rt:73:9
 element-write-loads : tie.Need-element-write-loads Inv-loop μ-loop
 element-write-loads c =
     let a = c .before .before .before in
     let g = a .before .before .before in
     omega (arith, task-few (g .pre .0), rates-few (g .pre .0), a .loop .inv .2 .loads .size)
 
--- src/lib.rt:74:39
 cast-energies : tie.Need-cast-energies Inv-loop μ-loop
 cast-energies c = search needs
 
--- src/lib.rt:74:32
 mul-energies : tie.Need-mul-energies Inv-loop μ-loop
 mul-energies c =
     let a = c .before .before .before in
     let g = a .before .before .before in
     omega (arith, energy-fits (g .pre .0) _ (a .before .period-of .ensures) (a .loop .r) 0 _ (a .loop .inv .0) (omega arith) (c .energy-of .ensures))
 
--- src/lib.rt:74:18
 mul-energies-2 : tie.Need-mul-energies-2 Inv-loop μ-loop
 mul-energies-2 c =
     let a = c .before .before .before in
     let g = a .before .before .before in
     omega (arith, task-few (g .pre .0), rates-few (g .pre .0))
 
--- src/lib.rt:74:18
 add-energies : tie.Need-add-energies Inv-loop μ-loop
 add-energies c =
     let a = c .before .before .before in
     let g = a .before .before .before in
     omega (arith, task-few (g .pre .0), rates-few (g .pre .0))
 
--- src/lib.rt:74:9
 mul-energies-3 : tie.Need-mul-energies-3 Inv-loop μ-loop
 mul-energies-3 c =
     let a = c .before .before .before in
     let g = a .before .before .before in
     omega (arith, task-few (g .pre .0), rates-few (g .pre .0))
 
--- src/lib.rt:74:9
 element-write-energies : tie.Need-element-write-energies Inv-loop μ-loop
 element-write-energies c =
     let a = c .before .before .before in
     let g = a .before .before .before in
     omega (arith, task-few (g .pre .0), rates-few (g .pre .0), a .loop .inv .2 .energies .size)
 
--- src/lib.rt:75:9
 add-r : tie.Need-add-r Inv-loop μ-loop
 add-r c =
     let a = c .before .before .before in
     let g = a .before .before .before in
     omega (arith, rates-few (g .pre .0))
 
--- src/lib.rt:70:5
 loop-less : tie.Need-loop-less Inv-loop μ-loop
 loop-less c = omega arith
 
--- src/lib.rt:70:5
 loop-again : tie.Need-loop-again Inv-loop μ-loop
 loop-again c =
     let a = c .before .before .before in
@@ -145,7 +124,6 @@ loop-again c =
       both-more (g .pre .0) _ (a .before .period-of .ensures) (a .loop .r) _ _ (a .loop .inv .0) (omega arith) _ _ (c .before .job-time .ensures) (c .energy-of .ensures) (a .loop .inv .2),
     )
 
--- src/lib.rt:56:1
 returns : tie.Need-returns Inv-loop μ-loop
 returns c =
     let a = c .before in

@@ -17,29 +17,23 @@ Inv-loop loads₀ energies₀ set m n hyper t₀ loads energies t = (t ≤ n) ×
 abbrev μ-loop : tie.MeasureT-loop
 μ-loop loads₀ energies₀ set m n hyper t₀ loads energies t = n - t
 
--- src/lib.rt:93:5
 loop-holds : tie.Need-loop-holds Inv-loop μ-loop
 loop-holds c = (omega arith, c .before .pre .1)
 
--- src/lib.rt:94:9
 put-task-requires : tie.Need-put-task-requires Inv-loop μ-loop
 put-task-requires c κs =
     let a = c .before .before .before in
     (a .before .before .pre .0 .each (a .loop .t) (omega arith), a .loop .inv .1)
 
--- src/lib.rt:95:9
 add-t : tie.Need-add-t Inv-loop μ-loop
 add-t c = search needs
 
--- src/lib.rt:93:5
 loop-less : tie.Need-loop-less Inv-loop μ-loop
 loop-less c = omega arith
 
--- src/lib.rt:93:5
 loop-again : tie.Need-loop-again Inv-loop μ-loop
 loop-again c = (omega arith, c .put-task .ensures)
 
--- src/lib.rt:80:1
 returns : tie.Need-returns Inv-loop μ-loop
 returns c =
     let a = c .before in

@@ -14,19 +14,15 @@ use Rattle.planner.proofs.work_needed.Reads as work-needed-reads
 use Rattle.taskset.proofs.check_set.Reads as check-set-reads
 use Rattle.taskset.proofs.slack_of.Reads as slack-of-reads
 
--- src/lib.rt:24:9
 check-set-requires : tie.Need-check-set-requires
 check-set-requires c κs = search needs
 
--- src/lib.rt:26:26
 enum-known-checked : tie.Need-enum-known-checked
 enum-known-checked c = search needs
 
--- src/lib.rt:28:13
 enum-known-checked-2 : tie.Need-enum-known-checked-2
 enum-known-checked-2 c = search needs
 
--- src/lib.rt:32:40
 slack-of-requires : tie.Need-slack-of-requires
 slack-of-requires c κs =
     let sh = c .before in
@@ -38,7 +34,6 @@ slack-of-requires c κs =
     let good = subst (SetAnswers listHead listExtra s) (sh .checked2 .given .1) (sh .before .before .check-set .ensures) in
     some-words s (a .plan-len) (a .work-len) m n l good
 
--- src/lib.rt:32:17
 work-needed-requires : tie.Need-work-needed-requires
 work-needed-requires c κs =
     let sh = c .before .before in
@@ -50,7 +45,6 @@ work-needed-requires c κs =
     let good = subst (SetAnswers listHead listExtra s) (sh .checked2 .given .1) (sh .before .before .check-set .ensures) in
     (tasks-few s (a .plan-len) (a .work-len) m n l good, rw (c .slack-of .ensures) (slack-range s (a .plan-len) (a .work-len) m n l good .0))
 
--- src/lib.rt:34:17
 returns : tie.Need-returns
 returns c =
     let sh = c .before .before .before .before in
@@ -63,7 +57,6 @@ returns c =
     let is = c .before .work-needed .ensures ∙ ap (workWords n) (c .before .before .slack-of .ensures) in
     work-short s (a .plan-len) (a .work-len) m n l good _ is (c .if1 .taken)
 
--- src/lib.rt:37:17
 returns-2 : tie.Need-returns-2
 returns-2 c =
     let sh = c .before .before .before .before .before in
@@ -76,14 +69,12 @@ returns-2 c =
     let is = c .before .before .work-needed .ensures ∙ ap (workWords n) (c .before .before .before .slack-of .ensures) in
     plan-short s (a .plan-len) (a .work-len) m n l good _ is (c .before .if1 .left) (c .if2 .taken)
 
--- src/lib.rt:21:1
 returns-3 : tie.Need-returns-3
 returns-3 c =
     let sh = c .before in
     let a = sh .before .before .before .before .args in
     set-refused (a .set .now) (a .plan-len) (a .work-len) (sh .checked .given .0 .0) (subst (SetAnswers listHead listExtra (a .set .now)) (sh .checked .given .1) (sh .before .before .check-set .ensures))
 
--- src/lib.rt:21:1
 returns-4 : tie.Need-returns-4
 returns-4 c =
     let sh = c .before .before .before .before .before in

@@ -6,27 +6,21 @@ use Rattle.planner.proofs.work_needed.Tie as tie
 use Rattle.planner.proofs.work_needed.Reads as reads
 use Rattle.planner.proofs.work_needed.Lts as lts
 
--- src/lib.rt:16:16
 mul-last : tie.Need-mul-last
 mul-last c = search needs
 
--- src/lib.rt:16:16
 div-last : tie.Need-div-last
 div-last c = search needs
 
--- src/lib.rt:17:6
 add-result : tie.Need-add-result
 add-result c = search needs
 
--- src/lib.rt:17:16
 add-result-2 : tie.Need-add-result-2
 add-result-2 c = omega (arith, last-small (c .args .n) (c .args .g) (c .pre .0) (c .pre .1))
 
--- src/lib.rt:17:5
 mul-result : tie.Need-mul-result
 mul-result c = omega (arith, work-small (c .args .n) _ (c .pre .0) (last-small (c .args .n) (c .args .g) (c .pre .0) (c .pre .1)))
 
--- src/lib.rt:12:1
 returns : tie.Need-returns
 returns c = search needs
 

@@ -10,29 +10,23 @@ use Rattle.table.proofs.find_unit.Reads as find-unit-reads
 use Rattle.table.proofs.sum.Reads as sum-reads
 use Rattle.table.proofs.way_back.Reads as way-back-reads
 
--- src/lib.rt:328:19
 mul-columns : tie.Need-mul-columns
 mul-columns c = search needs
 
--- src/lib.rt:328:19
 div-columns : tie.Need-div-columns
 div-columns c = search needs
 
--- src/lib.rt:328:19
 add-columns : tie.Need-add-columns
 add-columns c = search needs
 
--- src/lib.rt:331:9
 find-unit-requires : tie.Need-find-unit-requires
 find-unit-requires c κs =
     let s = c .before .before .before .before .before in
     search-ready (s .pre)
 
--- src/lib.rt:332:17
 add-width : tie.Need-add-width
 add-width c = search needs
 
--- src/lib.rt:334:5
 add-way-back : tie.Need-add-way-back
 add-way-back c = search needs
 
@@ -41,7 +35,6 @@ way-back-requires c κs =
     let f = c .before .before .before .before .before .before .before in
     way-ready (f .before .before .before .before .before .before .pre) (f .find-unit .ensures)
 
--- src/lib.rt:335:9
 sum-requires : tie.Need-sum-requires
 sum-requires c κs =
     let w = c .before .before .before in
@@ -49,7 +42,6 @@ sum-requires c κs =
     let s = f .before .before .before .before .before .before in
     sum-ready (s .pre) (f .find-unit .ensures) (w .way-back .ensures) (s .args .loads .now) (s .pre .loads-fit)
 
--- src/lib.rt:336:9
 sum-requires-2 : tie.Need-sum-requires-2
 sum-requires-2 c κs =
     let w = c .before .before .before .before .before in
@@ -57,7 +49,6 @@ sum-requires-2 c κs =
     let s = f .before .before .before .before .before .before in
     sum-ready (s .pre) (f .find-unit .ensures) (w .way-back .ensures) (s .args .energies .now) (s .pre .energies-fit)
 
--- src/lib.rt:337:5
 clear-requires : tie.Need-clear-requires
 clear-requires c κs =
     let w = c .before .before .before .before .before .before .before in
@@ -70,15 +61,12 @@ clear-requires c κs =
       room = omega (arith, g .work-room, u .work-size, own-words g u);
     }
 
--- src/lib.rt:314:1
 same-length : tie.Need-same-length
 same-length c = search needs
 
--- src/lib.rt:314:1
 same-length-2 : tie.Need-same-length-2
 same-length-2 c = search needs
 
--- src/lib.rt:314:1
 returns : tie.Need-returns
 returns c =
     let w = c .before .before .before .before .before .before .before .before .before .before in

@@ -7,19 +7,15 @@ use Rattle.table.proofs.fastest_sum.Reads as reads
 use Rattle.table.proofs.fastest_sum.Lts as lts
 use Rattle.table.proofs.sum.Reads as sum-reads
 
--- src/lib.rt:234:17
 cast-plan : tie.Need-cast-plan
 cast-plan c = search needs
 
--- src/lib.rt:235:21
 slice-aggregate-sum : tie.Need-slice-aggregate-sum
 slice-aggregate-sum c = search needs
 
--- src/lib.rt:235:5
 sum-requires : tie.Need-sum-requires
 sum-requires c κs = let s = c .before in fastest-ready (s .args .n) (s .args .m) (s .pre .0) (s .args .options .now) (s .pre .1) (s .pre .2)
 
--- src/lib.rt:230:1
 returns : tie.Need-returns
 returns c = let s = c .before .before in c .sum .ensures ∙ fastest-same (s .args .n) (s .args .m) (s .pre .0) _
 

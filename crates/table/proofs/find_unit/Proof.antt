@@ -19,37 +19,30 @@ Inv-loop loads energies n m limit slack load cost₀ work₀ cap a₀ unit₀ la
 abbrev μ-loop : tie.MeasureT-loop
 μ-loop loads energies n m limit slack load cost₀ work₀ cap a₀ unit₀ last₀ cost work a unit last = a
 
--- src/lib.rt:276:15
 add-cap : tie.Need-add-cap Inv-loop μ-loop
 add-cap c = search needs
 
--- src/lib.rt:277:5
 cut-requires : tie.Need-cut-requires Inv-loop μ-loop
 cut-requires c κs = search needs
 
--- src/lib.rt:278:38
 fastest-sum-requires : tie.Need-fastest-sum-requires Inv-loop μ-loop
 fastest-sum-requires c κs = search needs
 
--- src/lib.rt:278:9
 least-power-requires : tie.Need-least-power-requires Inv-loop μ-loop
 least-power-requires c κs = let s = c .before .before .before .before in rw (c .fastest-sum .ensures) (sum-low (s .args .energies .now) _ (s .args .n) (s .pre .energies-fit) (s .pre .tasks))
 
--- src/lib.rt:282:5
 loop-holds : tie.Need-loop-holds Inv-loop μ-loop
 loop-holds c =
     let f = c .before in
     let s = f .before .before .before .before in
     trying-start (s .pre) _ _ _ (f .fastest-sum .ensures) (c .least-power .ensures .0) (c .least-power .ensures .1)
 
--- src/lib.rt:283:13
 least-energy-requires : tie.Need-least-energy-requires Inv-loop μ-loop
 least-energy-requires c κs =
     let l = c .before .before .before in
     let q = l .before .before .before in
     unit-ready (q .before .before .before .pre) (l .loop .inv) (q .cut .ensures)
 
--- src/lib.rt:285:13
 same-length : tie.Need-same-length Inv-loop μ-loop
 same-length c =
     let u = c .before .before .before in
@@ -57,7 +50,6 @@ same-length c =
     let q = l .before .before .before in
     unit-used (q .before .before .before .pre) (l .loop .inv) (q .cut .ensures) (u .least-energy .ensures) (inl (c .if1 .taken)) .work-size
 
--- src/lib.rt:285:13
 returns : tie.Need-returns Inv-loop μ-loop
 returns c =
     let u = c .before .before .before in
@@ -65,11 +57,9 @@ returns c =
     let q = l .before .before .before in
     unit-used (q .before .before .before .pre) (l .loop .inv) (q .cut .ensures) (u .least-energy .ensures) (inl (c .if1 .taken))
 
--- src/lib.rt:291:12
 mul-if2 : tie.Need-mul-if2 Inv-loop μ-loop
 mul-if2 c = search needs
 
--- src/lib.rt:291:25
 mul-if2-2 : tie.Need-mul-if2-2 Inv-loop μ-loop
 mul-if2-2 c =
     let u = c .before .before .before in
@@ -77,7 +67,6 @@ mul-if2-2 c =
     let q = l .before .before .before in
     omega (arith, product-small (q .before .before .before .pre) (l .loop .inv) (q .cut .ensures) (u .least-energy .ensures))
 
--- src/lib.rt:292:13
 same-length-2 : tie.Need-same-length-2 Inv-loop μ-loop
 same-length-2 c =
     let u = c .before .before .before .before in
@@ -85,7 +74,6 @@ same-length-2 c =
     let q = l .before .before .before in
     unit-used (q .before .before .before .pre) (l .loop .inv) (q .cut .ensures) (u .least-energy .ensures) (inr (omega (arith, c .if2 .taken))) .work-size
 
--- src/lib.rt:292:13
 returns-2 : tie.Need-returns-2 Inv-loop μ-loop
 returns-2 c =
     let u = c .before .before .before .before in
@@ -93,11 +81,9 @@ returns-2 c =
     let q = l .before .before .before in
     unit-used (q .before .before .before .pre) (l .loop .inv) (q .cut .ensures) (u .least-energy .ensures) (inr (omega (arith, c .if2 .taken)))
 
--- src/lib.rt:298:9
 sub-a : tie.Need-sub-a Inv-loop μ-loop
 sub-a c = search needs
 
--- src/lib.rt:300:16
 mul-last : tie.Need-mul-last Inv-loop μ-loop
 mul-last c =
     let u = c .before .before .before .before in
@@ -105,11 +91,9 @@ mul-last c =
     let q = l .before .before .before in
     omega (arith, least-small (q .before .before .before .pre) (l .loop .inv) (q .cut .ensures) (u .least-energy .ensures))
 
--- src/lib.rt:282:5
 loop-less : tie.Need-loop-less Inv-loop μ-loop
 loop-less c = search needs
 
--- src/lib.rt:282:5
 loop-again : tie.Need-loop-again Inv-loop μ-loop
 loop-again c =
     let u = c .before .before .before .before in

@@ -16,39 +16,30 @@ Inv-loop d a n cap e₀ e = (e ≤ n) × ((k : ℕ) → 0 ≤ k → k < e → De
 abbrev μ-loop : tie.MeasureT-loop
 μ-loop d a n cap e₀ e = n - e
 
--- src/lib.rt:97:5
 loop-holds : tie.Need-loop-holds Inv-loop μ-loop
 loop-holds c = (omega arith, (λ k a b. absurd (omega arith)))
 
--- src/lib.rt:98:14
 add-if1 : tie.Need-add-if1 Inv-loop μ-loop
 add-if1 c = search needs
 
--- src/lib.rt:98:12
 mul-if1 : tie.Need-mul-if1 Inv-loop μ-loop
 mul-if1 c = search needs
 
--- src/lib.rt:98:12
 shared-slice-read-if1 : tie.Need-shared-slice-read-if1 Inv-loop μ-loop
 shared-slice-read-if1 c = search needs
 
--- src/lib.rt:99:13
 returns : tie.Need-returns Inv-loop μ-loop
 returns c = found-here (omega arith) (c .before .before .before .loop .inv .1) (omega arith) (c .if1 .taken)
 
--- src/lib.rt:101:9
 add-e : tie.Need-add-e Inv-loop μ-loop
 add-e c = search needs
 
--- src/lib.rt:97:5
 loop-less : tie.Need-loop-less Inv-loop μ-loop
 loop-less c = search needs
 
--- src/lib.rt:97:5
 loop-again : tie.Need-loop-again Inv-loop μ-loop
 loop-again c = (omega arith, none-more (omega arith) (c .before .before .before .loop .inv .1) (λ h. omega (arith, c .if1 .left)))
 
--- src/lib.rt:92:1
 returns-2 : tie.Need-returns-2 Inv-loop μ-loop
 returns-2 c = found-end (omega arith) (c .before .loop .inv .1) (omega arith)
 

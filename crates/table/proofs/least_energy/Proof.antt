@@ -8,31 +8,24 @@ use Rattle.table.proofs.least_column.Reads as least-column-reads
 use Rattle.table.proofs.round_up.Reads as round-up-reads
 use Rattle.table.proofs.table.Reads as table-reads
 
--- src/lib.rt:254:19
 add-columns : tie.Need-add-columns
 add-columns c = search needs
 
--- src/lib.rt:255:5
 round-up-requires : tie.Need-round-up-requires
 round-up-requires c κs = search needs
 
--- src/lib.rt:256:5
 table-requires : tie.Need-table-requires
 table-requires c κs = search needs
 
--- src/lib.rt:257:24
 mul-least-column : tie.Need-mul-least-column
 mul-least-column c = search needs
 
--- src/lib.rt:257:5
 least-column-requires : tie.Need-least-column-requires
 least-column-requires c κs = search needs
 
--- src/lib.rt:239:1
 same-length : tie.Need-same-length
 same-length c = search needs
 
--- src/lib.rt:239:1
 returns : tie.Need-returns
 returns c =
     let t = c .before .before .before .before in

@@ -17,73 +17,56 @@ Inv-loop d a e v i m cost load cap r₀ r = (1 ≤ r) × (r ≤ rateOf cap m cos
 abbrev μ-loop : tie.MeasureT-loop
 μ-loop d a e v i m cost load cap r₀ r = m + 1 - r
 
--- src/lib.rt:122:5
 loop-holds : tie.Need-loop-holds Inv-loop μ-loop
 loop-holds c = (omega arith, rate-from (c .pre))
 
--- src/lib.rt:123:22
 mul-c : tie.Need-mul-c Inv-loop μ-loop
 mul-c c = search needs
 
--- src/lib.rt:123:22
 add-c : tie.Need-add-c Inv-loop μ-loop
 add-c c = search needs
 
--- src/lib.rt:123:17
 mul-c-2 : tie.Need-mul-c-2 Inv-loop μ-loop
 mul-c-2 c = search needs
 
--- src/lib.rt:123:17
 element-copy-out-c : tie.Need-element-copy-out-c Inv-loop μ-loop
 element-copy-out-c c = search needs
 
--- src/lib.rt:125:18
 add-if2 : tie.Need-add-if2 Inv-loop μ-loop
 add-if2 c = search needs
 
--- src/lib.rt:125:16
 mul-if2 : tie.Need-mul-if2 Inv-loop μ-loop
 mul-if2 c = search needs
 
--- src/lib.rt:125:16
 shared-slice-read-if2 : tie.Need-shared-slice-read-if2 Inv-loop μ-loop
 shared-slice-read-if2 c = search needs
 
--- src/lib.rt:125:38
 mul-if2-2 : tie.Need-mul-if2-2 Inv-loop μ-loop
 mul-if2-2 c = search needs
 
--- src/lib.rt:125:38
 add-if2-2 : tie.Need-add-if2-2 Inv-loop μ-loop
 add-if2-2 c = search needs
 
--- src/lib.rt:125:33
 mul-if2-3 : tie.Need-mul-if2-3 Inv-loop μ-loop
 mul-if2-3 c = search needs
 
--- src/lib.rt:125:33
 element-copy-out-if2 : tie.Need-element-copy-out-if2 Inv-loop μ-loop
 element-copy-out-if2 c = search needs
 
--- src/lib.rt:125:16
 add-if2-3 : tie.Need-add-if2-3 Inv-loop μ-loop
 add-if2-3 c = record { fits = sum-fits (c .before .before .before .before .before .before .pre) _ _ (omega arith) }
 
--- src/lib.rt:126:17
 returns : tie.Need-returns Inv-loop μ-loop
 returns c =
     let b = c .before .before .before .before .before .before in
     rate-hit (b .before .pre) (b .loop .r) (omega arith) (omega arith) (b .loop .inv .1) (c .before .before .before .if1 .taken) (c .if2 .taken)
 
--- src/lib.rt:129:9
 add-r : tie.Need-add-r Inv-loop μ-loop
 add-r c = search needs
 
--- src/lib.rt:122:5
 loop-less : tie.Need-loop-less Inv-loop μ-loop
 loop-less c = search needs
 
--- src/lib.rt:122:5
 loop-again : tie.Need-loop-again Inv-loop μ-loop
 loop-again c =
     let b = c .before .before .before in
@@ -92,7 +75,6 @@ loop-again c =
     (λ w. (omega arith, rate-pass (b .before .pre) (b .loop .r) (b .loop .inv .1) (λ h q. omega (arith, w .left))))
     (c .if1 .came)
 
--- src/lib.rt:107:1
 returns-2 : tie.Need-returns-2 Inv-loop μ-loop
 returns-2 c = absurd (omega (arith, c .before .loop .inv .1, rate-to (c .before .before .pre)))
 

@@ -15,65 +15,50 @@ Inv-loop d₀ lo hi s l p₀ d p = (lo ≤ p) × (p ≤ hi) × Written (relaxed 
 abbrev μ-loop : tie.MeasureT-loop
 μ-loop d₀ lo hi s l p₀ d p = hi - p
 
--- src/lib.rt:32:5
 loop-holds : tie.Need-loop-holds Inv-loop μ-loop
 loop-holds c = (omega arith, omega arith, written-none _ _ _)
 
--- src/lib.rt:33:23
 mul-lesser : tie.Need-mul-lesser Inv-loop μ-loop
 mul-lesser c = search needs
 
--- src/lib.rt:33:23
 slice-read-lesser : tie.Need-slice-read-lesser Inv-loop μ-loop
 slice-read-lesser c = search needs
 
--- src/lib.rt:33:31
 sub-lesser : tie.Need-sub-lesser Inv-loop μ-loop
 sub-lesser c = search needs
 
--- src/lib.rt:33:29
 mul-lesser-2 : tie.Need-mul-lesser-2 Inv-loop μ-loop
 mul-lesser-2 c = search needs
 
--- src/lib.rt:33:29
 slice-read-lesser-2 : tie.Need-slice-read-lesser-2 Inv-loop μ-loop
 slice-read-lesser-2 c = search needs
 
--- src/lib.rt:33:29
 add-lesser : tie.Need-add-lesser Inv-loop μ-loop
 add-lesser c = let b = c .before .before .before in record { fits = relax-sum (b .before .before .pre) (b .loop .inv .2) (omega arith) (omega arith) }
 
--- src/lib.rt:33:16
 lesser-requires : tie.Need-lesser-requires Inv-loop μ-loop
 lesser-requires c κs = search needs
 
--- src/lib.rt:33:9
 mul-d : tie.Need-mul-d Inv-loop μ-loop
 mul-d c = search needs
 
--- src/lib.rt:33:9
 slice-write-d : tie.Need-slice-write-d Inv-loop μ-loop
 slice-write-d c = search needs
 
--- src/lib.rt:34:9
 add-p : tie.Need-add-p Inv-loop μ-loop
 add-p c = search needs
 
--- src/lib.rt:32:5
 loop-less : tie.Need-loop-less Inv-loop μ-loop
 loop-less c = search needs
 
--- src/lib.rt:32:5
 loop-again : tie.Need-loop-again Inv-loop μ-loop
 loop-again c =
     let b = c .before .before .before .before in
     (omega arith, omega arith, written-more (b .loop .inv .2) _ (relax-turn (b .before .before .pre) (b .loop .inv .2) (omega arith) (omega arith) (c .lesser .ensures)) (omega arith) (omega arith))
 
--- src/lib.rt:27:1
 same-length : tie.Need-same-length Inv-loop μ-loop
 same-length c = c .before .loop .inv .2 .same
 
--- src/lib.rt:27:1
 returns : tie.Need-returns Inv-loop μ-loop
 returns c = written-to _ (omega arith) (c .before .loop .inv .2)
 

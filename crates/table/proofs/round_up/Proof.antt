@@ -16,55 +16,42 @@ Inv-loop energies n a unit cost₀ less end k₀ cost k = (k ≤ n * 16) × Writ
 abbrev μ-loop : tie.MeasureT-loop
 μ-loop energies n a unit cost₀ less end k₀ cost k = n * 16 - k
 
--- src/lib.rt:205:16
 sub-less : tie.Need-sub-less Inv-loop μ-loop
 sub-less c = omega (arith, unit-positive (c .pre))
 
--- src/lib.rt:206:15
 mul-end : tie.Need-mul-end Inv-loop μ-loop
 mul-end c = search needs
 
--- src/lib.rt:208:5
 loop-holds : tie.Need-loop-holds Inv-loop μ-loop
 loop-holds c = (omega arith, written-none _ _ _)
 
--- src/lib.rt:209:21
 mul-cost : tie.Need-mul-cost Inv-loop μ-loop
 mul-cost c = search needs
 
--- src/lib.rt:209:21
 element-copy-out-cost : tie.Need-element-copy-out-cost Inv-loop μ-loop
 element-copy-out-cost c = search needs
 
--- src/lib.rt:209:21
 add-cost : tie.Need-add-cost Inv-loop μ-loop
 add-cost c = let g = c .before .before .before .pre in omega (arith, unit-low g, unit-positive g, g .small (c .before .before .loop .k))
 
--- src/lib.rt:209:20
 shr-cost : tie.Need-shr-cost Inv-loop μ-loop
 shr-cost c = search needs
 
--- src/lib.rt:209:9
 mul-cost-2 : tie.Need-mul-cost-2 Inv-loop μ-loop
 mul-cost-2 c = search needs
 
--- src/lib.rt:209:9
 element-write-cost : tie.Need-element-write-cost Inv-loop μ-loop
 element-write-cost c = search needs
 
--- src/lib.rt:210:9
 add-k : tie.Need-add-k Inv-loop μ-loop
 add-k c = search needs
 
--- src/lib.rt:208:5
 loop-less : tie.Need-loop-less Inv-loop μ-loop
 loop-less c = search needs
 
--- src/lib.rt:208:5
 loop-again : tie.Need-loop-again Inv-loop μ-loop
 loop-again c = (omega arith, written-more (c .before .before .loop .inv .1) _ (cost-is (c .before .before .before .pre) _) (omega arith) (omega arith))
 
--- src/lib.rt:201:1
 returns : tie.Need-returns Inv-loop μ-loop
 returns c = written-to _ (omega arith) (c .before .loop .inv .1)
 

@@ -18,66 +18,51 @@ Inv-loop d₀ a n i m cost load cap b end r₀ d r = (1 ≤ r) × (r ≤ m + 1) 
 abbrev μ-loop : tie.MeasureT-loop
 μ-loop d₀ a n i m cost load cap b end r₀ d r = m + 1 - r
 
--- src/lib.rt:53:13
 add-b : tie.Need-add-b Inv-loop μ-loop
 add-b c = search needs
 
--- src/lib.rt:54:15
 add-end : tie.Need-add-end Inv-loop μ-loop
 add-end c = search needs
 
--- src/lib.rt:55:5
 fill-requires : tie.Need-fill-requires Inv-loop μ-loop
 fill-requires c κs = search needs
 
--- src/lib.rt:57:5
 loop-holds : tie.Need-loop-holds Inv-loop μ-loop
 loop-holds c =
     let f = c .before .before in
     let g = f .before .before .before in
     (omega arith, omega arith, row-start (g .args .cap) (g .args .m) (g .args .cost .now) (g .args .load .now) (g .args .i) (g .args .a) (g .args .n) _ _ (f .fill .ensures))
 
--- src/lib.rt:58:22
 mul-c : tie.Need-mul-c Inv-loop μ-loop
 mul-c c = search needs
 
--- src/lib.rt:58:22
 add-c : tie.Need-add-c Inv-loop μ-loop
 add-c c = search needs
 
--- src/lib.rt:58:17
 mul-c-2 : tie.Need-mul-c-2 Inv-loop μ-loop
 mul-c-2 c = search needs
 
--- src/lib.rt:58:17
 element-copy-out-c : tie.Need-element-copy-out-c Inv-loop μ-loop
 element-copy-out-c c = search needs
 
--- src/lib.rt:59:22
 mul-l : tie.Need-mul-l Inv-loop μ-loop
 mul-l c = search needs
 
--- src/lib.rt:59:22
 add-l : tie.Need-add-l Inv-loop μ-loop
 add-l c = search needs
 
--- src/lib.rt:59:17
 mul-l-2 : tie.Need-mul-l-2 Inv-loop μ-loop
 mul-l-2 c = search needs
 
--- src/lib.rt:59:17
 element-copy-out-l : tie.Need-element-copy-out-l Inv-loop μ-loop
 element-copy-out-l c = search needs
 
--- src/lib.rt:61:22
 add-relax : tie.Need-add-relax Inv-loop μ-loop
 add-relax c = search needs
 
--- src/lib.rt:61:34
 add-relax-2 : tie.Need-add-relax-2 Inv-loop μ-loop
 add-relax-2 c = search needs
 
--- src/lib.rt:61:13
 relax-requires : tie.Need-relax-requires Inv-loop μ-loop
 relax-requires c κs =
     let a = c .before .before .before .before .before in
@@ -85,15 +70,12 @@ relax-requires c κs =
     let g = f .before .before .before in
     row-relaxable (g .args .cap) (g .args .m) (g .args .cost .now) (g .args .load .now) (g .args .i) (g .args .a) (g .args .n) _ _ (f .fill .ensures) _ _ _ (f .before .before .before .pre) (a .loop .inv .2) (omega arith)
 
--- src/lib.rt:63:9
 add-r : tie.Need-add-r Inv-loop μ-loop
 add-r c = search needs
 
--- src/lib.rt:57:5
 loop-less : tie.Need-loop-less Inv-loop μ-loop
 loop-less c = search needs
 
--- src/lib.rt:57:5
 loop-again : tie.Need-loop-again Inv-loop μ-loop
 loop-again c =
     let a = c .before .before .before .before in
@@ -104,11 +86,9 @@ loop-again c =
     (λ w. (omega arith, omega arith, rw (w .1) (row-skip (g .args .cap) (g .args .m) (g .args .cost .now) (g .args .load .now) (g .args .i) (g .args .a) (g .args .n) (a .loop .r) _ _ (a .loop .inv .2) (w .0 .left))))
     (c .if1 .came)
 
--- src/lib.rt:40:1
 same-length : tie.Need-same-length Inv-loop μ-loop
 same-length c = let a = c .before in a .loop .inv .2 .same ∙ a .before .before .before .fill .ensures .same
 
--- src/lib.rt:40:1
 returns : tie.Need-returns Inv-loop μ-loop
 returns c =
     let a = c .before in

@@ -22,60 +22,47 @@ abbrev μ-loop : tie.MeasureT-loop
 rate-number : (c : tie.After-shared-slice-known Inv-loop μ-loop) → getD (c .before .before .before .args .plan .now) (c .before .before .loop .t) 0 ≤ 8
 rate-number c = c .before .before .before .pre .numbers (c .before .before .loop .t) (omega arith)
 
--- src/lib.rt:221:5
 loop-holds : tie.Need-loop-holds Inv-loop μ-loop
 loop-holds c = (omega arith, sym (total-none _ _))
 
--- src/lib.rt:222:17
 mul-r : tie.Need-mul-r Inv-loop μ-loop
 mul-r c = search needs
 
--- src/lib.rt:222:17
 shared-slice-read-r : tie.Need-shared-slice-read-r Inv-loop μ-loop
 shared-slice-read-r c = search needs
 
--- src/lib.rt:222:17
 cast-r : tie.Need-cast-r Inv-loop μ-loop
 cast-r c = omega (arith, rate-number c)
 
--- src/lib.rt:223:22
 mul-s : tie.Need-mul-s Inv-loop μ-loop
 mul-s c = search needs
 
--- src/lib.rt:223:22
 add-s : tie.Need-add-s Inv-loop μ-loop
 add-s c = omega (arith, rate-number c, c .before .before .before .pre .tasks)
 
--- src/lib.rt:223:14
 mul-s-2 : tie.Need-mul-s-2 Inv-loop μ-loop
 mul-s-2 c = omega (arith, rate-number c, c .before .before .before .pre .tasks)
 
--- src/lib.rt:223:14
 element-copy-out-s : tie.Need-element-copy-out-s Inv-loop μ-loop
 element-copy-out-s c = omega (arith, rate-number c, c .before .before .before .pre .tasks)
 
--- src/lib.rt:223:9
 add-s-2 : tie.Need-add-s-2 Inv-loop μ-loop
 add-s-2 c =
     let i = c .before .before .before in
     let g = i .before .pre in
     omega (arith, i .loop .inv .1, sum-low (i .before .args .options .now) (i .before .args .plan .now) (i .loop .t) (g .small) (omega (arith, g .tasks, i .loop .inv .0)), g .small (i .loop .t * 16 + getD (i .before .args .plan .now) (i .loop .t) 0))
 
--- src/lib.rt:224:9
 add-t : tie.Need-add-t Inv-loop μ-loop
 add-t c = search needs
 
--- src/lib.rt:221:5
 loop-less : tie.Need-loop-less Inv-loop μ-loop
 loop-less c = search needs
 
--- src/lib.rt:221:5
 loop-again : tie.Need-loop-again Inv-loop μ-loop
 loop-again c =
     let i = c .before .before .before in
     (omega arith, sum-turn (optionAt (i .before .args .options .now)) (i .loop .t) (i .before .args .plan .now) (i .loop .inv .1))
 
--- src/lib.rt:215:1
 returns : tie.Need-returns Inv-loop μ-loop
 returns c = let i = c .before in i .loop .inv .1 ∙ ap (λ (x : ℕ). total (optionAt (i .before .args .options .now)) x (i .before .args .plan .now)) (omega arith)
 

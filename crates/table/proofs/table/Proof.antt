@@ -18,47 +18,38 @@ Inv-loop d₀ n t m cost load cap a₀ i₀ d a i = (i ≤ t) × (a ≡ i * n) �
 abbrev μ-loop : tie.MeasureT-loop
 μ-loop d₀ n t m cost load cap a₀ i₀ d a i = t - i
 
--- src/lib.rt:69:5
 fill-requires : tie.Need-fill-requires Inv-loop μ-loop
 fill-requires c κs = let g = c .before .before in (omega arith, omega (arith, g .pre .words, next-row (g .args .t) (g .args .n)))
 
--- src/lib.rt:72:5
 loop-holds : tie.Need-loop-holds Inv-loop μ-loop
 loop-holds c = (omega arith, sym (zero-mul _), table-start _ _ _ _ _ (c .before .before .fill .ensures))
 
--- src/lib.rt:73:9
 row-requires : tie.Need-row-requires Inv-loop μ-loop
 row-requires c κs =
     let a = c .before .before in
     let f = a .before .before .before in
     row-ready _ _ _ _ (a .loop .inv .1) (a .loop .inv .2) (ready-after (f .fill .ensures .same) (f .before .before .before .pre)) (omega arith)
 
--- src/lib.rt:74:9
 add-a : tie.Need-add-a Inv-loop μ-loop
 add-a c =
     let a = c .before .before .before .before .before in
     let s = a .before .before .before .before .before .before in
     omega (arith, a .loop .inv .1, row-within (s .args .n) (a .loop .i) (s .args .t) _ (omega arith) (s .pre .words), s .good .0 .0)
 
--- src/lib.rt:75:9
 add-i : tie.Need-add-i Inv-loop μ-loop
 add-i c = search needs
 
--- src/lib.rt:72:5
 loop-less : tie.Need-loop-less Inv-loop μ-loop
 loop-less c = search needs
 
--- src/lib.rt:72:5
 loop-again : tie.Need-loop-again Inv-loop μ-loop
 loop-again c =
     let a = c .before .before .before .before .before in
     (omega arith, omega (arith, next-row (a .loop .i) (a .before .before .before .before .before .before .args .n)), table-more _ _ _ _ (a .loop .inv .1) (a .loop .inv .2) (c .before .before .row .ensures))
 
--- src/lib.rt:65:1
 same-length : tie.Need-same-length Inv-loop μ-loop
 same-length c = let a = c .before in a .loop .inv .2 .same ∙ a .before .before .before .fill .ensures .same
 
--- src/lib.rt:65:1
 returns : tie.Need-returns Inv-loop μ-loop
 returns c = let a = c .before in table-end _ _ _ _ _ _ _ (omega arith) (a .before .before .before .fill .ensures) (a .loop .inv .2)
 

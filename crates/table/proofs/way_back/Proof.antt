@@ -35,83 +35,63 @@ found c =
     let g = a .before .before .before .pre in
     omega (arith, sound c .below, g .rates, g .tasks, a .loop .inv .tasks)
 
--- src/lib.rt:169:17
 mul-a : tie.Need-mul-a Inv-loop μ-loop
 mul-a c = let s = c .before .before in omega (arith, s .pre .holds .words, next-row (s .args .t) (s .args .n), s .good .1 .0 .0)
 
--- src/lib.rt:170:5
 loop-holds : tie.Need-loop-holds Inv-loop μ-loop
 loop-holds c = way-start _ _ _ _ _ _ _ _ (c .before .before .pre) refl
 
--- src/lib.rt:171:19
 add-v : tie.Need-add-v Inv-loop μ-loop
 add-v c = omega (arith, here c, c .before .loop .inv .place, c .before .before .before .before .good .1 .0 .0)
 
--- src/lib.rt:171:17
 mul-v : tie.Need-mul-v Inv-loop μ-loop
 mul-v c = omega (arith, here c, c .before .loop .inv .place, c .before .before .before .before .good .1 .0 .1)
 
--- src/lib.rt:171:17
 shared-slice-read-v : tie.Need-shared-slice-read-v Inv-loop μ-loop
 shared-slice-read-v c = omega (arith, here (c .before), c .before .before .loop .inv .place)
 
--- src/lib.rt:172:9
 sub-a : tie.Need-sub-a Inv-loop μ-loop
 sub-a c = here (c .before) .0
 
--- src/lib.rt:173:9
 sub-i : tie.Need-sub-i Inv-loop μ-loop
 sub-i c = search needs
 
--- src/lib.rt:174:13
 rate-at-requires : tie.Need-rate-at-requires Inv-loop μ-loop
 rate-at-requires c κs = let i = c .before in rate-ready _ _ _ _ _ _ _ _ (i .before .before .before .before .pre) (i .before .loop .inv) (i .loop-test .taken) refl
 
--- src/lib.rt:175:19
 cast-plan : tie.Need-cast-plan Inv-loop μ-loop
 cast-plan c = omega (arith, found c)
 
--- src/lib.rt:175:9
 mul-plan : tie.Need-mul-plan Inv-loop μ-loop
 mul-plan c = search needs
 
--- src/lib.rt:175:9
 slice-write-plan : tie.Need-slice-write-plan Inv-loop μ-loop
 slice-write-plan c = search needs
 
--- src/lib.rt:176:22
 mul-left : tie.Need-mul-left Inv-loop μ-loop
 mul-left c = search needs
 
--- src/lib.rt:176:22
 add-left : tie.Need-add-left Inv-loop μ-loop
 add-left c = omega (arith, found c)
 
--- src/lib.rt:176:17
 mul-left-2 : tie.Need-mul-left-2 Inv-loop μ-loop
 mul-left-2 c = omega (arith, found c)
 
--- src/lib.rt:176:17
 element-copy-out-left : tie.Need-element-copy-out-left Inv-loop μ-loop
 element-copy-out-left c = omega (arith, found c)
 
--- src/lib.rt:176:9
 sub-left : tie.Need-sub-left Inv-loop μ-loop
 sub-left c = sound (c .before) .allowed
 
--- src/lib.rt:170:5
 loop-less : tie.Need-loop-less Inv-loop μ-loop
 loop-less c = search needs
 
--- src/lib.rt:170:5
 loop-again : tie.Need-loop-again Inv-loop μ-loop
 loop-again c = let i = c .before .before .before in way-turn _ _ _ _ _ _ _ _ (i .before .before .before .before .pre) (i .before .loop .inv) (i .loop-test .taken) (c .before .rate-at .ensures) refl
 
--- src/lib.rt:153:1
 same-length : tie.Need-same-length Inv-loop μ-loop
 same-length c = c .before .loop .inv .same
 
--- src/lib.rt:153:1
 returns : tie.Need-returns Inv-loop μ-loop
 returns c = way-whole _ _ _ _ _ _ _ _ (c .before .before .before .before .pre) (c .before .loop .inv) (omega arith)
 

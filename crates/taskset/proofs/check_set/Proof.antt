@@ -16,19 +16,15 @@ use Rattle.taskset.proofs.check_words.Reads as check-words-reads
 use Rattle.taskset.proofs.follow.Reads as follow-reads
 use Rattle.taskset.proofs.period_place.Reads as period-place-reads
 
--- src/lib.rt:261:9
 check-words-requires : tie.Need-check-words-requires
 check-words-requires c κs = search needs
 
--- src/lib.rt:263:24
 enum-known-shape : tie.Need-enum-known-shape
 enum-known-shape c = search needs
 
--- src/lib.rt:264:24
 enum-known-shape-2 : tie.Need-enum-known-shape-2
 enum-known-shape-2 c = search needs
 
--- src/lib.rt:265:17
 follow-requires : tie.Need-follow-requires
 follow-requires c κs =
     let sh = c .before in
@@ -38,7 +34,6 @@ follow-requires c κs =
     let shape = subst (ShapeAnswers (a .head) (a .extra) (a .s .now)) (sh .shape2 .given .1) (sh .before .before .check-words .ensures) in
     has-tasks (a .head) (a .extra) (a .s .now) m n shape (omega arith) (omega arith)
 
--- src/lib.rt:268:58
 period-place-requires : tie.Need-period-place-requires
 period-place-requires c κs =
     let sh = c .before .before .before in
@@ -49,7 +44,6 @@ period-place-requires c κs =
     let r = counts-range (a .head) (a .extra) (a .s .now) m n shape in
     omega (arith, c .before .follow .ensures .tasks .to)
 
--- src/lib.rt:268:17
 returns : tie.Need-returns
 returns c =
     let sh = c .before .before .before .before in
@@ -59,7 +53,6 @@ returns c =
     let shape = subst (ShapeAnswers (a .head) (a .extra) (a .s .now)) (sh .shape2 .given .1) (sh .before .before .check-words .ensures) in
     rw (c .period-place .ensures) (too-long (a .head) (a .extra) (a .s .now) m n shape (c .before .before .follow .result .tasks) (c .before .before .follow .result .value) (c .before .before .follow .ensures) (c .before .if1 .taken))
 
--- src/lib.rt:257:1
 returns-2 : tie.Need-returns-2
 returns-2 c =
     let sh = c .before in
@@ -68,7 +61,6 @@ returns-2 c =
     let shape = subst (ShapeAnswers (a .head) (a .extra) (a .s .now)) (sh .shape .given .1) (sh .before .before .check-words .ensures) in
     refuses-front (wordChecks (a .head) (a .extra) (a .s .now)) (check 4 (IsTooLong (a .head) (a .extra) (a .s .now)) ∷ []) (number r) (second r) shape
 
--- src/lib.rt:257:1
 returns-3 : tie.Need-returns-3
 returns-3 c =
     let sh = c .before .before .before in

@@ -11,11 +11,9 @@ use Rattle.taskset.proofs.first_bad.Reads as first-bad-reads
 use Rattle.taskset.proofs.first_fall.Reads as first-fall-reads
 use Rattle.taskset.proofs.period_place.Reads as period-place-reads
 
--- src/lib.rt:211:9
 first-bad-requires : tie.Need-first-bad-requires
 first-bad-requires c κs = search needs
 
--- src/lib.rt:213:9
 returns : tie.Need-returns
 returns c =
     let fb = c .before in
@@ -23,7 +21,6 @@ returns c =
     let found = fb .first-bad .ensures in
     bad-word (a .head) (a .extra) (a .s .now) (fb .first-bad .result) found (c .if1 .taken)
 
--- src/lib.rt:216:9
 returns-2 : tie.Need-returns-2
 returns-2 c =
     let fb = c .before .before in
@@ -31,27 +28,21 @@ returns-2 c =
     let found = fb .first-bad .ensures in
     missing-word (a .head) (a .extra) (a .s .now) (fb .first-bad .result) found (omega arith) (omega arith)
 
--- src/lib.rt:218:13
 mul-m : tie.Need-mul-m
 mul-m c = search needs
 
--- src/lib.rt:218:13
 shared-slice-read-m : tie.Need-shared-slice-read-m
 shared-slice-read-m c = search needs
 
--- src/lib.rt:218:13
 cast-m : tie.Need-cast-m
 cast-m c = omega (arith, c .shared-slice-known2 .given (c .before .before .before .before .before .args .head))
 
--- src/lib.rt:219:13
 add-c : tie.Need-add-c
 add-c c = search needs
 
--- src/lib.rt:219:13
 add-c-2 : tie.Need-add-c-2
 add-c-2 c = omega (arith, c .shared-slice-known2 .given (c .before .before .before .before .before .args .head))
 
--- src/lib.rt:221:9
 returns-3 : tie.Need-returns-3
 returns-3 c =
     let fb = c .before .before .before .before in
@@ -59,15 +50,12 @@ returns-3 c =
     let found = fb .first-bad .ensures in
     missing-word (a .head) (a .extra) (a .s .now) (fb .first-bad .result) found (omega arith) (omega arith)
 
--- src/lib.rt:223:13
 mul-n : tie.Need-mul-n
 mul-n c = search needs
 
--- src/lib.rt:223:13
 shared-slice-read-n : tie.Need-shared-slice-read-n
 shared-slice-read-n c = search needs
 
--- src/lib.rt:223:13
 cast-n : tie.Need-cast-n
 cast-n c =
     let fb = c .before .before .before .before .before in
@@ -75,7 +63,6 @@ cast-n c =
     let found = fb .first-bad .ensures in
     let r = tasks-range (a .head) (a .extra) (a .s .now) (fb .first-bad .result) found (omega arith) (omega arith) in omega arith
 
--- src/lib.rt:224:18
 period-place-requires : tie.Need-period-place-requires
 period-place-requires c κs =
     let fb = c .before .before .before .before .before in
@@ -85,7 +72,6 @@ period-place-requires c κs =
     let t = tasks-range (a .head) (a .extra) (a .s .now) (fb .first-bad .result) found (omega arith) (omega arith) in
     omega arith
 
--- src/lib.rt:225:9
 returns-4 : tie.Need-returns-4
 returns-4 c =
     let fb = c .before .before .before .before .before .before .before in
@@ -93,7 +79,6 @@ returns-4 c =
     let found = fb .first-bad .ensures in
     missing-word (a .head) (a .extra) (a .s .now) (fb .first-bad .result) found (omega arith) (omega (arith, c .before .period-place .ensures))
 
--- src/lib.rt:227:9
 first-fall-requires : tie.Need-first-fall-requires
 first-fall-requires c κs =
     let fb = c .before .before .before .before .before .before .before in
@@ -102,7 +87,6 @@ first-fall-requires c κs =
     let r = rates-range (a .head) (a .extra) (a .s .now) (fb .first-bad .result) found (omega arith) (omega arith) in
     omega (arith, c .before .period-place .ensures)
 
--- src/lib.rt:229:9
 returns-5 : tie.Need-returns-5
 returns-5 c =
     let fb = c .before .before .before .before .before .before .before .before .before in
@@ -110,7 +94,6 @@ returns-5 c =
     let found = fb .first-bad .ensures in
     not-above (a .head) (a .extra) (a .s .now) (fb .first-bad .result) found (omega arith) (omega (arith, c .before .before .before .period-place .ensures)) (c .before .first-fall .result) (c .before .first-fall .ensures) (c .if5 .taken)
 
--- src/lib.rt:207:1
 returns-6 : tie.Need-returns-6
 returns-6 c =
     let fb = c .before .before .before .before .before .before .before .before .before in

@@ -6,27 +6,22 @@ use Rattle.taskset.proofs.cycles_of.Reads as reads
 use Rattle.taskset.proofs.cycles_of.Lts as lts
 use Rattle.taskset.proofs.period_place.Reads as period-place-reads
 
--- src/lib.rt:299:14
 period-place-requires : tie.Need-period-place-requires
 period-place-requires c κs =
     let l = located (c .before .pre) in omega (arith, c .before .pre .heads, c .before .pre .extras)
 
--- src/lib.rt:299:14
 add-at : tie.Need-add-at
 add-at c =
     let l = located (c .before .before .pre) in omega (arith, c .period-place .ensures)
 
--- src/lib.rt:300:5
 mul-result : tie.Need-mul-result
 mul-result c =
     let l = located (c .before .before .pre) in omega (arith, c .period-place .ensures)
 
--- src/lib.rt:300:5
 shared-slice-read-result : tie.Need-shared-slice-read-result
 shared-slice-read-result c =
     let l = located (c .before .before .before .pre) in omega (arith, c .before .period-place .ensures)
 
--- src/lib.rt:295:1
 returns : tie.Need-returns
 returns c =
     let l = located (c .before .before .before .pre) in rw (c .before .period-place .ensures) (l .cycles-is)

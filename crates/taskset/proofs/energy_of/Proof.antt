@@ -6,42 +6,35 @@ use Rattle.taskset.proofs.energy_of.Reads as reads
 use Rattle.taskset.proofs.energy_of.Lts as lts
 use Rattle.taskset.proofs.period_place.Reads as period-place-reads
 
--- src/lib.rt:335:14
 period-place-requires : tie.Need-period-place-requires
 period-place-requires c κs =
     let l = located (c .before .pre .0) in omega (arith, c .before .pre .0 .heads, c .before .pre .0 .extras)
 
--- src/lib.rt:335:49
 add-at : tie.Need-add-at
 add-at c =
     let g = c .before .before in
     let l = located (g .pre .0) in omega (arith, c .period-place .ensures, g .pre .0 .extras, l .energies-inside (g .args .r) (g .pre .2))
 
--- src/lib.rt:335:49
 add-at-2 : tie.Need-add-at-2
 add-at-2 c =
     let g = c .before .before in
     let l = located (g .pre .0) in omega (arith, c .period-place .ensures, g .pre .0 .extras, l .energies-inside (g .args .r) (g .pre .2))
 
--- src/lib.rt:335:14
 add-at-3 : tie.Need-add-at-3
 add-at-3 c =
     let g = c .before .before in
     let l = located (g .pre .0) in omega (arith, c .period-place .ensures, g .pre .0 .extras, l .energies-inside (g .args .r) (g .pre .2))
 
--- src/lib.rt:336:5
 mul-result : tie.Need-mul-result
 mul-result c =
     let g = c .before .before in
     let l = located (g .pre .0) in omega (arith, c .period-place .ensures, g .pre .0 .extras, l .energies-inside (g .args .r) (g .pre .2))
 
--- src/lib.rt:336:5
 shared-slice-read-result : tie.Need-shared-slice-read-result
 shared-slice-read-result c =
     let g = c .before .before .before in
     let l = located (g .pre .0) in omega (arith, c .before .period-place .ensures, l .energies-inside (g .args .r) (g .pre .2))
 
--- src/lib.rt:331:1
 returns : tie.Need-returns
 returns c =
     let g = c .before .before .before in

@@ -24,27 +24,21 @@ Inv-loop s head extra q₀ q = (q ≤ length s) × ((k : ℕ) → 0 ≤ k → k 
 abbrev μ-loop : tie.MeasureT-loop
 μ-loop s head extra q₀ q = length s - q
 
--- src/lib.rt:172:5
 loop-holds : tie.Need-loop-holds Inv-loop μ-loop
 loop-holds c = (omega arith, (λ k a b. absurd (omega arith)))
 
--- src/lib.rt:173:13
 kind-at-requires : tie.Need-kind-at-requires Inv-loop μ-loop
 kind-at-requires c κs = search needs
 
--- src/lib.rt:174:27
 mul-is-allowed : tie.Need-mul-is-allowed Inv-loop μ-loop
 mul-is-allowed c = search needs
 
--- src/lib.rt:174:27
 shared-slice-read-is-allowed : tie.Need-shared-slice-read-is-allowed Inv-loop μ-loop
 shared-slice-read-is-allowed c = search needs
 
--- src/lib.rt:174:13
 is-allowed-requires : tie.Need-is-allowed-requires Inv-loop μ-loop
 is-allowed-requires c κs = search needs
 
--- src/lib.rt:175:13
 returns : tie.Need-returns Inv-loop μ-loop
 returns c =
     let b = c .before .before .before .before .before in
@@ -52,15 +46,12 @@ returns c =
     let k = c .before .is-allowed .ensures ∙ ap (λ (k : Kind). allows k (word (start .args .s .now) (b .loop .q))) (c .before .before .before .kind-at .ensures) in
     found-here (omega arith) (b .loop .inv .1) (omega arith) (sym k ∙ not-true _ (c .if1 .taken))
 
--- src/lib.rt:177:9
 add-q : tie.Need-add-q Inv-loop μ-loop
 add-q c = search needs
 
--- src/lib.rt:172:5
 loop-less : tie.Need-loop-less Inv-loop μ-loop
 loop-less c = search needs
 
--- src/lib.rt:172:5
 loop-again : tie.Need-loop-again Inv-loop μ-loop
 loop-again c =
     let b = c .before .before .before .before .before in
@@ -68,7 +59,6 @@ loop-again c =
     let k = c .before .is-allowed .ensures ∙ ap (λ (k : Kind). allows k (word (start .args .s .now) (b .loop .q))) (c .before .before .before .kind-at .ensures) in
     (omega arith, none-more (omega arith) (b .loop .inv .1) (λ h. true≢false (sym (not-false _ (c .if1 .left)) ∙ k ∙ h)))
 
--- src/lib.rt:167:1
 returns-2 : tie.Need-returns-2 Inv-loop μ-loop
 returns-2 c = found-end (omega arith) (c .before .loop .inv .1) (omega arith)
 

@@ -24,55 +24,45 @@ Inv-loop s head extra m n l₀ t₀ at₀ l t at = (t ≤ n) × (at ≡ periodPl
 abbrev μ-loop : tie.MeasureT-loop
 μ-loop s head extra m n l₀ t₀ at₀ l t at = n - t
 
--- src/lib.rt:233:18
 add-at : tie.Need-add-at Inv-loop μ-loop
 add-at c = search needs
 
--- src/lib.rt:233:18
 add-at-2 : tie.Need-add-at-2 Inv-loop μ-loop
 add-at-2 c = search needs
 
--- src/lib.rt:234:5
 loop-holds : tie.Need-loop-holds Inv-loop μ-loop
 loop-holds c = (omega arith, omega arith, sym (running-none _), omega arith, omega arith, (λ k a b. absurd (omega arith)))
 
--- src/lib.rt:235:17
 mul-p : tie.Need-mul-p Inv-loop μ-loop
 mul-p c =
     let b = c .before in
     let h = task-in _ _ _ _ _ (b .before .before .pre) (b .loop .t) (c .loop-test .taken) (b .loop .at) (b .loop .inv .1) in
     omega arith
 
--- src/lib.rt:235:17
 shared-slice-read-p : tie.Need-shared-slice-read-p Inv-loop μ-loop
 shared-slice-read-p c =
     let b = c .before .before in
     let h = task-in _ _ _ _ _ (b .before .before .pre) (b .loop .t) (c .before .loop-test .taken) (b .loop .at) (b .loop .inv .1) in
     omega arith
 
--- src/lib.rt:235:17
 cast-p : tie.Need-cast-p Inv-loop μ-loop
 cast-p c = omega (arith, c .shared-slice-known2 .given (c .before .before .loop .at))
 
--- src/lib.rt:236:13
 common-divisor-requires : tie.Need-common-divisor-requires Inv-loop μ-loop
 common-divisor-requires c κs = search needs
 
--- src/lib.rt:237:20
 div-next : tie.Need-div-next Inv-loop μ-loop
 div-next c =
     let b = c .before .before .before in
     let start = b .before .before in
     divisor-positive _ _ _ _ _ (start .pre) (b .loop .t) (omega arith) (b .loop .at) (b .loop .inv .1) (b .loop .l) (c .common-divisor .result) (b .loop .inv .2) (c .common-divisor .ensures) (b .loop .inv .3)
 
--- src/lib.rt:237:20
 mul-next : tie.Need-mul-next Inv-loop μ-loop
 mul-next c =
     let b = c .before .before .before in
     let start = b .before .before in
     record { fits = product-fits (b .loop .l) (c .common-divisor .result) (getD (start .args .s .now) (b .loop .at) 0) (b .loop .inv .4) (omega (arith, c .before .shared-slice-known2 .given (b .loop .at))) }
 
--- src/lib.rt:239:13
 returns : tie.Need-returns Inv-loop μ-loop
 returns c =
     let b = c .before .before .before .before in
@@ -85,15 +75,12 @@ returns c =
       most = b .loop .inv .4;
     }
 
--- src/lib.rt:242:15
 add-at-3 : tie.Need-add-at-3 Inv-loop μ-loop
 add-at-3 c = search needs
 
--- src/lib.rt:242:15
 add-at-4 : tie.Need-add-at-4 Inv-loop μ-loop
 add-at-4 c = search needs
 
--- src/lib.rt:242:9
 add-at-5 : tie.Need-add-at-5 Inv-loop μ-loop
 add-at-5 c =
     let b = c .before .before .before .before in
@@ -101,15 +88,12 @@ add-at-5 c =
     let h = task-in _ _ _ _ _ (start .pre) (b .loop .t) (omega arith) (b .loop .at) (b .loop .inv .1) in
     omega arith
 
--- src/lib.rt:243:9
 add-t : tie.Need-add-t Inv-loop μ-loop
 add-t c = search needs
 
--- src/lib.rt:234:5
 loop-less : tie.Need-loop-less Inv-loop μ-loop
 loop-less c = search needs
 
--- src/lib.rt:234:5
 loop-again : tie.Need-loop-again Inv-loop μ-loop
 loop-again c =
     let b = c .before .before .before .before in
@@ -123,7 +107,6 @@ loop-again c =
       none-more (omega arith) (b .loop .inv .5) (next-within _ _ _ _ _ (start .pre) (b .loop .t) (omega arith) (b .loop .at) (b .loop .inv .1) (b .loop .l) (d .common-divisor .result) (b .loop .inv .2) (d .common-divisor .ensures) (c .if1 .left)),
     )
 
--- src/lib.rt:227:1
 returns-2 : tie.Need-returns-2 Inv-loop μ-loop
 returns-2 c =
     let b = c .before in

@@ -4,11 +4,9 @@ use Rattle.taskset.proofs.is_between.Tie as tie
 use Rattle.taskset.proofs.is_between.Reads as reads
 use Rattle.taskset.proofs.is_between.Lts as lts
 
--- src/lib.rt:109:1
 returns : tie.Need-returns
 returns c = simp (le-leb _ _ (c .if1 .taken))
 
--- src/lib.rt:109:1
 returns-2 : tie.Need-returns-2
 returns-2 c = simp (lt-leb _ _ (c .if1 .left))
 

@@ -13,90 +13,69 @@ use Rattle.taskset.proofs.kind_at.Reads as reads
 use Rattle.taskset.proofs.kind_at.Lts as lts
 use Rattle.taskset.proofs.task_kind.Reads as task-kind-reads
 
--- src/lib.rt:144:9
 returns : tie.Need-returns
 unfolding headKind
 returns c = sym (kind-head _ _ _ _ (c .if1 .taken))
 
--- src/lib.rt:147:9
 returns-2 : tie.Need-returns-2
 returns-2 c = sym (kind-rates _ _ _ _ (c .if2 .taken))
 
--- src/lib.rt:149:13
 mul-m : tie.Need-mul-m
 mul-m c = search needs
 
--- src/lib.rt:149:13
 shared-slice-read-m : tie.Need-shared-slice-read-m
 shared-slice-read-m c = search needs
 
--- src/lib.rt:149:13
 cast-m : tie.Need-cast-m
 cast-m c = omega (arith, c .shared-slice-known2 .given (c .before .before .before .before .args .head))
 
--- src/lib.rt:150:13
 add-c : tie.Need-add-c
 add-c c = search needs
 
--- src/lib.rt:150:13
 add-c-2 : tie.Need-add-c-2
 add-c-2 c = omega (arith, c .shared-slice-known2 .given (c .before .before .before .before .args .head))
 
--- src/lib.rt:152:9
 returns-3 : tie.Need-returns-3
 returns-3 c = sym (kind-rate _ _ _ _ (omega arith) (c .if3 .taken))
 
--- src/lib.rt:155:9
 returns-4 : tie.Need-returns-4
 returns-4 c = sym (kind-tasks _ _ _ _ (c .if4 .taken))
 
--- src/lib.rt:157:13
 mul-n : tie.Need-mul-n
 mul-n c = search needs
 
--- src/lib.rt:157:13
 shared-slice-read-n : tie.Need-shared-slice-read-n
 shared-slice-read-n c = search needs
 
--- src/lib.rt:157:13
 cast-n : tie.Need-cast-n
 cast-n c =
     let start = c .before .before .before .before .before .before .before in
     omega (arith, c .shared-slice-known3 .given (start .args .head + 1 + getD (start .args .s .now) (start .args .head) 0))
 
--- src/lib.rt:158:18
 add-k : tie.Need-add-k
 add-k c = search needs
 
--- src/lib.rt:158:13
 sub-k : tie.Need-sub-k
 sub-k c = search needs
 
--- src/lib.rt:159:16
 add-size : tie.Need-add-size
 add-size c = search needs
 
--- src/lib.rt:159:16
 add-size-2 : tie.Need-add-size-2
 add-size-2 c = search needs
 
--- src/lib.rt:160:13
 div-if5 : tie.Need-div-if5
 div-if5 c = search needs
 
--- src/lib.rt:161:9
 returns-5 : tie.Need-returns-5
 returns-5 c = sym (kind-left _ _ _ _ _ (omega arith) (c .if5 .taken))
 
--- src/lib.rt:163:15
 rem-task-kind : tie.Need-rem-task-kind
 rem-task-kind c = search needs
 
--- src/lib.rt:163:5
 task-kind-requires : tie.Need-task-kind-requires
 task-kind-requires c κs = search needs
 
--- src/lib.rt:139:1
 returns-6 : tie.Need-returns-6
 returns-6 c = c .task-kind .ensures ∙ sym (kind-word _ _ _ _ _ (omega arith) (c .before .if5 .left))
 

@@ -6,31 +6,24 @@ use Rattle.taskset.proofs.period_place.Tie as tie
 use Rattle.taskset.proofs.period_place.Reads as reads
 use Rattle.taskset.proofs.period_place.Lts as lts
 
--- src/lib.rt:106:5
 add-result : tie.Need-add-result
 add-result c = search needs
 
--- src/lib.rt:106:5
 add-result-2 : tie.Need-add-result-2
 add-result-2 c = search needs
 
--- src/lib.rt:106:25
 add-result-3 : tie.Need-add-result-3
 add-result-3 c = search needs
 
--- src/lib.rt:106:25
 add-result-4 : tie.Need-add-result-4
 add-result-4 c = search needs
 
--- src/lib.rt:106:20
 mul-result : tie.Need-mul-result
 mul-result c = omega (arith, task-words (c .args .extra) (c .args .m) (c .args .t) (omega arith) (omega arith) (omega arith))
 
--- src/lib.rt:106:5
 add-result-5 : tie.Need-add-result-5
 add-result-5 c = omega (arith, task-words (c .args .extra) (c .args .m) (c .args .t) (omega arith) (omega arith) (omega arith))
 
--- src/lib.rt:102:1
 returns : tie.Need-returns
 returns c = search needs
 

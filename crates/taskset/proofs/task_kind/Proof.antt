@@ -5,17 +5,14 @@ use Rattle.taskset.proofs.task_kind.Tie as tie
 use Rattle.taskset.proofs.task_kind.Reads as reads
 use Rattle.taskset.proofs.task_kind.Lts as lts
 
--- src/lib.rt:136:9
 returns : tie.Need-returns
 unfolding taskKind
 returns c = simp (eq-eqb _ _ (c .if1 .taken))
 
--- src/lib.rt:139:9
 returns-2 : tie.Need-returns-2
 unfolding taskKind
 returns-2 c = simp (ne-eqb _ _ (c .before .if1 .left), eq-eqb _ _ (c .if2 .taken))
 
--- src/lib.rt:132:1
 returns-3 : tie.Need-returns-3
 unfolding taskKind
 returns-3 c = simp (ne-eqb _ _ (c .before .if1 .left), ne-eqb _ _ (c .if2 .left))

@@ -23,11 +23,9 @@ Inv-loop plan m n k₀ k = (k ≤ length plan) × (k ≤ n) × ((j : ℕ) → j 
 abbrev μ-loop : tie.MeasureT-loop
 μ-loop plan m n k₀ k = length plan - k
 
--- src/lib.rt:185:5
 loop-holds : tie.Need-loop-holds Inv-loop μ-loop
 loop-holds c = (omega arith, omega arith, (λ j l. absurd (omega arith)))
 
--- src/lib.rt:187:13
 returns : tie.Need-returns Inv-loop μ-loop
 returns c =
     let b = c .before .before in
@@ -35,23 +33,18 @@ returns c =
     let v = b .loop .inv in
     too-long (a .m) (a .n) (a .plan .now) (b .loop .k) (omega arith) (omega arith) (v .2) (omega arith) (c .if1 .taken)
 
--- src/lib.rt:189:17
 mul-r : tie.Need-mul-r Inv-loop μ-loop
 mul-r c = search needs
 
--- src/lib.rt:189:17
 shared-slice-read-r : tie.Need-shared-slice-read-r Inv-loop μ-loop
 shared-slice-read-r c = search needs
 
--- src/lib.rt:189:17
 cast-r : tie.Need-cast-r Inv-loop μ-loop
 cast-r c = omega (arith, c .shared-slice-known2 .given (c .before .before .before .loop .k))
 
--- src/lib.rt:199:13
 is-rate-number-requires : tie.Need-is-rate-number-requires Inv-loop μ-loop
 is-rate-number-requires c κs = search needs
 
--- src/lib.rt:200:13
 returns-2 : tie.Need-returns-2 Inv-loop μ-loop
 returns-2 c =
     let b = c .before .before .before .before .before in
@@ -59,15 +52,12 @@ returns-2 c =
     let v = b .loop .inv in
     bad-word (a .m) (a .n) (a .plan .now) (b .loop .k) (omega arith) (omega arith) (v .2) (omega arith) (sym (c .before .is-rate-number .ensures) ∙ not-true _ (c .if2 .taken))
 
--- src/lib.rt:196:9
 add-k : tie.Need-add-k Inv-loop μ-loop
 add-k c = search needs
 
--- src/lib.rt:185:5
 loop-less : tie.Need-loop-less Inv-loop μ-loop
 loop-less c = omega arith
 
--- src/lib.rt:185:5
 loop-again : tie.Need-loop-again Inv-loop μ-loop
 loop-again c =
     let b = c .before .before .before .before .before in
@@ -81,7 +71,6 @@ loop-again c =
           (eq-or-lt-of-le (omega arith))),
     )
 
--- src/lib.rt:199:9
 returns-3 : tie.Need-returns-3 Inv-loop μ-loop
 returns-3 c =
     let b = c .before .before in
@@ -89,7 +78,6 @@ returns-3 c =
     let v = b .loop .inv in
     too-short (a .m) (a .n) (a .plan .now) (b .loop .k) (omega arith) (omega arith) (v .2) (omega arith) (c .if3 .taken)
 
--- src/lib.rt:181:1
 returns-4 : tie.Need-returns-4 Inv-loop μ-loop
 returns-4 c =
     let b = c .before .before in

@@ -19,39 +19,31 @@ Inv-loop set m n p₀ t₀ p t = (t ≤ n) × Holds (period listHead listExtra s
 abbrev μ-loop : tie.MeasureT-loop
 μ-loop set m n p₀ t₀ p t = n - t
 
--- src/lib.rt:211:5
 loop-holds : tie.Need-loop-holds Inv-loop μ-loop
 loop-holds c = (omega arith, holds-none _ _ refl)
 
--- src/lib.rt:212:16
 period-of-requires : tie.Need-period-of-requires Inv-loop μ-loop
 period-of-requires c κs =
     let g = c .before .before .before .pre in
     record { heads = omega arith; extras = omega arith; set = g .set; counted = g .rates; task = omega (arith, g .tasks) }
 
--- src/lib.rt:212:9
 mul-p : tie.Need-mul-p Inv-loop μ-loop
 mul-p c = search needs
 
--- src/lib.rt:212:9
 array-write-p : tie.Need-array-write-p Inv-loop μ-loop
 array-write-p c = search needs
 
--- src/lib.rt:213:9
 add-t : tie.Need-add-t Inv-loop μ-loop
 add-t c = search needs
 
--- src/lib.rt:211:5
 loop-less : tie.Need-loop-less Inv-loop μ-loop
 loop-less c = omega arith
 
--- src/lib.rt:211:5
 loop-again : tie.Need-loop-again Inv-loop μ-loop
 loop-again c =
     let b = c .before .before in
     (omega arith, holds-more _ _ _ _ (omega (arith, b .before .before .pre .few)) (c .period-of .ensures) (b .loop .inv .1))
 
--- src/lib.rt:205:1
 returns : tie.Need-returns Inv-loop μ-loop
 returns c =
     let a = c .before .before .before .args in

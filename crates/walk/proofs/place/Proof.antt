@@ -5,15 +5,12 @@ use Rattle.walk.proofs.place.Reads as reads
 use Rattle.walk.proofs.place.Lts as lts
 use Rattle.walk.proofs.choose.Reads as choose-reads
 
--- src/lib.rt:72:9
 returns : tie.Need-returns
 returns c = c .before .pre .1 (c .if1 .taken)
 
--- src/lib.rt:74:5
 choose-requires : tie.Need-choose-requires
 choose-requires c κs = search needs
 
--- src/lib.rt:66:1
 returns-2 : tie.Need-returns-2
 returns-2 c = search needs
 

@@ -41,15 +41,12 @@ Inv-ticks p c n end s₀ late₀ next₀ t₀ s late next t =
 abbrev μ-ticks : tie.MeasureT-ticks
 μ-ticks p c n end s₀ late₀ next₀ t₀ s late next t = end - t
 
--- src/lib.rt:128:28
 cast-new : tie.Need-cast-new Inv-loop μ-loop Inv-ticks μ-ticks
 cast-new c = search needs
 
--- src/lib.rt:128:17
 new-requires : tie.Need-new-requires Inv-loop μ-loop Inv-ticks μ-ticks
 new-requires c κs = search needs
 
--- src/lib.rt:132:5
 ticks-holds : tie.Need-ticks-holds Inv-loop μ-loop Inv-ticks μ-ticks
 ticks-holds c =
     let a = c .before .args in
@@ -69,7 +66,6 @@ ticks-holds c =
       rw sub-zero refl,
     )
 
--- src/lib.rt:139:9
 loop-holds : tie.Need-loop-holds Inv-loop μ-loop Inv-ticks μ-ticks
 loop-holds c =
     let st = c .before .before .before .before in
@@ -95,83 +91,63 @@ loop-holds c =
     ))
     (c .if1 .came)
 
--- src/lib.rt:140:16
 mul-if2 : tie.Need-mul-if2 Inv-loop μ-loop Inv-ticks μ-ticks
 mul-if2 c = search needs
 
--- src/lib.rt:140:16
 element-copy-out-if2 : tie.Need-element-copy-out-if2 Inv-loop μ-loop Inv-ticks μ-ticks
 element-copy-out-if2 c = search needs
 
--- src/lib.rt:141:24
 mul-if3 : tie.Need-mul-if3 Inv-loop μ-loop Inv-ticks μ-ticks
 mul-if3 c = search needs
 
--- src/lib.rt:141:24
 element-copy-out-if3 : tie.Need-element-copy-out-if3 Inv-loop μ-loop Inv-ticks μ-ticks
 element-copy-out-if3 c = search needs
 
--- src/lib.rt:142:28
 add-late : tie.Need-add-late Inv-loop μ-loop Inv-ticks μ-ticks
 add-late c = search needs
 
--- src/lib.rt:145:29
 mul-s : tie.Need-mul-s Inv-loop μ-loop Inv-ticks μ-ticks
 mul-s c = search needs
 
--- src/lib.rt:145:29
 element-copy-out-s : tie.Need-element-copy-out-s Inv-loop μ-loop Inv-ticks μ-ticks
 element-copy-out-s c = search needs
 
--- src/lib.rt:145:17
 mul-s-2 : tie.Need-mul-s-2 Inv-loop μ-loop Inv-ticks μ-ticks
 mul-s-2 c = search needs
 
--- src/lib.rt:145:17
 element-write-s : tie.Need-element-write-s Inv-loop μ-loop Inv-ticks μ-ticks
 element-write-s c = search needs
 
--- src/lib.rt:146:32
 mul-s-3 : tie.Need-mul-s-3 Inv-loop μ-loop Inv-ticks μ-ticks
 mul-s-3 c = search needs
 
--- src/lib.rt:146:32
 element-copy-out-s-2 : tie.Need-element-copy-out-s-2 Inv-loop μ-loop Inv-ticks μ-ticks
 element-copy-out-s-2 c = search needs
 
--- src/lib.rt:146:28
 add-s : tie.Need-add-s Inv-loop μ-loop Inv-ticks μ-ticks
 add-s c = omega (arith, c .before .before .before .before .before .before .before .before .before .before .before .before .before .pre .period (c .before .before .before .before .before .before .before .before .loop .i) (c .before .before .before .before .before .before .before .loop-test .taken), c .before .before .before .before .before .before .before .before .before .before .before .before .before .pre .ends, c .before .before .before .before .before .before .before .before .before .before .before .ticks .inv .0)
 
--- src/lib.rt:146:17
 mul-s-4 : tie.Need-mul-s-4 Inv-loop μ-loop Inv-ticks μ-ticks
 mul-s-4 c = search needs
 
--- src/lib.rt:146:17
 element-write-s-2 : tie.Need-element-write-s-2 Inv-loop μ-loop Inv-ticks μ-ticks
 element-write-s-2 c = search needs
 
--- src/lib.rt:148:33
 mul-lesser : tie.Need-mul-lesser Inv-loop μ-loop Inv-ticks μ-ticks
 mul-lesser c = search needs
 
--- src/lib.rt:148:33
 element-copy-out-lesser : tie.Need-element-copy-out-lesser Inv-loop μ-loop Inv-ticks μ-ticks
 element-copy-out-lesser c = search needs
 
--- src/lib.rt:148:13
 lesser-requires : tie.Need-lesser-requires Inv-loop μ-loop Inv-ticks μ-ticks
 lesser-requires c κs = search needs
 
--- src/lib.rt:149:13
 add-i : tie.Need-add-i Inv-loop μ-loop Inv-ticks μ-ticks
 add-i c = search needs
 
--- src/lib.rt:139:9
 loop-less : tie.Need-loop-less Inv-loop μ-loop Inv-ticks μ-ticks
 loop-less c = search needs
 
--- src/lib.rt:139:9
 loop-again : tie.Need-loop-again Inv-loop μ-loop Inv-ticks μ-ticks
 loop-again c =
     let st = c .before .before .before .before .before .before .before .before .before .before .before in
@@ -214,7 +190,6 @@ loop-again c =
       step .5,
     )
 
--- src/lib.rt:154:13
 tick-requires : tie.Need-tick-requires Inv-loop μ-loop Inv-ticks μ-ticks
 tick-requires c κs =
     let ends = c .before .before .before .before .before .before .before .pre .ends in
@@ -229,15 +204,12 @@ tick-requires c κs =
       preempted-room = omega (arith, n .preempted-fits);
     }
 
--- src/lib.rt:155:9
 add-t : tie.Need-add-t Inv-loop μ-loop Inv-ticks μ-ticks
 add-t c = search needs
 
--- src/lib.rt:132:5
 ticks-less : tie.Need-ticks-less Inv-loop μ-loop Inv-ticks μ-ticks
 ticks-less c = search needs
 
--- src/lib.rt:132:5
 ticks-again : tie.Need-ticks-again Inv-loop μ-loop Inv-ticks μ-ticks
 ticks-again c =
     let st = c .before .before .before .before .before .before .before .before in
@@ -266,11 +238,9 @@ ticks-again c =
           rw (add-one (q .t)) (sym (walkFrom-on ks (q .t) (a .end - suc (q .t)) (on .0)) ∙ ap (walkFrom ks (q .t)) (sym e) ∙ q .inv .7)),
     )
 
--- src/lib.rt:159:19
 cast-t38 : tie.Need-cast-t38 Inv-loop μ-loop Inv-ticks μ-ticks
 cast-t38 c = omega (arith, c .before .before .ticks .inv .0, c .before .before .before .before .pre .ends)
 
--- src/lib.rt:158:9
 returns : tie.Need-returns Inv-loop μ-loop Inv-ticks μ-ticks
 returns c =
     let st = c .before .before .before .before in
@@ -294,7 +264,6 @@ returns c =
     y)
     (c .before .ticks-test .came)
 
--- src/lib.rt:164:15
 cast-t40 : tie.Need-cast-t40 Inv-loop μ-loop Inv-ticks μ-ticks
 cast-t40 c =
     let st = c .before .before .before .before in
@@ -305,7 +274,6 @@ cast-t40 c =
     (λ y. ⊎-elim (λ w. absurd (omega arith)) (λ w. rw (w .5) (omega (arith, w .2 .inv .8 .busy-fits, q .inv .0))) y)
     (c .before .ticks-test .came)
 
--- src/lib.rt:165:15
 cast-t42 : tie.Need-cast-t42 Inv-loop μ-loop Inv-ticks μ-ticks
 cast-t42 c =
     let st = c .before .before .before .before in
@@ -316,7 +284,6 @@ cast-t42 c =
     (λ y. ⊎-elim (λ w. absurd (omega arith)) (λ w. rw (w .5) (omega (arith, w .2 .inv .8 .idle-fits, q .inv .0))) y)
     (c .before .ticks-test .came)
 
--- src/lib.rt:166:20
 cast-t44 : tie.Need-cast-t44 Inv-loop μ-loop Inv-ticks μ-ticks
 cast-t44 c =
     let st = c .before .before .before .before in
@@ -327,7 +294,6 @@ cast-t44 c =
     (λ y. ⊎-elim (λ w. absurd (omega arith)) (λ w. rw (w .5) (omega (arith, w .2 .inv .8 .preempted-fits, q .inv .0))) y)
     (c .before .ticks-test .came)
 
--- src/lib.rt:124:1
 returns-2 : tie.Need-returns-2 Inv-loop μ-loop Inv-ticks μ-ticks
 returns-2 c =
     let st = c .before .before .before .before in

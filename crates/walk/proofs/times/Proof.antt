@@ -18,23 +18,18 @@ Inv-loop set plan m n c₀ t₀ c t = (t ≤ n) × Holds (timeAt set plan) t c
 abbrev μ-loop : tie.MeasureT-loop
 μ-loop set plan m n c₀ t₀ c t = n - t
 
--- src/lib.rt:226:5
 loop-holds : tie.Need-loop-holds Inv-loop μ-loop
 loop-holds c = (omega arith, holds-none _ _ refl)
 
--- src/lib.rt:227:17
 mul-r : tie.Need-mul-r Inv-loop μ-loop
 mul-r c = search needs
 
--- src/lib.rt:227:17
 shared-slice-read-r : tie.Need-shared-slice-read-r Inv-loop μ-loop
 shared-slice-read-r c = search needs
 
--- src/lib.rt:227:17
 cast-r : tie.Need-cast-r Inv-loop μ-loop
 cast-r c = omega (arith, c .shared-slice-known3 .given (c .before .before .loop .t))
 
--- src/lib.rt:228:16
 job-time-requires : tie.Need-job-time-requires Inv-loop μ-loop
 job-time-requires c κs =
     let b = c .before .before in
@@ -46,29 +41,23 @@ job-time-requires c κs =
       q .below (b .loop .t) (omega arith),
     )
 
--- src/lib.rt:228:9
 mul-c : tie.Need-mul-c Inv-loop μ-loop
 mul-c c = search needs
 
--- src/lib.rt:228:9
 array-write-c : tie.Need-array-write-c Inv-loop μ-loop
 array-write-c c = search needs
 
--- src/lib.rt:229:9
 add-t : tie.Need-add-t Inv-loop μ-loop
 add-t c = search needs
 
--- src/lib.rt:226:5
 loop-less : tie.Need-loop-less Inv-loop μ-loop
 loop-less c = omega arith
 
--- src/lib.rt:226:5
 loop-again : tie.Need-loop-again Inv-loop μ-loop
 loop-again c =
     let b = c .before .before .before in
     (omega arith, holds-more _ _ _ _ (omega (arith, b .before .before .before .pre .0 .few)) (c .job-time .ensures) (b .loop .inv .1))
 
--- src/lib.rt:219:1
 returns : tie.Need-returns Inv-loop μ-loop
 returns c =
     let a = c .before .before .before .before .args in

@@ -17,31 +17,24 @@ use Rattle.walk.proofs.periods.Reads as periods-reads
 use Rattle.walk.proofs.run.Reads as run-reads
 use Rattle.walk.proofs.times.Reads as times-reads
 
--- src/lib.rt:238:9
 check-set-requires : tie.Need-check-set-requires
 check-set-requires c κs = search needs
 
--- src/lib.rt:240:26
 enum-known-checked : tie.Need-enum-known-checked
 enum-known-checked c = search needs
 
--- src/lib.rt:242:13
 enum-known-checked-2 : tie.Need-enum-known-checked-2
 enum-known-checked-2 c = search needs
 
--- src/lib.rt:246:17
 check-plan-requires : tie.Need-check-plan-requires
 check-plan-requires c κs = search needs
 
--- src/lib.rt:248:31
 enum-known-sound : tie.Need-enum-known-sound
 enum-known-sound c = search needs
 
--- src/lib.rt:250:29
 enum-told : tie.Need-enum-told
 enum-told c = search needs
 
--- src/lib.rt:250:29
 periods-requires : tie.Need-periods-requires
 periods-requires c κs =
     let sh = c .before .before .before .before in
@@ -54,7 +47,6 @@ periods-requires c κs =
     let good = subst (SetAnswers listHead listExtra s) (sh .checked2 .given .1) (sh .before .before .check-set .ensures) in
     set-given s P m n l good
 
--- src/lib.rt:251:29
 times-requires : tie.Need-times-requires
 times-requires c κs =
     let sh = c .before .before .before .before .before in
@@ -68,7 +60,6 @@ times-requires c κs =
     let pass = subst (PlanAnswers m n P) (c .before .enum-told .given .1) (c .before .before .before .check-plan .ensures) in
     (set-given s P m n l good, plan-given s P m n l good pass)
 
--- src/lib.rt:252:40
 cast-run : tie.Need-cast-run
 cast-run c =
     let sh = c .before .before .before .before .before .before .before .before in
@@ -81,7 +72,6 @@ cast-run c =
     let good = subst (SetAnswers listHead listExtra s) (sh .checked2 .given .1) (sh .before .before .check-set .ensures) in
     omega (arith, hyper-fits s P m n l good)
 
--- src/lib.rt:252:21
 run-requires : tie.Need-run-requires
 run-requires c κs =
     let sh = c .before .before .before .before .before .before .before .before in
@@ -95,7 +85,6 @@ run-requires c κs =
     let pass = subst (PlanAnswers m n P) (c .before .before .before .before .enum-told .given .1) (c .before .before .before .before .before .before .check-plan .ensures) in
     run-given s P m n l good pass _ _ (c .before .before .before .periods .ensures) (c .before .before .times .ensures)
 
--- src/lib.rt:235:1
 returns : tie.Need-returns
 returns c =
     let sh = c .before in
@@ -104,7 +93,6 @@ returns c =
     let refused = subst (SetAnswers listHead listExtra (a .set .now)) (sh .checked .given .1) (sh .before .before .check-set .ensures) in
     set-refused (a .set .now) (a .plan .now) r refused
 
--- src/lib.rt:235:1
 returns-2 : tie.Need-returns-2
 returns-2 c =
     let sh = c .before .before .before .before .before in
@@ -119,7 +107,6 @@ returns-2 c =
     let bad = subst (PlanAnswers m n P) (c .before .sound .given .1) (c .before .before .before .check-plan .ensures) in
     plan-refused s P m n l good k bad
 
--- src/lib.rt:235:1
 returns-3 : tie.Need-returns-3
 returns-3 c =
     let sh = c .before .before .before .before .before .before .before .before .before in

@@ -18,19 +18,15 @@ use Rattle.walk.proofs.State.tick.Lts as lts
 use Rattle.walk.proofs.place.Reads as place-reads
 use Rattle.walk.proofs.preempts.Reads as preempts-reads
 
--- src/lib.rt:98:13
 place-requires : tie.Need-place-requires
 place-requires c κs = search needs
 
--- src/lib.rt:99:20
 cast-none : tie.Need-cast-none
 cast-none c = search needs
 
--- src/lib.rt:101:13
 add-self : tie.Need-add-self
 add-self c = search needs
 
--- src/lib.rt:104:13
 returns : tie.Need-returns
 returns c =
     let a = c .before .before .before .before .before .args in
@@ -38,33 +34,26 @@ returns c =
     let b = c .before .place .result in
     ticked-idle (a .n) (a .t1) (omega (arith, e, chosen-most (a .t1 .left) (a .t1 .due) (a .n), c .if1 .taken))
 
--- src/lib.rt:106:17
 cast-b : tie.Need-cast-b
 cast-b c = search needs
 
--- src/lib.rt:107:9
 add-self-2 : tie.Need-add-self-2
 add-self-2 c = search needs
 
--- src/lib.rt:108:27
 preempts-requires : tie.Need-preempts-requires
 preempts-requires c κs = search needs
 
--- src/lib.rt:108:9
 add-self-3 : tie.Need-add-self-3
 add-self-3 c =
     let a = c .before .before .before .before .before .before .args in
     omega (arith, c .preempts .ensures, cuts-few (a .n) (c .before .before .place .result) (a .t1 .last), c .before .before .before .before .before .before .pre .preempted-room)
 
--- src/lib.rt:109:20
 mul-rest : tie.Need-mul-rest
 mul-rest c = search needs
 
--- src/lib.rt:109:20
 element-copy-out-rest : tie.Need-element-copy-out-rest
 element-copy-out-rest c = search needs
 
--- src/lib.rt:109:20
 sub-rest : tie.Need-sub-rest
 sub-rest c =
     let a = c .before .before .before .before .before .before .before .args in
@@ -73,15 +62,12 @@ sub-rest c =
     let lt = c .before .before .if1 .left in
     rw e (chosen-left (a .t1 .left) (a .t1 .due) (a .n) (omega (arith, e, lt)))
 
--- src/lib.rt:110:9
 mul-self : tie.Need-mul-self
 mul-self c = search needs
 
--- src/lib.rt:110:9
 element-write-self : tie.Need-element-write-self
 element-write-self c = search needs
 
--- src/lib.rt:114:13
 returns-2 : tie.Need-returns-2
 returns-2 c =
     let a = c .before .before .before .before .before .before .before .before .args in
@@ -95,7 +81,6 @@ returns-2 c =
     rw (c .before .before .preempts .ensures)
     (ticked-busy (a .n) (a .t1) (set l b v) b (a .n) 0 (sym e) lt refl (sym (stays-none (a .n) (set l b v) b (inr (omega (arith, put, c .if2 .taken))))) (λ h. absurd (omega arith)))
 
--- src/lib.rt:94:5
 returns-3 : tie.Need-returns-3
 returns-3 c =
     let a = c .before .before .before .before .before .before .before .before .args in
