@@ -26,8 +26,8 @@ use Rattle.taskset.proofs.Checks.{accepts-join, accepts-front, refuses-front, r
 use Rattle.taskset.proofs.Sets.{IsSet, set-of, falling}
 use Rattle.taskset.proofs.DemandThree.{answer-owes}
 use Rattle.table.specs.Rows.{optionAt}
-use Rattle.table.specs.Units.{Small}
-use Rattle.table.specs.Choice.{arrays, tableWords, ChoiceReady, Chose}
+use Rattle.choice.specs.Units.{Small}
+use Rattle.choice.specs.Choice.{arrays, tableWords, ChoiceReady, Chose}
 use Rattle.planner.specs.Answers.{RateNumbers, PlannerCall}
 use Rattle.planner.specs.Ready.{ReadyAnswers}
 use Rattle.planner.specs.Options.{PutBoth, TasksGiven}

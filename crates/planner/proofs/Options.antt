@@ -13,7 +13,7 @@ use Rattle.taskset.specs.Words.{listHead, listExtra, rateCount, period, energy}
 use Rattle.taskset.specs.Quantities.{jobTime, taskLoad, taskEnergy}
 use Rattle.taskset.proofs.Access.{job-time-fits}
 use Rattle.taskset.proofs.Sets.{IsSet, set-of, task-energy-small}
-use Rattle.table.proofs.Choosing.{zeros-at}
+use Rattle.choice.proofs.Choosing.{zeros-at}
 use Rattle.planner.specs.Options.{Put, PutBoth, TaskGiven}
 
 -- ---- one array

@@ -1,5 +1,5 @@
 // The planner: the checks in document 01's order, then the set's loads and energies laid out by option, and the choice among them. How
-// the choice is made is left to the crate table.
+// the choice is made is left to the crate choice.
 ghost use mathlib.Core.Path.{_≡_};
 ghost use Prim.Native.Nat.{_+_, _≤_};
 ghost use lib.ListN.{length};
@@ -111,12 +111,12 @@ pub fn plan_checked(
     let mut loads = [0u64; 512];
     let mut energies = [0u64; 512];
     put_tasks(&mut loads, &mut energies, set, rates, tasks, hyper);
-    let fastest = table::fastest_sum(&loads, tasks, rates);
+    let fastest = choice::fastest_sum(&loads, tasks, rates);
     if hyper < fastest {
         return PlannerAnswer::Refused(Refusal::NoPlan);
     }
     let slack = taskset::slack_of(set);
-    let c = table::choose(
+    let c = choice::choose(
         &loads,
         &energies,
         tasks,

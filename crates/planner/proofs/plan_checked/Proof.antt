@@ -8,8 +8,8 @@ use Rattle.planner.proofs.plan_checked.Tie as tie
 use Rattle.planner.proofs.plan_checked.Reads as reads
 use Rattle.planner.proofs.plan_checked.Lts as lts
 use Rattle.planner.proofs.put_tasks.Reads as put-tasks-reads
-use Rattle.table.proofs.choose.Reads as choose-reads
-use Rattle.table.proofs.fastest_sum.Reads as fastest-sum-reads
+use Rattle.choice.proofs.choose.Reads as choose-reads
+use Rattle.choice.proofs.fastest_sum.Reads as fastest-sum-reads
 use Rattle.taskset.proofs.slack_of.Reads as slack-of-reads
 
 put-tasks-requires : tie.Need-put-tasks-requires

@@ -1,14 +1,14 @@
-use Rattle.table.proofs.Adding.{unit-positive, unit-low, cost-is}
+use Rattle.choice.proofs.Adding.{unit-positive, unit-low, cost-is}
 use Prim.Native.Nat.{_≤_, _-_, _*_}
 use native.Mathlib.Omega.{arith}
 use Rattle.table.specs.Rows.{Written}
-use Rattle.table.specs.Units.{costOf}
+use Rattle.choice.specs.Units.{costOf}
 use Rattle.table.proofs.Writing.{written-none, written-more, written-to}
 use borrow.Author.Needs.{needs}
-use Rattle.table.proofs.round_up.Statement.{statement}
-use Rattle.table.proofs.round_up.Tie as tie
-use Rattle.table.proofs.round_up.Reads as reads
-use Rattle.table.proofs.round_up.Lts as lts
+use Rattle.choice.proofs.round_up.Statement.{statement}
+use Rattle.choice.proofs.round_up.Tie as tie
+use Rattle.choice.proofs.round_up.Reads as reads
+use Rattle.choice.proofs.round_up.Lts as lts
 
 abbrev Inv-loop : tie.InvT-loop
 Inv-loop energies n a unit cost₀ less end k₀ cost k = (k ≤ n * 16) × Written (costOf energies a) 0 k cost₀ cost

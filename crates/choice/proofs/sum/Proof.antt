@@ -1,16 +1,16 @@
 use Prim.Native.Nat.{ℕ, _+_, _≤_, _-_, _*_}
 use mathlib.Core.Path.{_≡_, sym, ap, _∙_}
 use lib.ListN.{getD}
-use Rattle.table.proofs.Adding.{sum-low, sum-turn}
+use Rattle.choice.proofs.Adding.{sum-low, sum-turn}
 use native.Mathlib.Omega.{arith}
 use Rattle.numbers.specs.Numbers.{total}
 use Rattle.numbers.proofs.Sums.{total-none}
 use Rattle.table.specs.Rows.{optionAt}
 use borrow.Author.Needs.{needs}
-use Rattle.table.proofs.sum.Statement.{statement}
-use Rattle.table.proofs.sum.Tie as tie
-use Rattle.table.proofs.sum.Reads as reads
-use Rattle.table.proofs.sum.Lts as lts
+use Rattle.choice.proofs.sum.Statement.{statement}
+use Rattle.choice.proofs.sum.Tie as tie
+use Rattle.choice.proofs.sum.Reads as reads
+use Rattle.choice.proofs.sum.Lts as lts
 
 abbrev Inv-loop : tie.InvT-loop
 Inv-loop options n plan s₀ t₀ s t = (t ≤ n) × (s ≡ total (optionAt options) t plan)

@@ -8,9 +8,9 @@ use native.Mathlib.Omega.{arith}
 use lib.ListN.{length, getD, set, length-set}
 use lib.Seq.{getD-set-same, getD-set-other}
 use Rattle.selection.proofs.Cells.{Way, way-step, way-end, Sound, rate-sound}
 use Rattle.table.specs.Rows.{optionAt, entryOf, rateOf, RateReady}
-use Rattle.table.specs.Units.{WayReady, WayTaken}
+use Rattle.choice.specs.Units.{WayReady, WayTaken}
 use Rattle.table.proofs.Rows.{next-row}
 
 module _ (cap n t m e₀ : ℕ) (cost load plan₀ : List ℕ) where
   abbrev Follow : ℕ → ℕ → List ℕ → Type 0

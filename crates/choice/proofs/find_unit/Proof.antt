@@ -1,16 +1,16 @@
 use mathlib.Core.Logic.{inl, inr}
 use native.Mathlib.Omega.{arith}
-use Rattle.table.proofs.Adding.{sum-low}
-use Rattle.table.proofs.Trying.{Trying, trying-start, unit-ready, least-small, product-small, unit-used, trying-turn}
+use Rattle.choice.proofs.Adding.{sum-low}
+use Rattle.choice.proofs.Trying.{Trying, trying-start, unit-ready, least-small, product-small, unit-used, trying-turn}
 use borrow.Author.Needs.{needs}
-use Rattle.table.proofs.find_unit.Statement.{statement}
-use Rattle.table.proofs.find_unit.Tie as tie
-use Rattle.table.proofs.find_unit.Reads as reads
-use Rattle.table.proofs.find_unit.Lts as lts
+use Rattle.choice.proofs.find_unit.Statement.{statement}
+use Rattle.choice.proofs.find_unit.Tie as tie
+use Rattle.choice.proofs.find_unit.Reads as reads
+use Rattle.choice.proofs.find_unit.Lts as lts
 use Rattle.numbers.proofs.least_power.Reads as least-power-reads
-use Rattle.table.proofs.cut.Reads as cut-reads
-use Rattle.table.proofs.fastest_sum.Reads as fastest-sum-reads
-use Rattle.table.proofs.least_energy.Reads as least-energy-reads
+use Rattle.choice.proofs.cut.Reads as cut-reads
+use Rattle.choice.proofs.fastest_sum.Reads as fastest-sum-reads
+use Rattle.choice.proofs.least_energy.Reads as least-energy-reads
 
 abbrev Inv-loop : tie.InvT-loop
 Inv-loop loads energies n m limit slack load cost₀ work₀ cap a₀ unit₀ last₀ cost work a unit last =

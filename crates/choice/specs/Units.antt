@@ -7,8 +7,8 @@ use Rattle.numbers.specs.Numbers.{ceil}
 use Rattle.numbers.specs.Search.{Found}
 use Rattle.selection.specs.Plan.{Fitting, planLoad, fastest, IsUsedOf}
 use Rattle.selection.proofs.Cells.{Way}
 use Rattle.table.specs.Rows.{optionAt, entryOf}
-use Rattle.table.specs.Choice.{arrays, lastColumn, tableWords}
+use Rattle.choice.specs.Choice.{arrays, lastColumn, tableWords}
 
 -- d holds the table of t tasks, n words a row.
 pub record Table (cap n t m : ℕ) (cost load d : List ℕ) : Type 0 where

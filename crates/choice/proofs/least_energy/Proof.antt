@@ -1,12 +1,12 @@
-use Rattle.table.proofs.Trying.{unit-tabled}
+use Rattle.choice.proofs.Trying.{unit-tabled}
 use borrow.Author.Needs.{needs}
-use Rattle.table.proofs.least_energy.Statement.{statement}
-use Rattle.table.proofs.least_energy.Tie as tie
-use Rattle.table.proofs.least_energy.Reads as reads
-use Rattle.table.proofs.least_energy.Lts as lts
+use Rattle.choice.proofs.least_energy.Statement.{statement}
+use Rattle.choice.proofs.least_energy.Tie as tie
+use Rattle.choice.proofs.least_energy.Reads as reads
+use Rattle.choice.proofs.least_energy.Lts as lts
 use Rattle.table.proofs.least_column.Reads as least-column-reads
-use Rattle.table.proofs.round_up.Reads as round-up-reads
+use Rattle.choice.proofs.round_up.Reads as round-up-reads
 use Rattle.table.proofs.table.Reads as table-reads
 
 add-columns : tie.Need-add-columns
 add-columns c = search needs

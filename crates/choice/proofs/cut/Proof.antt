@@ -1,14 +1,14 @@
 use Prim.Native.Nat.{_≤_, _-_, _*_}
 use native.Mathlib.Omega.{arith}
 use Rattle.table.specs.Rows.{Written}
-use Rattle.table.specs.Units.{cutOf}
+use Rattle.choice.specs.Units.{cutOf}
 use Rattle.table.proofs.Writing.{written-none, written-more, written-to}
 use borrow.Author.Needs.{needs}
-use Rattle.table.proofs.cut.Statement.{statement}
-use Rattle.table.proofs.cut.Tie as tie
-use Rattle.table.proofs.cut.Reads as reads
-use Rattle.table.proofs.cut.Lts as lts
-use Rattle.table.proofs.cut_one.Reads as cut-one-reads
+use Rattle.choice.proofs.cut.Statement.{statement}
+use Rattle.choice.proofs.cut.Tie as tie
+use Rattle.choice.proofs.cut.Reads as reads
+use Rattle.choice.proofs.cut.Lts as lts
+use Rattle.choice.proofs.cut_one.Reads as cut-one-reads
 
 abbrev Inv-loop : tie.InvT-loop
 Inv-loop loads n cap load₀ end k₀ load k = (k ≤ n * 16) × Written (cutOf loads cap) 0 k load₀ load

@@ -19,10 +19,10 @@ use Rattle.selection.proofs.Choose.{cell, cell-le, way-back-chosen}
 use Rattle.selection.proofs.Cells.{Way, cell-entry, way-back-way}
 use Rattle.selection.proofs.Agree.{entry-agrees, way-agrees}
 use Rattle.selection.proofs.Compute.{column-least}
 use Rattle.table.specs.Rows.{optionAt, entryOf, Written, Tabled, Defined}
-use Rattle.table.specs.Choice.{arrays, lastColumn, tableWords}
-use Rattle.table.specs.Units.{cutOf, costOf, UnitReady, UnitTabled, SearchReady, UnitUsed}
-use Rattle.table.proofs.Adding.{sum-low}
+use Rattle.choice.specs.Choice.{arrays, lastColumn, tableWords}
+use Rattle.choice.specs.Units.{cutOf, costOf, UnitReady, UnitTabled, SearchReady, UnitUsed}
+use Rattle.choice.proofs.Adding.{sum-low}
 
 -- ---- one unit's table
 pub unit-tabled : (cap last n m a : ℕ) (energies load cost₀ work₀ cost work : List ℕ) (k : ℕ) → (n + 1) * (last + 1) ≤ length work₀

@@ -1,17 +1,17 @@
 use Rattle.table.proofs.Rows.{next-row}
 use Prim.Native.Nat.{_+_, _-_, _≤_}
 use native.Mathlib.Omega.{arith}
 use lib.ListN.{length}
 use Rattle.selection.proofs.Cells.{Sound}
 use Rattle.table.specs.Rows.{optionAt}
 use mathlib.Core.Path.{refl}
-use Rattle.table.proofs.Ways.{OnWay, way-start, row-here, rate-ready, way-sound, way-turn, way-whole}
+use Rattle.choice.proofs.Ways.{OnWay, way-start, row-here, rate-ready, way-sound, way-turn, way-whole}
 use borrow.Author.Needs.{needs}
-use Rattle.table.proofs.way_back.Statement.{statement}
-use Rattle.table.proofs.way_back.Tie as tie
-use Rattle.table.proofs.way_back.Reads as reads
-use Rattle.table.proofs.way_back.Lts as lts
+use Rattle.choice.proofs.way_back.Statement.{statement}
+use Rattle.choice.proofs.way_back.Tie as tie
+use Rattle.choice.proofs.way_back.Reads as reads
+use Rattle.choice.proofs.way_back.Lts as lts
 use Rattle.table.proofs.rate_at.Reads as rate-at-reads
 
 abbrev Inv-loop : tie.InvT-loop
 Inv-loop plan₀ d n t e m cost load cap left₀ i₀ a₀ plan left i a = OnWay cap n t m e cost load plan₀ plan left i a

@@ -1,14 +1,14 @@
 use native.Mathlib.Omega.{arith}
-use Rattle.table.proofs.Choosing.{search-ready, last-low, way-ready, own-words, sum-ready, chose}
+use Rattle.choice.proofs.Choosing.{search-ready, last-low, way-ready, own-words, sum-ready, chose}
 use borrow.Author.Needs.{needs}
-use Rattle.table.proofs.choose.Statement.{statement}
-use Rattle.table.proofs.choose.Tie as tie
-use Rattle.table.proofs.choose.Reads as reads
-use Rattle.table.proofs.choose.Lts as lts
-use Rattle.table.proofs.clear.Reads as clear-reads
-use Rattle.table.proofs.find_unit.Reads as find-unit-reads
-use Rattle.table.proofs.sum.Reads as sum-reads
-use Rattle.table.proofs.way_back.Reads as way-back-reads
+use Rattle.choice.proofs.choose.Statement.{statement}
+use Rattle.choice.proofs.choose.Tie as tie
+use Rattle.choice.proofs.choose.Reads as reads
+use Rattle.choice.proofs.choose.Lts as lts
+use Rattle.choice.proofs.clear.Reads as clear-reads
+use Rattle.choice.proofs.find_unit.Reads as find-unit-reads
+use Rattle.choice.proofs.sum.Reads as sum-reads
+use Rattle.choice.proofs.way_back.Reads as way-back-reads
 
 mul-columns : tie.Need-mul-columns
 mul-columns c = search needs

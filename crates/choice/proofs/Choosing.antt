@@ -14,10 +14,10 @@ use Rattle.numbers.proofs.Sums.{total-same}
 use Rattle.selection.specs.Plan.{Fitting, IsChosenOf}
 use Rattle.selection.proofs.Bounds.{last-small}
 use Rattle.selection.proofs.Agree.{way-places}
 use Rattle.table.specs.Rows.{optionAt, Written}
-use Rattle.table.specs.Choice.{arrays, lastColumn, tableWords, ChoiceReady, Chose}
-use Rattle.table.specs.Units.{Small, SumReady, WayReady, WayTaken, SearchReady, UnitUsed}
-use Rattle.table.proofs.Trying.{chosen-is}
+use Rattle.choice.specs.Choice.{arrays, lastColumn, tableWords, ChoiceReady, Chose}
+use Rattle.choice.specs.Units.{Small, SumReady, WayReady, WayTaken, SearchReady, UnitUsed}
+use Rattle.choice.proofs.Trying.{chosen-is}
 
 -- ---- lists from their words
 pub zeros-at : (n k : ℕ) → getD (replicate {A = ℕ} n 0) k 0 ≡ 0

@@ -1,0 +1,4 @@
+pub mod Ways
+pub mod Adding
+pub mod Trying
+pub mod Choosing
