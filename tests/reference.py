@@ -264,6 +264,72 @@ def plan(words, plan_len, work_len, way=None):
     return ('planned', unit, total(loads, rates), L, total(energies, rates), rates)
 
 
+def objection(words, answer, ticks):
+    """What there is to say against an answer of the planner, where enough was
+    lent; None if nothing.
+
+    It goes through all plans, one after the other, and takes nothing from the
+    ways above: a plan's sums are made anew from the words, and the chosen plan
+    is the least of all that fit by rounded energy, load and rate numbers, at
+    the unit of the answer. Up to so many ticks in all, whether a plan fits is
+    seen by walking it.
+    """
+    s = decode(words)
+    M, N, L = len(s.rates), len(s.tasks), hyper_period(s.tasks)
+    plans = list(product(range(1, M + 1), repeat=N))
+    by_walking = len(plans) * L <= ticks
+
+    def load(rates):
+        return sum(L // task.period * round_up(task.cycles, s.rates[rate - 1])
+                   for task, rate in zip(s.tasks, rates))
+
+    def energy(rates, d=1):
+        return sum(round_up(L // task.period * task.energies[rate - 1], d)
+                   for task, rate in zip(s.tasks, rates))
+
+    def fits(rates):
+        if by_walking:
+            return walk(words, list(rates))[0] == 'kept'
+        return load(rates) <= L
+
+    fitting = [(load(rates), rates) for rates in plans if fits(rates)]
+    if answer == refused(7, 0):
+        return 'a plan fits' if fitting else None
+    if answer[0] != 'planned':
+        return 'no cause for it'
+    if not fitting:
+        return 'no plan fits'
+    _, unit, its_load, its_span, its_energy, rates = answer
+    if its_span != L:
+        return 'not the hyper-period'
+    if tuple(rates) not in plans or (its_load, its_energy) != (load(rates), energy(rates)):
+        return 'not the sums of its plan'
+    if L <= ticks and walk(words, rates)[:3] != ('kept', its_load, L - its_load):
+        return 'the walk of its plan departs'
+
+    # The units before it, from the first one on: each falls short.
+    fastest = energy([M] * N)
+    first = 1 if fastest <= 1 else 2 ** (fastest - 1).bit_length()
+    units = [first]
+    while units[-1] > 1:
+        units.append(units[-1] // 2)
+    if unit not in units:
+        return 'no unit to be tried'
+    for d in units[:units.index(unit)]:
+        if s.slack * min(energy(rates, d) for _, rates in fitting) >= 2_000 * N:
+            return 'a larger unit qualifies'
+    k, _, backwards = min((energy(rates, unit), load, rates[::-1])
+                          for load, rates in fitting)
+    if unit > 1 and s.slack * k < 2_000 * N:
+        return 'the unit does not qualify'
+    if tuple(rates) != backwards[::-1]:
+        return 'another plan comes first'
+    least = min(energy(rates) for _, rates in fitting)
+    if 1_000 * its_energy > (1_000 + s.slack) * least:
+        return 'more than the slack above the least energy'
+    return None
+
+
 # ------------------------------------------------------------------- the walk
 
 class Job:

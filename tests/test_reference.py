@@ -394,6 +394,79 @@ def random_sets():
     same('every kind of answer was seen', seen, {'planned', 'refused', 'kept', 'missed'})
 
 
+def objections():
+    """The judge of planner answers: it lets the right ones pass and no other."""
+    def against(name, words, answer, want, ticks=10_000):
+        same('judge: ' + name, r.objection(words, answer, ticks), want)
+
+    none = one_task(100, 30, 61)
+    small = ('planned', 1, 29, 30, 41, [2, 1])
+    for ticks in (0, 10_000):
+        against('S', S, small, None, ticks)
+        against('S with slack 1,000', S_1000, ('planned', 8, 28, 30, 42, [1, 2]), None, ticks)
+        against('no plan', none, refused(7, 0), None, ticks)
+        against('7 and a plan', S, refused(7, 0), 'a plan fits', ticks)
+        against('no plan and planned', none, ('planned', 1, 31, 30, 1, [2]),
+                'no plan fits', ticks)
+        # Document 01's reviewer: every task at the fastest rate.
+        against('the fastest', S, ('planned', 1, 12, 30, 120, [3, 3]),
+                'another plan comes first', ticks)
+        # Rounded to nearest, or rate numbers before load.
+        against('to nearest', S_1000, ('planned', 8, 29, 30, 41, [2, 1]),
+                'another plan comes first', ticks)
+    against('another cause', S, refused(5, 243), 'no cause for it')
+    against('another L', S, ('planned', 1, 29, 60, 41, [2, 1]), 'not the hyper-period')
+    against('another load', S, ('planned', 1, 28, 30, 41, [2, 1]), 'not the sums of its plan')
+    against('another energy', S, ('planned', 1, 29, 30, 40, [2, 1]), 'not the sums of its plan')
+    against('the plan untouched', S, ('planned', 1, 29, 30, 41, [0, 0]),
+            'not the sums of its plan')
+    against('a plan that misses', S, ('planned', 1, 38, 30, 26, [1, 1]),
+            'the walk of its plan departs')
+    for unit in (0, 3, 256):
+        against('unit %d' % unit, S, ('planned', unit, 29, 30, 41, [2, 1]),
+                'no unit to be tried')
+    against('a unit too large', S_1000, ('planned', 16, 28, 30, 42, [1, 2]),
+            'the unit does not qualify')
+    against('a unit too small', S_1000, ('planned', 4, 28, 30, 42, [1, 2]),
+            'a larger unit qualifies')
+    against('a unit too small, 1', S_1000, ('planned', 1, 29, 30, 41, [2, 1]),
+            'a larger unit qualifies')
+    # 33 at every rate, rounded down: unit 16.
+    against('33, rounded down', one_task(1000, 10, 10, energies=(33, 33)),
+            ('planned', 16, 5, 10, 33, [2]), 'a larger unit qualifies')
+    against('33, rounded up', one_task(1000, 10, 10, energies=(33, 33)),
+            ('planned', 32, 5, 10, 33, [2]), None)
+    # Energies are equal: the lower rate number does not come before the load.
+    against('the lower number', one_task(1, 10, 10), ('planned', 1, 10, 10, 1, [1]),
+            'another plan comes first')
+    # Two equal tasks: the lower number belongs to task 2.
+    twins = [100, 2, 1, 2, 2] + [3, 2, 1, 3] * 2
+    against('the lower number for task 1', twins, ('planned', 1, 3, 3, 4, [1, 2]),
+            'another plan comes first')
+    against('the lower number for task 2', twins, ('planned', 1, 3, 3, 4, [2, 1]), None)
+
+    # Every answer that differs from the right one in one number is turned down.
+    g = random.Random(4)
+    for number in range(150):
+        words = random_set(g, *g.choice([(3, 3), (4, 2), (2, 5)]))
+        name = 'judge: random set %d %r' % (number, words)
+        answer = r.plan(words, 32, PLENTY, 'table')
+        same(name, r.objection(words, answer, 2_000), None)
+        if answer == refused(7, 0):
+            continue
+        for at in range(1, 5):
+            for wrong in (answer[at] - 1, answer[at] + 1, answer[at] * 2):
+                other = answer[:at] + (wrong,) + answer[at + 1:]
+                same(name + ', %r' % (other,), r.objection(words, other, 2_000) is None, False)
+        s, L = r.decode(words), answer[3]
+        loads, energies = r.load_table(s, L), r.energy_table(s, L)
+        for rates in product(range(1, words[1] + 1), repeat=len(s.tasks)):
+            other = (*answer[:2], r.total(loads, rates), L, r.total(energies, rates),
+                     list(rates))
+            same(name + ', %r' % (other,), r.objection(words, other, 500) is None,
+                 other == answer)
+
+
 def large_sets():
     """Sets of more plans: the two ways on 13 tasks, the sums on 32."""
     g = random.Random(2)
@@ -540,7 +613,7 @@ def random_texts():
 def main():
     try:
         for part in (edges, errors, the_text, offsets, answers, preemptions,
-                     random_sets, large_sets, random_texts):
+                     random_sets, objections, large_sets, random_texts):
             part()
     except AssertionError as failure:
         print('reference: failed: %s' % failure)

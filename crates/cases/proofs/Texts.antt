@@ -8,7 +8,7 @@ use native.Mathlib.Numerals.{add-one}
 use lib.ListN.{length, getD, take, length-append}
 use lib.Seq.{take-suc}
 use Rattle.cases.specs.Decimal.{decimal, spaced}
-use Rattle.cases.specs.Answers.{Put, refusedText, checkedText, walkedText}
+use Rattle.cases.specs.Answers.{bytes, Put, refusedText, checkedText, walkedText, plannedText}
 use Rattle.cases.proofs.Digits.{decimal-short}
 use Rattle.cases.proofs.Parts.{spaced-more}
 use Rattle.taskset.specs.Refusals.{number, second}
@@ -17,6 +17,8 @@ use Rattle.taskset.specs.declared.Checked.{Checked}
 use Rattle.taskset.specs.declared.Checked.the-variants.{Good, Refused as NotGood}
 use Rattle.taskset.specs.declared.WalkAnswer.{WalkAnswer}
 use Rattle.taskset.specs.declared.WalkAnswer.the-variants.{Kept, Missed, Refused as NotWalked}
+use Rattle.taskset.specs.declared.PlannerAnswer.{PlannerAnswer}
+use Rattle.taskset.specs.declared.PlannerAnswer.the-variants.{Planned, Refused as NotPlanned}
 
 -- A text behind another, and none at all.
 pub put-then : {t u : List ℕ} {at m r : ℕ} {old mid new : List ℕ} → Put t at old m mid → Put u m mid r new → Put (t ++ u) at old r new
@@ -33,7 +35,7 @@ pub put-more : {at n r : ℕ} {old mid new : List ℕ} (xs : List ℕ) (i : ℕ)
     → Put (32 ∷ decimal (getD xs i 0)) n mid r new → Put (spaced (take (i + 1) xs)) at old r new
 put-more xs i h p q = rw (add-one i, take-suc xs i 0 h, spaced-more) (put-then p q)
 
--- A number takes at most 21 bytes with its space, and an answer at most 71.
+-- A number takes at most 21 bytes with its space, an answer at most 71, and the planner's at most 92 before its rate numbers.
 pub spaced-short : (xs : List ℕ) → length (spaced xs) ≤ 21 * length xs
 spaced-short [] = omega arith
 spaced-short (x ∷ xs) = rw (length-append (32 ∷ decimal x) (spaced xs)) (omega (arith, decimal-short x, spaced-short xs))
@@ -49,3 +51,9 @@ pub walked-short : (a : WalkAnswer) → length (walkedText a) ≤ 71
 walked-short (Kept busy idle preempted) = omega (arith, spaced-short (busy ∷ idle ∷ preempted ∷ []))
 walked-short (Missed tick task) = omega (arith, spaced-short (tick ∷ task ∷ []))
 walked-short (NotWalked f) = refused-short f
+
+pub planned-short : (a : PlannerAnswer) (rates : List ℕ) → length (plannedText a rates) ≤ 92 + 21 * length rates
+planned-short (Planned unit load hyper energy) rates =
+    let said = unit ∷ load ∷ hyper ∷ energy ∷ [] in
+    rw (length-append (bytes " planned" ++ spaced said) (spaced rates)) (omega (arith, spaced-short said, spaced-short rates))
+planned-short (NotPlanned f) rates = omega (arith, refused-short f)

@@ -15,6 +15,8 @@ use Rattle.taskset.specs.declared.Checked.{Checked}
 use Rattle.taskset.specs.declared.Checked.the-variants.{Good, Refused as NotGood}
 use Rattle.taskset.specs.declared.WalkAnswer.{WalkAnswer}
 use Rattle.taskset.specs.declared.WalkAnswer.the-variants.{Kept, Missed, Refused as NotWalked}
+use Rattle.taskset.specs.declared.PlannerAnswer.{PlannerAnswer}
+use Rattle.taskset.specs.declared.PlannerAnswer.the-variants.{Planned, Refused as NotPlanned}
 
 -- The bytes of a text of ASCII characters.
 abbrev pub bytes : String → List ℕ
@@ -32,6 +34,11 @@ abbrev pub walkedText : WalkAnswer → List ℕ
 walkedText (Kept busy idle preempted) = bytes " kept" ++ spaced (busy ∷ idle ∷ preempted ∷ [])
 walkedText (Missed tick task) = bytes " missed" ++ spaced (tick ∷ task ∷ [])
 walkedText (NotWalked f) = refusedText f
+
+-- The rate numbers stand behind the four values.
+abbrev pub plannedText : PlannerAnswer → List ℕ → List ℕ
+plannedText (Planned unit load hyper energy) rates = (bytes " planned" ++ spaced (unit ∷ load ∷ hyper ∷ energy ∷ [])) ++ spaced rates
+plannedText (NotPlanned f) rates = refusedText f
 
 -- The text stands in the buffer `new` from `at` to r, and before it is what the buffer `old` has there.
 pub record Put (text : List ℕ) (at : ℕ) (old : List ℕ) (r : ℕ) (new : List ℕ) : Type 0 where

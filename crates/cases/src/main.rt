@@ -3,23 +3,28 @@
 // The records:
 //     c NAME K w1 .. wK                 check_set on the K words
 //     w NAME K w1 .. wK J p1 .. pJ      the walk on the K words and the J words of a plan
+//     p NAME K w1 .. wK J A             the planner on the K words, with J words lent for the plan and A working words
 // Their lines:
 //     NAME good RATES TASKS HYPER       of check_set
 //     NAME kept BUSY IDLE PREEMPTED     of the walk
 //     NAME missed TICK TASK             of the walk
+//     NAME planned UNIT LOAD HYPER ENERGY r1 .. rN      of the planner
 //     NAME refused NUMBER SECOND        of each
 //
-// One space stands between items. A name has 1 to 40 bytes, K is at most 400 and J at most 40. A line that is no such record gets
-// `bad record`, and no further line is read. A further kind is a function like check_record, and an arm of answer.
+// One space stands between items. A name has 1 to 40 bytes, K is at most 400, J at most 40 for the walk and 64 for the planner, and A
+// at most 16384. A line that is no such record gets `bad record`, and no further line is read. A further kind is a function like
+// check_record, and an arm of answer.
 mod input;
 mod items;
 mod print;
 
 ghost use Prim.Native.Nat.{_≤_};
+ghost use lib.ListN.{length};
 ghost use Rattle.cases.specs.Answers.{SaidFits};
 use input::Line;
 use input::Window;
 use items::Counted;
+use items::Value;
 use libc::STDOUT_FILENO;
 use taskset::LIST_EXTRA;
 use taskset::LIST_HEAD;
@@ -66,6 +71,54 @@ fn walk_record(s: &[u8], at: usize, out: &mut [u8; 65536], n: usize) -> Said
     Said::Line(print::put_walked(out, n, a))
 }
 
+// How many words of a plan list a call has written: those before the first 0, which is no rate number.
+fn written(plan: &[u32]) -> usize
+    ensures { λ r. ⌜ r ≤ length (now (plan .entry)) ⌝ }
+{
+    let mut i = 0;
+    while i < plan.len() {
+        if plan[i] == 0 {
+            return i;
+        }
+        i += 1;
+    }
+    i
+}
+
+// A record for the planner: the list of a set, how many words are lent for the plan, and how many working words. The words lent for
+// the plan hold 0 before the call, so that the plan's words are those before the first 0; the working words hold anything else.
+fn plan_record(s: &[u8], at: usize, out: &mut [u8; 65536], n: usize) -> Said
+    requires { ⌜ n ≤ 40 ⌝ }
+    ensures { λ r. ⌜ SaidFits r ⌝ }
+{
+    let mut words = [0u32; 400];
+    let Counted::Of(k, next) = items::list(s, at, 400, &mut words) else {
+        return Said::Bad;
+    };
+    let Value::Is(j, after) = items::number(s, next) else {
+        return Said::Bad;
+    };
+    let Value::Is(a, end) = items::number(s, after) else {
+        return Said::Bad;
+    };
+    if end < s.len() {
+        return Said::Bad;
+    }
+    if j > 64 {
+        return Said::Bad;
+    }
+    if a > 16384 {
+        return Said::Bad;
+    }
+    let lent = j as usize;
+    let working = a as usize;
+    let mut plan = [0u32; 64];
+    let mut work = [7u32; 16384];
+    let p = planner::plan(&words[..k], &mut plan[..lent], &mut work[..working]);
+    let t = written(&plan);
+    Said::Line(print::put_planned(out, n, p, &plan[..t]))
+}
+
 // The line for a record: its name, and what its kind asks for.
 fn answer(s: &[u8], out: &mut [u8; 65536]) -> Said
     ensures { λ r. ⌜ SaidFits r ⌝ }
@@ -87,6 +140,7 @@ fn answer(s: &[u8], out: &mut [u8; 65536]) -> Said
     match s[0] {
         b'c' => check_record(s, end, out, n),
         b'w' => walk_record(s, end, out, n),
+        b'p' => plan_record(s, end, out, n),
         _ => Said::Bad,
     }
 }

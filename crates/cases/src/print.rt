@@ -2,6 +2,7 @@
 // the place after it. The buffer has room for far longer lines than those of the kinds below.
 use libc::STDOUT_FILENO;
 use taskset::Checked;
+use taskset::PlannerAnswer;
 use taskset::Refusal;
 use taskset::WalkAnswer;
 ghost use mathlib.Core.Path.{_≡_};
@@ -9,7 +10,7 @@ ghost use mathlib.Core.List.{_∷_, _++_};
 ghost use Prim.Native.Nat.{_+_, _*_, _≤_, _<_};
 ghost use lib.ListN.{length};
 ghost use Rattle.cases.specs.Decimal.{decimal, spaced};
-ghost use Rattle.cases.specs.Answers.{Put, refusedText, checkedText, walkedText};
+ghost use Rattle.cases.specs.Answers.{Put, refusedText, checkedText, walkedText, plannedText};
 ghost use Rattle.taskset.specs.Refusals.{number, second};
 
 // Copies a text.
@@ -45,6 +46,20 @@ fn put_numbers(out: &mut [u8; 65536], at: usize, xs: &[u64]) -> usize
     let mut i = 0;
     while i < xs.len() {
         n = put_number(out, n, xs[i]);
+        i += 1;
+    }
+    n
+}
+
+// The words of a list in a row.
+fn put_words(out: &mut [u8; 65536], at: usize, xs: &[u32]) -> usize
+    requires { ⌜ at + 21 * length (now xs) ≤ 65536 ⌝ }
+    ensures { λ r. ⌜ Put (spaced (now (xs .entry))) at (now (out .entry)) r (now (out .exit)) ⌝ }
+{
+    let mut n = at;
+    let mut i = 0;
+    while i < xs.len() {
+        n = put_number(out, n, xs[i] as u64);
         i += 1;
     }
     n
@@ -127,6 +142,30 @@ pub(crate) fn put_walked(out: &mut [u8; 65536], at: usize, a: WalkAnswer) -> usi
         } => { put_said(out, at, b" kept", &[busy, idle, preempted]) }
         WalkAnswer::Missed { tick, task } => put_said(out, at, b" missed", &[tick, task]),
         WalkAnswer::Refused(f) => put_refused(out, at, f),
+    }
+}
+
+// The answer of the planner, with the rate numbers of the plan.
+pub(crate) fn put_planned(
+    out: &mut [u8; 65536],
+    at: usize,
+    a: PlannerAnswer,
+    rates: &[u32],
+) -> usize
+    requires { ⌜ (at ≤ 40) × (length (now rates) ≤ 64) ⌝ }
+    ensures { λ r. ⌜ Put (plannedText a (now (rates .entry))) at (now (out .entry)) r (now (out .exit)) ⌝ }
+{
+    match a {
+        PlannerAnswer::Planned {
+            unit,
+            load,
+            hyper,
+            energy,
+        } => {
+            let n = put_said(out, at, b" planned", &[unit, load, hyper, energy]);
+            put_words(out, n, rates)
+        }
+        PlannerAnswer::Refused(f) => put_refused(out, at, f),
     }
 }
 

@@ -1,0 +1,90 @@
+"""Holds a C planner to the reference on random sets that no stored record has.
+
+    python3 bench/planner/compare.py PROGRAM [COUNT [SEED]]
+
+PROGRAM is one that run.sh builds from records.c, such as
+target/bench/planner/records-plain or records-archive. The sets have small
+slacks, for which the stored records' 16,384 working words are too few, so that
+tables are wide. As many words are lent as needed, now and then one fewer. Four
+sets are made so that a cost passes 32 bits.
+"""
+
+import subprocess
+import sys
+from pathlib import Path
+
+sys.dont_write_bytecode = True
+sys.path.insert(0, str(Path(__file__).resolve().parent.parent.parent / 'tests'))
+
+import make_cases as m
+import reference as r
+
+
+def some_set(draw):
+    if draw.between(1, 8) == 1:
+        words = m.some_large(draw)
+        if draw.between(1, 4) == 1:
+            words = m.largest(draw, 1, draw.one_of(['random', 'rising', 'small']),
+                              draw.one_of(['short', 'long']))
+    else:
+        words = m.some_planned(draw)
+    words[0] = draw.one_of([1, 1, 1, 2, 5, 20, 50])
+    if draw.between(1, 8) == 1:
+        # The fastest rate costs next to nothing, the others as much as there is.
+        M, N = words[1], words[2 + words[1]]
+        for task in range(1, N + 1):
+            at = m.period_of(M, task) + 2
+            words[at:at + M] = [1_000_000 - draw.between(0, 9) for _ in range(M - 1)] + [1]
+    return words
+
+
+def wide_costs():
+    """2^22 jobs over a unit of 2^9 cost 2^32 and a little more at the slow rate,
+    and 2^13 at the fast one: at 32 bits the slow rate would be the cheaper."""
+    span = 2 ** 23
+    for energy in (524_287, 524_288, 524_289, 1_000_000):
+        yield m.costed((1, 2), [(2, 1, energy, 1)] + [(span, 1, 1, 1)] * 3, 1)
+
+
+def flat(answer):
+    items = answer[:5] + tuple(answer[5]) if answer[0] == 'planned' else answer
+    return ' '.join(map(str, items))
+
+
+def main(arguments):
+    if not 1 <= len(arguments) <= 3:
+        print('use: compare.py PROGRAM [COUNT [SEED]]', file=sys.stderr)
+        return 2
+    count, seed = (list(map(int, arguments[1:])) + [400, 1][len(arguments) - 1:])
+    draw = m.Draw(seed)
+    questions, wanted = [], []
+    sets = list(wide_costs()) + [some_set(draw) for _ in range(count)]
+    for number, words in enumerate(sets, 1):
+        N, W = words[2 + words[1]], m.needed(words)
+        J = N - (draw.between(1, 30) == 1)
+        A = W - (draw.between(1, 30) == 1)
+        few = words[1] ** N <= m.FEW_PLANS
+        answer = r.plan(words, J, A, 'all' if few else 'table')
+        if few and (answer[0] == 'planned' or answer[1] == 7):
+            assert r.objection(words, answer, 500) is None, words
+        questions.append('p s%d %s' % (number, ' '.join(map(str, [len(words), *words, J, A]))))
+        wanted.append('s%d %s' % (number, flat(answer)))
+    done = subprocess.run([arguments[0]], input='\n'.join(questions) + '\n',
+                          stdout=subprocess.PIPE, text=True)
+    got = done.stdout.split('\n')[:-1]
+    for question, ours, theirs in zip(questions, wanted, got):
+        if ours != theirs:
+            print('compare: %s\n  reference: %s\n  planner:   %s' % (question, ours, theirs))
+            return 1
+    if done.returncode != 0 or len(got) != len(sets):
+        print('compare: %s ended with %d after %d answers' % (
+            arguments[0], done.returncode, len(got)))
+        return 1
+    planned = sum(' planned ' in line for line in got)
+    print('compare: %d sets, random ones with seed %d, %d of them planned, all alike' % (
+        len(sets), seed, planned))
+    return 0
+
+
+if __name__ == '__main__':
+    sys.exit(main(sys.argv[1:]))

@@ -1,0 +1,244 @@
+/* The planner in plain C, as the measure for the archive's planner: the same
+   checks in the same order, the same table, the same way back.
+
+   Options stand by task and rate number, task t (from 0) at rate number r
+   (from 1) at t * 16 + r. Loads are cut at L + 1, which stands for 'none', so
+   that the sum of two words of the table fits 32 bits.
+
+   PLANNER is the name of the call. Built a second time under the archive's
+   name, this file takes the archive's place where only the harness is tried. */
+
+#include <stddef.h>
+#include <stdint.h>
+
+#ifndef PLANNER
+#define PLANNER plain_plan
+#endif
+
+#define MOST_TASKS 32
+#define STRIDE 16
+#define OPTIONS (MOST_TASKS * STRIDE)
+#define LONGEST 10000000u
+#define RESULT_BYTES 32
+
+struct problem {
+    uint32_t slack, rates, tasks;
+    uint32_t span;                      /* the hyper-period L */
+    uint32_t load[OPTIONS];             /* cut at L + 1 */
+    uint64_t energy[OPTIONS];
+    size_t cost[OPTIONS];               /* the energy in units, rounded up */
+};
+
+uint64_t PLANNER(const uint32_t *set, size_t set_len, uint32_t *plan, size_t plan_len,
+                 uint32_t *work, size_t work_len, uint8_t *results, size_t results_len);
+
+static uint64_t refusal(uint64_t number, uint64_t second)
+{
+    return number << 32 | second;
+}
+
+/* Check 2: the range of the word at a place, found from the words before it. */
+static int in_range(const uint32_t *set, size_t at)
+{
+    uint32_t word = set[at], high, low = 1;
+
+    if (at == 0) {
+        high = 1000;
+    } else if (at == 1) {
+        low = 2;
+        high = 8;
+    } else if (at < 2 + (size_t)set[1]) {
+        high = 1000000;
+    } else if (at == 2 + (size_t)set[1]) {
+        high = 32;
+    } else {
+        size_t rates = set[1], k = at - (3 + rates);
+        if (k / (2 + rates) >= set[2 + rates])
+            return 0;                   /* left over */
+        k %= 2 + rates;
+        high = k == 0 ? 10000000 : k == 1 ? 4000000000u : 1000000;
+    }
+    return low <= word && word <= high;
+}
+
+static uint64_t check_words(const uint32_t *set, size_t set_len)
+{
+    size_t rates;
+
+    for (size_t at = 0; at < set_len; at++)
+        if (!in_range(set, at))
+            return refusal(2, at);
+    if (set_len < 2)
+        return refusal(2, set_len);
+    rates = set[1];
+    if (set_len < 3 + rates || set_len < 3 + rates + set[2 + rates] * (2 + rates))
+        return refusal(2, set_len);
+    return 0;
+}
+
+static uint64_t check_rates(const uint32_t *set)
+{
+    for (size_t at = 3; at < 2 + (size_t)set[1]; at++)
+        if (set[at] <= set[at - 1])
+            return refusal(3, at);
+    return 0;
+}
+
+static uint32_t common_divisor(uint32_t a, uint32_t b)
+{
+    while (b != 0) {
+        uint32_t rest = a % b;
+        a = b;
+        b = rest;
+    }
+    return a;
+}
+
+static uint64_t check_span(const uint32_t *set, uint32_t *span)
+{
+    size_t rates = set[1], at = 3 + rates;
+    uint32_t tasks = set[2 + rates];
+    uint64_t running = 1;
+
+    for (uint32_t t = 0; t < tasks; t++, at += 2 + rates) {
+        running = running / common_divisor((uint32_t)running, set[at]) * set[at];
+        if (running > LONGEST)
+            return refusal(4, at);
+    }
+    *span = (uint32_t)running;
+    return 0;
+}
+
+static void fill_options(struct problem *p, const uint32_t *set)
+{
+    const uint32_t *task = set + 3 + p->rates;
+
+    for (uint32_t t = 0; t < p->tasks; t++, task += 2 + p->rates) {
+        uint64_t jobs = p->span / task[0];
+        for (uint32_t r = 1; r <= p->rates; r++) {
+            uint64_t rate = set[1 + r];
+            uint64_t load = jobs * ((task[1] + rate - 1) / rate);
+            p->load[t * STRIDE + r] = load > p->span ? p->span + 1 : (uint32_t)load;
+            p->energy[t * STRIDE + r] = jobs * task[1 + r];
+        }
+    }
+}
+
+/* Lowers each word to l more than the one that stands opposite. */
+static void relax(uint32_t *restrict to, const uint32_t *restrict from, size_t count, uint32_t l)
+{
+    for (size_t i = 0; i < count; i++) {
+        uint32_t sum = from[i] + l;
+        to[i] = sum < to[i] ? sum : to[i];
+    }
+}
+
+/* Row t + 1, column e: the least load of the first t + 1 tasks that cost at
+   most e; the cap where there is none. */
+static void fill_table(const struct problem *p, uint32_t *d, size_t columns)
+{
+    uint32_t cap = p->span + 1;
+
+    for (size_t e = 0; e < columns; e++)
+        d[e] = 0;
+    for (uint32_t t = 0; t < p->tasks; t++) {
+        const uint32_t *before = d + t * columns;
+        uint32_t *row = d + (t + 1) * columns;
+        for (size_t e = 0; e < columns; e++)
+            row[e] = cap;
+        for (uint32_t r = 1; r <= p->rates; r++) {
+            size_t c = p->cost[t * STRIDE + r];
+            if (c < columns)
+                relax(row + c, before, columns - c, p->load[t * STRIDE + r]);
+        }
+    }
+}
+
+/* From the last row's column k to the first task, the lowest rate number that
+   makes each entry. */
+static void way_back(const struct problem *p, const uint32_t *d, size_t columns, size_t k,
+                     uint32_t *plan)
+{
+    size_t e = k;
+
+    for (uint32_t t = p->tasks; t-- > 0;) {
+        const uint32_t *before = d + t * columns;
+        uint32_t entry = d[(t + 1) * columns + e];
+        uint32_t r = 1;
+        while (p->cost[t * STRIDE + r] > e
+               || before[e - p->cost[t * STRIDE + r]] + p->load[t * STRIDE + r] != entry)
+            r++;
+        plan[t] = r;
+        e -= p->cost[t * STRIDE + r];
+    }
+}
+
+static void put_value(uint8_t *results, uint64_t value)
+{
+    for (int i = 0; i < 8; i++)
+        results[i] = (uint8_t)(value >> (8 * i));
+}
+
+uint64_t PLANNER(const uint32_t *set, size_t set_len, uint32_t *plan, size_t plan_len,
+                 uint32_t *work, size_t work_len, uint8_t *results, size_t results_len)
+{
+    struct problem p;
+    uint64_t refused, fastest_load = 0, fastest_energy = 0, load = 0, energy = 0;
+    uint32_t power = 0;
+    size_t needed, columns, k;
+
+    if ((refused = check_words(set, set_len)) != 0 || (refused = check_rates(set)) != 0
+        || (refused = check_span(set, &p.span)) != 0)
+        return refused;
+    p.slack = set[0];
+    p.rates = set[1];
+    p.tasks = set[2 + p.rates];
+    needed = (size_t)(p.tasks + 1) * (4000 * p.tasks / p.slack + 1);
+    if (work_len < needed)
+        return refusal(5, needed);
+    if (plan_len < p.tasks)
+        return refusal(6, p.tasks);
+    if (results_len < RESULT_BYTES)
+        return refusal(6, RESULT_BYTES);
+
+    fill_options(&p, set);
+    for (uint32_t t = 0; t < p.tasks; t++) {
+        fastest_load += p.load[t * STRIDE + p.rates];
+        fastest_energy += p.energy[t * STRIDE + p.rates];
+    }
+    if (fastest_load > p.span)
+        return refusal(7, 0);           /* no lent word has changed so far */
+
+    while (((uint64_t)1 << power) < fastest_energy)
+        power++;
+    /* At the first unit no task costs more than 1 at its highest rate, so the
+       least is N at most; halving the unit at most doubles it. */
+    columns = p.tasks + 1;
+    for (;;) {
+        uint64_t unit = (uint64_t)1 << power;
+        const uint32_t *last;
+        for (uint32_t t = 0; t < p.tasks; t++)
+            for (uint32_t r = 1; r <= p.rates; r++)
+                p.cost[t * STRIDE + r] = (p.energy[t * STRIDE + r] + unit - 1) >> power;
+        fill_table(&p, work, columns);
+        last = work + p.tasks * columns;
+        for (k = 0; last[k] > p.span; k++)
+            ;
+        if (power == 0 || p.slack * k >= 2000 * (uint64_t)p.tasks)
+            break;
+        columns = 2 * k + 1;
+        power--;
+    }
+    way_back(&p, work, columns, k, plan);
+    for (uint32_t t = 0; t < p.tasks; t++) {
+        load += p.load[t * STRIDE + plan[t]];
+        energy += p.energy[t * STRIDE + plan[t]];
+    }
+    for (size_t i = 0; i < needed; i++)
+        work[i] = 0;
+    put_value(results, (uint64_t)1 << power);
+    put_value(results + 8, load);
+    put_value(results + 16, p.span);
+    put_value(results + 24, energy);
+    return 0;
+}

@@ -1,0 +1,60 @@
+#!/usr/bin/env bash
+# Times the archive's planner beside the same planner in plain C: bash bench/planner/run.sh [REPETITIONS [SEED]]
+# Before that both answer the stored planner records and some random sets, and are held to the answers of tests/reference.py. Then
+# prints a line a case, see bench.c.
+# With SELFTEST=1 in the environment nothing is proved or built with rt: a second copy of the plain planner takes the archive's
+# place, which tries the harness and the plain planner.
+set -eu
+cd "$(dirname "$0")/../.."
+
+need() {
+    if ! command -v "$1" >/dev/null 2>&1; then
+        echo "bench: $1, $2, is not on the PATH" >&2
+        exit 1
+    fi
+}
+need gcc "the C compiler"
+need python3 "which runs the reference"
+
+out=target/bench/planner
+mkdir -p "$out"
+# The plain planner gets the compiler's best; what is around the two is not timed.
+gcc -Wall -Wextra -O3 -c bench/planner/plan.c -o "$out/plan.o"
+gcc -Wall -Wextra -O3 -DPLANNER=seedspell_plan -c bench/planner/plan.c -o "$out/copy.o"
+gcc -Wall -Wextra -O2 -c bench/planner/bench.c -o "$out/bench.o"
+gcc -Wall -Wextra -O2 -c bench/planner/records.c -o "$out/records.o"
+
+if [ -n "${SELFTEST:-}" ]; then
+    echo "bench: no archive; a copy of the plain planner stands for it"
+    archive=$out/copy.o
+else
+    need rt "the command of the Rattle kit, which builds the archive"
+    rt staticlib capi
+    archive=target/staticlib/libcapi.a
+    if [ ! -f "$archive" ]; then
+        echo "bench: rt staticlib capi left no $archive" >&2
+        exit 1
+    fi
+fi
+
+# The stored records: those of the planner, and their answers.
+awk 'NR == FNR { planner[FNR] = /^p /; next } planner[FNR]' crates/cases/stdin crates/cases/stdout >"$out/wanted"
+if [ ! -s "$out/wanted" ]; then
+    echo "bench: crates/cases/stdin has no planner records" >&2
+    exit 1
+fi
+# answers NAME OBJECT: holds a planner to them.
+answers() {
+    gcc "$out/records.o" "$2" -o "$out/records-$1"
+    if ! "$out/records-$1" <crates/cases/stdin >"$out/answers-$1" || ! cmp "$out/answers-$1" "$out/wanted" >&2; then
+        echo "bench: the $1 planner departs from the stored answers: see $out/answers-$1 and $out/wanted" >&2
+        exit 1
+    fi
+    echo "$1: $(wc -l <"$out/wanted") stored records answered as stored"
+    python3 bench/planner/compare.py "$out/records-$1" 200
+}
+answers plain "$out/copy.o"
+answers archive "$archive"
+
+gcc "$out/bench.o" "$out/plan.o" "$archive" -o "$out/bench"
+"$out/bench" "$@"
