@@ -174,6 +174,23 @@ def same_tasks(M, N):
     return task_set(range(1, M + 1), [(10, 1)] * N)
 
 
+# The range of each kind of word.
+RANGES = {'slack': (1, 1_000), 'm': (2, 8), 'rate': (1, 1_000_000), 'n': (1, 32),
+          'period': (1, 10_000_000), 'cycles': (1, 4_000_000_000), 'energy': (1, 1_000_000)}
+
+
+def places_of(M, N):
+    """A label, the kind and the place of words of every kind, at both ends of a set of N tasks and M rates."""
+    places = [('slack', 'slack', 0), ('m', 'm', 1), ('rate-a', 'rate', 2),
+              ('rate-z', 'rate', last_rate(M)), ('n', 'n', task_count(M))]
+    for end, task in (('a', 1), ('z', N))[:N]:
+        at = period_of(M, task)
+        places += [('period-' + end, 'period', at), ('cycles-' + end, 'cycles', at + 1),
+                   ('energy-%sa' % end, 'energy', at + 2),
+                   ('energy-%sz' % end, 'energy', at + 1 + M)]
+    return places
+
+
 def put(words, place, word):
     return words[:place] + [word] + words[place + 1:]
 
@@ -233,18 +250,12 @@ def ranges():
     place counted wrongly, a compare that is signed (2147483648 and more), and
     one that looks at the low half of a word (65536 more than a good one).
     """
-    kinds = {'slack': (1, 1_000), 'rate': (1, 1_000_000), 'period': (1, 10_000_000),
-             'cycles': (1, 4_000_000_000), 'energy': (1, 1_000_000)}
     for label, M, N in (('least', 2, 1), ('pair', 3, 2), ('whole', 8, 32)):
         base = same_tasks(M, N)
-        places = [('slack', 'slack', 0), ('rate-a', 'rate', 2), ('rate-z', 'rate', last_rate(M))]
-        for end, task in (('a', 1), ('z', N))[:N]:
-            at = period_of(M, task)
-            places += [('period-' + end, 'period', at), ('cycles-' + end, 'cycles', at + 1),
-                       ('energy-%sa' % end, 'energy', at + 2),
-                       ('energy-%sz' % end, 'energy', at + 1 + M)]
-        for what, kind, place in places:
-            low, high = kinds[kind]
+        for what, kind, place in places_of(M, N):
+            if kind in ('m', 'n'):
+                continue                                # these have cases of their own
+            low, high = RANGES[kind]
             words = [low - 1, low, high, high + 1, low + 2 ** 31, TOP]
             if kind == 'slack':
                 words.append(low + 65_536)
@@ -1005,20 +1016,11 @@ def planner_checks():
     The checks are the same as those above; here they must come before 5, 6
     and 7, at every kind of place, also where the set has no plan that fits.
     """
-    kinds = {'slack': (1, 1_000), 'm': (2, 8), 'rate': (1, 1_000_000), 'n': (1, 32),
-             'period': (1, 10_000_000), 'cycles': (1, 4_000_000_000), 'energy': (1, 1_000_000)}
     lent = {'all': (MOST_LENT, MOST_WORK), 'none': (0, 0)}
     for label, M, N in (('least', 2, 1), ('pair', 3, 2), ('whole', 8, 32)):
         base = same_tasks(M, N)
-        places = [('slack', 'slack', 0), ('m', 'm', 1), ('rate-a', 'rate', 2),
-                  ('rate-z', 'rate', last_rate(M)), ('n', 'n', task_count(M))]
-        for end, task in (('a', 1), ('z', N))[:N]:
-            at = period_of(M, task)
-            places += [('period-' + end, 'period', at), ('cycles-' + end, 'cycles', at + 1),
-                       ('energy-%sa' % end, 'energy', at + 2),
-                       ('energy-%sz' % end, 'energy', at + 1 + M)]
-        for what, kind, place in places:
-            low, high = kinds[kind]
+        for what, kind, place in places_of(M, N):
+            low, high = RANGES[kind]
             for word in (low - 1, high + 1) if label == 'whole' else (low - 1, high + 1, TOP):
                 for much, (J, A) in lent.items():
                     if label == 'whole' and much == 'none':

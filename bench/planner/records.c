@@ -20,9 +20,6 @@
 
 #include "../../include/seedspell.h"
 
-uint64_t seedspell_plan(const uint32_t *set, size_t set_len, uint32_t *plan, size_t plan_len,
-                        uint32_t *work, size_t work_len, uint8_t *results, size_t results_len);
-
 #define MOST_WORDS 400
 #define MOST_PLAN 64
 #define MOST_WORK 5000000

@@ -7,12 +7,7 @@
 set -eu
 cd "$(dirname "$0")/../.."
 
-need() {
-    if ! command -v "$1" >/dev/null 2>&1; then
-        echo "bench: $1, $2, is not on the PATH" >&2
-        exit 1
-    fi
-}
+. bench/common.sh
 need gcc "the C compiler"
 need python3 "which runs the reference"
 
@@ -28,13 +23,7 @@ if [ -n "${SELFTEST:-}" ]; then
     echo "bench: no archive; a copy of the plain planner stands for it"
     archive=$out/copy.o
 else
-    need rt "the command of the Rattle kit, which builds the archive"
-    rt staticlib capi
-    archive=target/staticlib/libcapi.a
-    if [ ! -f "$archive" ]; then
-        echo "bench: rt staticlib capi left no $archive" >&2
-        exit 1
-    fi
+    build_archive
 fi
 
 # The stored records: those of the planner, and their answers.

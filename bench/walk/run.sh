@@ -4,21 +4,9 @@
 set -eu
 cd "$(dirname "$0")/../.."
 
-need() {
-    if ! command -v "$1" >/dev/null 2>&1; then
-        echo "bench: $1, $2, is not on the PATH; without it there is nothing to time" >&2
-        exit 1
-    fi
-}
-need rt "the command of the Rattle kit, which builds the archive"
+. bench/common.sh
 need gcc "the C compiler"
-
-rt staticlib capi
-archive=target/staticlib/libcapi.a
-if [ ! -f "$archive" ]; then
-    echo "bench: rt staticlib capi left no $archive" >&2
-    exit 1
-fi
+build_archive
 
 out=target/bench/walk
 mkdir -p "$out"
