@@ -36,7 +36,7 @@ extern "C" {
 
 /* The refusals' numbers; of several causes the first in a call's own order is the one returned. */
 #define SEEDSPELL_TEXT_DEPARTS 1 /* the text departs from the form; second number: offset of its first byte that does */
-#define SEEDSPELL_BAD_WORD 2     /* a set word out of its range, missing or left over; its place */
+#define SEEDSPELL_BAD_WORD 2     /* a set word out of its range, missing or left over; its place, or the list's length if it is missing */
 #define SEEDSPELL_NOT_ABOVE 3    /* a rate not above the one before it; its place */
 #define SEEDSPELL_TOO_LONG 4     /* the hyper-period passes 10,000,000; the place of the first period at which it does */
 #define SEEDSPELL_WORK_SHORT 5   /* the working list is too short; the words needed */

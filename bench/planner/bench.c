@@ -21,7 +21,6 @@
 
 #include "../../include/seedspell.h"
 
-/* The archive's call, as its header has it. */
 /* plan.c */
 uint64_t plain_plan(const uint32_t *set, size_t set_len, uint32_t *plan, size_t plan_len,
                     uint32_t *work, size_t work_len, uint8_t *results, size_t results_len);

@@ -75,7 +75,7 @@ PlanEntryGives s plan work results plan′ work′ results′ returned =
     (plan′ ≡ plan) × (work′ ≡ work) × (results′ ≡ results))
 
 -- The entry's contract: the above; and demand 3 again over the plan words and the bytes. Where 0 is returned, every plan word is a rate number, and the
--- plan keeps its promise with the energy that the fourth value is; the values are its own. And 7 is returned if and only if no cause before it holds and no
+-- plan keeps its promise with the energy that the fourth value is; the second value is its load, the third the hyper-period. And 7 is returned if and only if no cause before it holds and no
 -- plan keeps every deadline for ever.
 pub record PlanEntry (s plan work results plan′ work′ results′ : List ℕ) (returned : ℕ) : Type 0 where
   pub gives : PlanEntryGives s plan work results plan′ work′ results′ returned

@@ -47,7 +47,7 @@ fn check_record(s: &[u8], at: usize, out: &mut [u8; 65536], n: usize) -> Said
     if end < s.len() {
         return Said::Bad;
     }
-    let a = taskset::check_set(&words[..k], LIST_HEAD, LIST_EXTRA);
+    let a = checks::check_set(&words[..k], LIST_HEAD, LIST_EXTRA);
     Said::Line(print::put_checked(out, n, a))
 }
 

@@ -1,23 +1,22 @@
 -- From the unit used and its table to the plan, its sums, and every word of the two lists.
 -- Assumes nothing.
 use Prim.Native.Nat.{ℕ, zero, suc, _+_, _-_, _*_, _^_, _≤_, _<_, zero-le}
-use mathlib.Core.Path.{_≡_, refl, sym, ap, _∙_}
+use mathlib.Core.Path.{_≡_, refl, sym, ap, subst, _∙_}
 use mathlib.Core.List.{List, _++_}
 use mathlib.Core.Logic.{⊎-elim}
-use native.Mathlib.Nat.{mul-le-mul-left}
 use native.Mathlib.Omega.{arith}
 use lib.ListN.{length, getD, take, drop, replicate, length-replicate, getD-replicate, length-take, length-drop, length-append, List·getD-append}
 use lib.Seq.{ext-getD, getD-append-add, getD-drop, getD-take}
 use Rattle.numbers.specs.Numbers.{total}
 use Rattle.numbers.proofs.Tests.{lt-or-le}
 use Rattle.numbers.proofs.Sums.{total-same}
-use Rattle.selection.specs.Plan.{Fitting, IsChosenOf}
+use Rattle.selection.specs.Plan.{Fitting, IsChosenOf, lastColumn, workWords}
 use Rattle.selection.proofs.Bounds.{last-small}
 use Rattle.selection.proofs.Agree.{way-places}
 use Rattle.table.specs.Rows.{optionAt, Written}
-use Rattle.choice.specs.Choice.{arrays, lastColumn, tableWords, ChoiceReady, Chose}
+use Rattle.choice.specs.Choice.{arrays, ChoiceReady, Chose}
 use Rattle.choice.specs.Units.{Small, SumReady, WayReady, WayTaken, SearchReady, UnitUsed}
-use Rattle.choice.proofs.Trying.{chosen-is}
+use Rattle.choice.proofs.Trying.{narrow-words, chosen-is}
 
 -- ---- lists from their words
 pub zeros-at : (n k : ℕ) → getD (replicate {A = ℕ} n 0) k 0 ≡ 0
@@ -85,8 +84,8 @@ module _ {n m limit slack : ℕ} {loads energies plan₀ work₀ : List ℕ} (g 
     }
 
     -- The table used is no larger than the words that are cleared.
-    pub own-words : (n + 1) * (last + 1) ≤ tableWords n slack
-    own-words = mul-le-mul-left (n + 1) (omega (arith, u .narrow))
+    pub own-words : (n + 1) * (last + 1) ≤ workWords n slack
+    own-words = narrow-words n slack last (u .narrow)
 
     module _ {plan : List ℕ} (w : WayTaken (limit + 1) n m k cost load plan₀ plan) where
       size : length (take n plan) ≡ n
@@ -111,19 +110,21 @@ module _ {n m limit slack : ℕ} {loads energies plan₀ work₀ : List ℕ} (g 
       sums : (f : ℕ → ℕ → ℕ) → total f n plan ≡ total f n (take n plan)
       sums f = total-same f f n plan (take n plan) (λ t l. ap (f t) (sym (same t l)))
 
-      pub chose : {work′ : List ℕ} (l e : ℕ) → l ≡ total (optionAt loads) n plan → e ≡ total (optionAt energies) n plan
-          → Written (λ p. 0) 0 (tableWords n slack) work work′
-          → Chose (arrays n m limit loads energies) slack (tableWords n slack) plan₀ work₀ plan work′ unit l e
-      chose {work′} l e x y z = record {
-        exponent = u .exponent;
-        unit-is = u .unit-is;
-        planned = record { used = u .used; chosen = chosen };
-        load-is = x ∙ sums (optionAt loads);
-        energy-is = y ∙ sums (optionAt energies);
-        rest = rest-same n plan₀ plan (w .same) (w .rest);
-        cleared =
-            zeros-list (tableWords n slack) work₀ work′ (g .work-room)
-            (record { same = z .same ∙ u .work-size; here = z .here; below = λ p h. absurd (omega arith); above = λ p h. z .above p h ∙ u .above p h });
-        plan-size = w .same;
-        work-size = z .same ∙ u .work-size;
-      }
+      pub chose : {work′ : List ℕ} (l e f : ℕ) → l ≡ total (optionAt loads) n plan → e ≡ total (optionAt energies) n plan → f ≡ lastColumn n slack
+          → Written (λ p. 0) 0 ((n + 1) * (f + 1)) work work′
+          → Chose (arrays n m limit loads energies) slack (workWords n slack) plan₀ work₀ plan work′ unit l e
+      chose {work′} l e f x y q c =
+          let z : Written (λ p. 0) 0 (workWords n slack) work work′ = subst (λ (k : ℕ). Written (λ p. 0) 0 ((n + 1) * (k + 1)) work work′) q c in
+          record {
+            exponent = u .exponent;
+            unit-is = u .unit-is;
+            planned = record { used = u .used; chosen = chosen };
+            load-is = x ∙ sums (optionAt loads);
+            energy-is = y ∙ sums (optionAt energies);
+            rest = rest-same n plan₀ plan (w .same) (w .rest);
+            cleared =
+                zeros-list (workWords n slack) work₀ work′ (g .work-room)
+                (record { same = z .same ∙ u .work-size; here = z .here; below = λ p h. absurd (omega arith); above = λ p h. z .above p h ∙ u .above p h });
+            plan-size = w .same;
+            work-size = z .same ∙ u .work-size;
+          }

@@ -12,7 +12,7 @@ use Rattle.numbers.specs.Numbers.{total, LeastPower}
 use Rattle.numbers.specs.Search.{Found}
 use Rattle.numbers.proofs.Tests.{lt-or-le}
 use Rattle.numbers.proofs.Powers.{power-positive}
-use Rattle.selection.specs.Plan.{Problem, Fitting, planEnergy, roundedTask, rounded, fastest, IsLeastOf, IsChosenOf, FallsShortOf}
+use Rattle.selection.specs.Plan.{Problem, Fitting, planEnergy, roundedTask, rounded, fastest, IsLeastOf, IsChosenOf, FallsShortOf, lastColumn, workWords}
 use Rattle.selection.proofs.Bounds.{rounded-small, rounded-half, last-small, first-in-table, next-in-table}
 use Rattle.selection.proofs.Fastest.{fastest-fits}
 use Rattle.selection.proofs.Choose.{cell, cell-le, way-back-chosen}
@@ -20,7 +20,7 @@ use Rattle.selection.proofs.Cells.{Way, cell-entry, way-back-way}
 use Rattle.selection.proofs.Agree.{entry-agrees, way-agrees}
 use Rattle.selection.proofs.Compute.{column-least}
 use Rattle.table.specs.Rows.{optionAt, entryOf, Written, Tabled, Defined}
-use Rattle.choice.specs.Choice.{arrays, lastColumn, tableWords}
+use Rattle.choice.specs.Choice.{arrays}
 use Rattle.choice.specs.Units.{cutOf, costOf, UnitReady, UnitTabled, SearchReady, UnitUsed}
 use Rattle.choice.proofs.Adding.{sum-low}
 
@@ -91,6 +91,9 @@ module _ (n m limit : ℕ) (loads energies load cost : List ℕ) (a : ℕ) (few 
       (lt-or-le k (last + 1))
 
 -- ---- the units tried
+pub narrow-words : (n slack last : ℕ) → last ≤ lastColumn n slack → (n + 1) * (last + 1) ≤ workWords n slack
+narrow-words n slack last h = mul-le-mul-left (n + 1) (omega arith)
+
 -- What holds before the unit 2 ^ a is tried with columns up to last; work₀ is the working list as lent.
 pub record Trying (n m limit slack : ℕ) (loads energies work₀ : List ℕ) (first : ℕ) (cost work : List ℕ) (a unit last : ℕ) : Type 0 where
   pub is-first : LeastPower (planEnergy (arrays n m limit loads energies) (fastest (arrays n m limit loads energies))) first
@@ -102,7 +105,7 @@ pub record Trying (n m limit slack : ℕ) (loads energies work₀ : List ℕ) (f
   pub narrow : last ≤ lastColumn n slack
   pub cost-size : length cost ≡ 512
   pub work-size : length work ≡ length work₀
-  pub above : (j : ℕ) → tableWords n slack ≤ j → getD work j 0 ≡ getD work₀ j 0
+  pub above : (j : ℕ) → workWords n slack ≤ j → getD work j 0 ≡ getD work₀ j 0
 
 module _ {n m limit slack : ℕ} {loads energies load₀ cost₀ work₀ : List ℕ} (g : SearchReady n m limit slack loads energies load₀ cost₀ work₀) where
   abbrev p : Problem
@@ -127,26 +130,29 @@ module _ {n m limit slack : ℕ} {loads energies load₀ cost₀ work₀ : List 
         above = λ j l. refl;
       }
 
-  module _ {first a unit last : ℕ} {cost₁ work₁ load : List ℕ} (w : Trying n m limit slack loads energies work₀ first cost₁ work₁ a unit last)
-      (c : Written (cutOf loads (limit + 1)) 0 (n * 16) load₀ load) where
-    columns-fit : (n + 1) * (last + 1) ≤ tableWords n slack
-    columns-fit = mul-le-mul-left (n + 1) (omega (arith, w .narrow))
-
-    loads-low : (j : ℕ) → getD load j 0 ≤ limit + 1
+  -- Loads cut at cap are at most cap; and the unit can be tried.
+  module _ {cap : ℕ} {load : List ℕ} (c : Written (cutOf loads cap) 0 (n * 16) load₀ load) where
+    loads-low : (j : ℕ) → getD load j 0 ≤ cap
     loads-low j =
         ⊎-elim
         (λ (l : j < n * 16). omega (arith, c .here j zero-le l))
         (λ (l : n * 16 ≤ j). omega (arith, c .above j l, g .load-none j))
         (lt-or-le j (n * 16))
 
-    pub unit-ready : UnitReady (limit + 1) last n m a unit energies load cost₁ work₁
-    unit-ready = record {
+    pub unit-ready : {first a unit last : ℕ} {cost₁ work₁ : List ℕ} → cap + cap < 2 ^ 32
+        → Trying n m limit slack loads energies work₀ first cost₁ work₁ a unit last → UnitReady cap last n m a unit energies load cost₁ work₁
+    unit-ready {first} {a} {unit} {last} small w = record {
       round = record { tasks = g .tasks; power = w .power; low = omega (arith, w .tried, w .first-low); small = g .energies-fit; size = w .cost-size };
       rates = g .rates .1;
-      small = omega (arith, g .small);
+      small = small;
       loads = loads-low;
-      words = omega (arith, columns-fit, g .work-room, w .work-size);
+      words = omega (arith, narrow-words n slack last (w .narrow), g .work-room, w .work-size);
     }
+
+  module _ {first a unit last : ℕ} {cost₁ work₁ load : List ℕ} (w : Trying n m limit slack loads energies work₀ first cost₁ work₁ a unit last)
+      (c : Written (cutOf loads (limit + 1)) 0 (n * 16) load₀ load) where
+    columns-fit : (n + 1) * (last + 1) ≤ workWords n slack
+    columns-fit = narrow-words n slack last (w .narrow)
 
     module _ {cost work : List ℕ} {k : ℕ} (u : UnitTabled (limit + 1) last n m a energies load cost₁ work₁ cost work k) where
       least-place : k ≤ last
@@ -166,7 +172,7 @@ module _ {n m limit slack : ℕ} {loads energies load₀ cost₀ work₀ : List 
       least : IsLeastOf (Fitting p) p (2 ^ a) k
       least = least-is n m limit loads energies load cost a (g .rates .1) (λ j l. c .here j zero-le l) (u .costs) k some before
 
-      above : (j : ℕ) → tableWords n slack ≤ j → getD work j 0 ≡ getD work₀ j 0
+      above : (j : ℕ) → workWords n slack ≤ j → getD work j 0 ≡ getD work₀ j 0
       above j l = u .above j (omega (arith, columns-fit)) ∙ w .above j l
 
       pub least-small : k ≤ 128000
@@ -187,7 +193,7 @@ module _ {n m limit slack : ℕ} {loads energies load₀ cost₀ work₀ : List 
           stops = ⊎-elim (λ z. inl z) (λ z. inr (k, least, z)) stop;
           goes-on = w .goes-on;
         };
-        loads-low = loads-low;
+        loads-low = loads-low c;
         loads-cut = λ j l. c .here j zero-le l;
         costs = u .costs;
         narrow = w .narrow;

@@ -1,22 +1,15 @@
 -- What the choice of a plan takes and gives, over arrays of loads and energies. Not part of what a reader must believe: the planner's
 -- contract speaks of the set's own problem.
-use Prim.Native.Nat.{ℕ, _+_, _*_, _/_, _^_, _≤_, _<_}
+use Prim.Native.Nat.{ℕ, _^_, _≤_, _<_}
 use mathlib.Core.Path.{_≡_}
 use mathlib.Core.List.{List, _++_}
 use lib.ListN.{length, getD, take, drop, replicate}
-use Rattle.selection.specs.Plan.{Problem, planLoad, planEnergy, fastest, IsPlanned}
+use Rattle.selection.specs.Plan.{Problem, planLoad, planEnergy, fastest, IsPlanned, workWords}
 use Rattle.table.specs.Rows.{optionAt}
 
 -- The problem that the arrays give.
 abbrev pub arrays : ℕ → ℕ → ℕ → List ℕ → List ℕ → Problem
 arrays n m limit loads energies = record { count = n; rates = m; limit = limit; load = optionAt loads; energy = optionAt energies }
-
--- The last column that a table of n tasks at slack g may need, and the words of such a table.
-abbrev pub lastColumn : ℕ → ℕ → ℕ
-lastColumn n g = 4000 * n / g
-
-abbrev pub tableWords : ℕ → ℕ → ℕ
-tableWords n g = (n + 1) * (lastColumn n g + 1)
 
 -- What the choice asks: numbers in range, sums that fit, a plan that fits, and lists that are long enough.
 pub record ChoiceReady (n m limit slack : ℕ) (loads energies plan work : List ℕ) : Type 0 where
@@ -28,7 +21,7 @@ pub record ChoiceReady (n m limit slack : ℕ) (loads energies plan work : List 
   pub energies-fit : (k : ℕ) → getD energies k 0 < 2 ^ 58
   pub fits : planLoad (arrays n m limit loads energies) (fastest (arrays n m limit loads energies)) ≤ limit
   pub plan-room : n ≤ length plan
-  pub work-room : tableWords n slack ≤ length work
+  pub work-room : workWords n slack ≤ length work
 
 -- What it gives: the plan selected in the first words of the plan list, its unit, load and energy, and zeros where the table was;
 -- every other word as before.

@@ -5,10 +5,10 @@ use mathlib.Core.List.{List}
 use lib.ListN.{length, getD}
 use Rattle.numbers.specs.Numbers.{ceil}
 use Rattle.numbers.specs.Search.{Found}
-use Rattle.selection.specs.Plan.{Fitting, planLoad, fastest, IsUsedOf}
+use Rattle.selection.specs.Plan.{Fitting, planLoad, fastest, IsUsedOf, lastColumn, workWords}
 use Rattle.selection.proofs.Cells.{Way}
 use Rattle.table.specs.Rows.{optionAt, entryOf}
-use Rattle.choice.specs.Choice.{arrays, lastColumn, tableWords}
+use Rattle.choice.specs.Choice.{arrays}
 
 -- d holds the table of t tasks, n words a row.
 pub record Table (cap n t m : ℕ) (cost load d : List ℕ) : Type 0 where
@@ -89,7 +89,7 @@ pub record SearchReady (n m limit slack : ℕ) (loads energies load cost work : 
   pub load-none : (k : ℕ) → getD load k 0 ≡ 0
   pub cost-size : length cost ≡ 512
   pub fits : planLoad (arrays n m limit loads energies) (fastest (arrays n m limit loads energies)) ≤ limit
-  pub work-room : tableWords n slack ≤ length work
+  pub work-room : workWords n slack ≤ length work
 
 -- What it gives: the unit used, and its table with the least column.
 pub record UnitUsed (n m limit slack : ℕ) (loads energies work₀ load cost work : List ℕ) (unit last k : ℕ) : Type 0 where
@@ -104,5 +104,5 @@ pub record UnitUsed (n m limit slack : ℕ) (loads energies work₀ load cost wo
   pub place : k ≤ last
   pub some : entryOf (limit + 1) m cost load n k < limit + 1
   pub before : (e : ℕ) → e < k → limit + 1 ≤ entryOf (limit + 1) m cost load n e
-  pub above : (p : ℕ) → tableWords n slack ≤ p → getD work p 0 ≡ getD work₀ p 0
+  pub above : (p : ℕ) → workWords n slack ≤ p → getD work p 0 ≡ getD work₀ p 0
   pub work-size : length work ≡ length work₀

@@ -5,7 +5,8 @@ ghost use Prim.Native.Nat.{ℕ, _+_, _*_, _≤_, min};
 ghost use lib.ListN.{length, replicate};
 ghost use Rattle.numbers.specs.Numbers.{total};
 ghost use Rattle.table.specs.Rows.{optionAt, Written};
-ghost use Rattle.choice.specs.Choice.{arrays, tableWords, ChoiceReady, Chose};
+ghost use Rattle.selection.specs.Plan.{lastColumn, workWords};
+ghost use Rattle.choice.specs.Choice.{arrays, ChoiceReady, Chose};
 ghost use Rattle.choice.specs.Units.{WayReady, WayTaken, cutOf, costOf, Small, RoundReady, SumReady, ClearReady, UnitReady, UnitTabled, SearchReady, UnitUsed};
 
 // What was chosen: the unit, and the plan's load and energy.
@@ -20,6 +21,14 @@ struct Used {
     unit: u64,
     last: usize,
     least: usize,
+}
+
+// The last column that a table of n tasks may need at this slack.
+pub fn last_column(n: usize, slack: u32) -> usize
+    requires { ⌜ (n ≤ 32) × (1 ≤ slack) ⌝ }
+    ensures { λ r. ⌜ r ≡ lastColumn n slack ⌝ }
+{
+    4_000 * n / slack as usize
 }
 
 // Writes the way back through the table of t tasks from column e of its last row, n words a row: the lowest rate number that makes each
@@ -140,7 +149,8 @@ fn least_energy(
 }
 
 // Finds the unit used: tries the first unit and halves it until the rule stops. Each unit's table is only as wide as is known to
-// suffice: at the first unit n, and twice the last least energy after that.
+// suffice: at the first unit n, since there the plan with every task at the highest rate costs 1 a task at most; then twice the last
+// least energy, since at half the unit no rounded energy is more than doubled.
 fn find_unit(
     loads: &[u64; 512],
     energies: &[u64; 512],
@@ -196,9 +206,9 @@ pub fn choose(
     work: &mut [u32],
 ) -> Choice
     requires { ⌜ ChoiceReady n m limit slack (now loads) (now energies) (now plan) (now work) ⌝ }
-    ensures { λ r. ⌜ Chose (arrays n m limit (now (loads .entry)) (now (energies .entry))) slack (tableWords n slack) (now (plan .entry)) (now (work .entry)) (now (plan .exit)) (now (work .exit)) (r .unit) (r .load) (r .energy) ⌝ }
+    ensures { λ r. ⌜ Chose (arrays n m limit (now (loads .entry)) (now (energies .entry))) slack (workWords n slack) (now (plan .entry)) (now (work .entry)) (now (plan .exit)) (now (work .exit)) (r .unit) (r .load) (r .energy) ⌝ }
 {
-    let columns = 4_000 * n / slack as usize + 1;
+    let columns = last_column(n, slack) + 1;
     let mut load: [u32; 512] = [0; 512];
     let mut cost: [usize; 512] = [0; 512];
     let used = find_unit(

@@ -10,7 +10,7 @@ use lib.ListN.{length, take, getD, replicate}
 use lib.Seq.{getD-take}
 use Rattle.numbers.specs.Numbers.{total}
 use Rattle.numbers.proofs.Tests.{lt-or-le}
-use Rattle.selection.specs.Plan.{Problem, planLoad, Fitting, IsPlan, fastest}
+use Rattle.selection.specs.Plan.{Problem, planLoad, Fitting, IsPlan, fastest, workWords}
 use Rattle.selection.proofs.Fastest.{some-fits-iff-fastest}
 use Rattle.selection.proofs.Same.{Same, load-same, energy-same, fastest-load-same, planned-same}
 use Rattle.taskset.specs.Words.{listHead, listExtra, slack, rateCount, taskCount}
@@ -27,7 +27,7 @@ use Rattle.taskset.proofs.Sets.{IsSet, set-of, falling}
 use Rattle.taskset.proofs.DemandThree.{answer-owes}
 use Rattle.table.specs.Rows.{optionAt}
 use Rattle.choice.specs.Units.{Small}
-use Rattle.choice.specs.Choice.{arrays, tableWords, ChoiceReady, Chose}
+use Rattle.choice.specs.Choice.{arrays, ChoiceReady, Chose}
 use Rattle.planner.specs.Answers.{RateNumbers, PlannerCall}
 use Rattle.planner.specs.Ready.{ReadyAnswers}
 use Rattle.planner.specs.Options.{PutBoth, TasksGiven}
@@ -140,7 +140,7 @@ module _ (s plan work : List ℕ) (m n l : ℕ) (ready : ReadyAnswers s (length 
               }
 
           -- What was chosen is what document 01 selects.
-          module _ (plan′ work′ : List ℕ) (unit load energy : ℕ) (chose : Chose chosenFrom g (tableWords n g) plan work plan′ work′ unit load energy) where
+          module _ (plan′ work′ : List ℕ) (unit load energy : ℕ) (chose : Chose chosenFrom g (workWords n g) plan work plan′ work′ unit load energy) where
             plan-is : IsPlan chosenFrom (take n plan′)
             plan-is = chose .planned .chosen .ok .plan
 

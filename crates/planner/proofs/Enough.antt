@@ -7,7 +7,8 @@ use mathlib.Core.Logic.{inl, inr}
 use native.Mathlib.Omega.{arith}
 use lib.ListN.{length}
 use Rattle.taskset.specs.Words.{listHead, listExtra, slack}
-use Rattle.taskset.specs.Quantities.{workWords, workNeeded}
+use Rattle.selection.specs.Plan.{workWords}
+use Rattle.taskset.specs.Quantities.{workNeeded}
 use Rattle.taskset.specs.Refusals.{number, second, IsShort, setChecks, lengthChecks}
 use Rattle.taskset.specs.Calls.{SetAnswers}
 use Rattle.taskset.specs.declared.Refusal.{Refusal}

@@ -11,7 +11,7 @@ use lib.ListN.{getD, set, length-set, replicate, length-replicate}
 use lib.Seq.{getD-set-same, getD-set-other}
 use Rattle.taskset.specs.Words.{listHead, listExtra, rateCount, period, energy}
 use Rattle.taskset.specs.Quantities.{jobTime, taskLoad, taskEnergy}
-use Rattle.taskset.proofs.Access.{job-time-fits}
+use Rattle.checks.proofs.Access.{job-time-fits}
 use Rattle.taskset.proofs.Sets.{IsSet, set-of, task-energy-small}
 use Rattle.choice.proofs.Choosing.{zeros-at}
 use Rattle.planner.specs.Options.{Put, PutBoth, TaskGiven}

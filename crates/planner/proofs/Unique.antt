@@ -9,13 +9,13 @@ use Rattle.taskset.specs.declared.Checked.{Checked}
 use Rattle.taskset.specs.declared.PlannerAnswer.{PlannerAnswer}
 use Rattle.taskset.specs.declared.Checked.the-variants.{Good, Refused as NotGood}
 use Rattle.taskset.proofs.Checks.{AllSingle, lowest-single, too-long-single, not-both}
-use Rattle.taskset.proofs.Unique.{refusal-unique, SameGiven, planner-unique}
+use Rattle.taskset.proofs.Unique.{short-single, refusal-unique, SameGiven, planner-unique}
 use Rattle.planner.specs.Answers.{PlannerCall}
 use Rattle.planner.specs.Ready.{ReadyAnswers}
 
 pub ready-single : (s : List ℕ) (planLength workLength : ℕ) → AllSingle (readyChecks s planLength workLength)
 ready-single s pl wl =
-    (lowest-single, (lowest-single, (too-long-single listHead listExtra s, ((λ j k a b. a .1 ∙ sym (b .1)), ((λ j k a b. a .1 ∙ sym (b .1)), tt)))))
+    (lowest-single, (lowest-single, (too-long-single listHead listExtra s, (short-single _ wl, (short-single _ pl, tt)))))
 
 pub ready-unique : (s : List ℕ) (planLength workLength : ℕ) (a b : Checked) → ReadyAnswers s planLength workLength a → ReadyAnswers s planLength workLength b → a ≡ b
 ready-unique s pl wl (Good m n l) (Good m′ n′ l′) x y = cc (x .1, y .1, x .2, y .2, x .3, y .3)

@@ -6,7 +6,7 @@ use mathlib.Core.List.{List}
 use lib.ListN.{length, getD}
 use Rattle.taskset.specs.Words.{listHead, listExtra}
 use Rattle.taskset.specs.Quantities.{hyperPeriod, taskLoad, taskEnergy}
-use Rattle.taskset.specs.Steps.{OfTask}
+use Rattle.checks.specs.Steps.{OfTask}
 use Rattle.table.specs.Rows.{optionAt}
 
 -- The array d of 512 words holds f at every rate number 1 to m of the tasks before place t, and at those before r of the task at place

@@ -3,7 +3,7 @@
 ghost use mathlib.Core.Path.{_≡_};
 ghost use Prim.Native.Nat.{_+_, _≤_};
 ghost use lib.ListN.{length};
-ghost use Rattle.taskset.specs.Quantities.{workWords};
+ghost use Rattle.selection.specs.Plan.{workWords};
 ghost use Rattle.taskset.specs.declared.Checked.the-variants.{Good};
 ghost use Rattle.planner.specs.Ready.{ReadyAnswers};
 ghost use Rattle.planner.specs.Options.{PutBoth, TaskGiven, TasksGiven};
@@ -19,7 +19,7 @@ fn work_needed(n: usize, g: u32) -> usize
     requires { ⌜ (n ≤ 32) × (1 ≤ g) ⌝ }
     ensures { λ r. ⌜ r ≡ workWords n g ⌝ }
 {
-    let last = 4_000 * n / g as usize;
+    let last = choice::last_column(n, g);
     (n + 1) * (last + 1)
 }
 
@@ -27,7 +27,7 @@ fn work_needed(n: usize, g: u32) -> usize
 pub fn ready(set: &[u32], plan_len: usize, work_len: usize) -> Checked
     ensures { λ r. ⌜ ReadyAnswers (now (set .entry)) «plan_len» «work_len» r ⌝ }
 {
-    let checked = taskset::check_set(set, LIST_HEAD, LIST_EXTRA);
+    let checked = checks::check_set(set, LIST_HEAD, LIST_EXTRA);
     match checked {
         Checked::Refused(r) => Checked::Refused(r),
         Checked::Good {
@@ -35,7 +35,7 @@ pub fn ready(set: &[u32], plan_len: usize, work_len: usize) -> Checked
             tasks,
             hyper,
         } => {
-            let w = work_needed(tasks, taskset::slack_of(set));
+            let w = work_needed(tasks, checks::slack_of(set));
             if work_len < w {
                 return Checked::Refused(Refusal::WorkShort(w));
             }
@@ -64,11 +64,11 @@ fn put_task(
     requires { ⌜ PutBoth (now set) m t 1 (now loads) (now energies) ⌝ }
     ensures { λ _. ⌜ PutBoth (now (set .entry)) m (t + 1) 1 (now (loads .exit)) (now (energies .exit)) ⌝ }
 {
-    let jobs = hyper / taskset::period_of(set, LIST_HEAD, LIST_EXTRA, m, t) as u64;
+    let jobs = hyper / checks::period_of(set, LIST_HEAD, LIST_EXTRA, m, t) as u64;
     let mut r: usize = 1;
     while r <= m {
-        let time = taskset::job_time(set, LIST_HEAD, LIST_EXTRA, m, t, r);
-        let energy = taskset::energy_of(set, LIST_HEAD, LIST_EXTRA, m, t, r);
+        let time = checks::job_time(set, LIST_HEAD, LIST_EXTRA, m, t, r);
+        let energy = checks::energy_of(set, LIST_HEAD, LIST_EXTRA, m, t, r);
         loads[t * 16 + r] = jobs * time as u64;
         energies[t * 16 + r] = jobs * energy as u64;
         r += 1;
@@ -115,7 +115,7 @@ pub fn plan_checked(
     if hyper < fastest {
         return PlannerAnswer::Refused(Refusal::NoPlan);
     }
-    let slack = taskset::slack_of(set);
+    let slack = checks::slack_of(set);
     let c = choice::choose(
         &loads,
         &energies,

@@ -12,7 +12,7 @@ use Rattle.numbers.specs.Numbers.{LeastPower}
 use Rattle.numbers.proofs.Rounding.{ceil-covers, ceil-over, ceil-half, ceil-least}
 use Rattle.numbers.proofs.Sums.{total-mono, total-scale, total-plus, total-at, total-bound}
 use Rattle.numbers.proofs.Powers.{power-positive}
-use Rattle.selection.specs.Plan.{Problem, planEnergy, roundedTask, rounded, IsLeastOf, IsChosenOf, fastest, threshold, QualifiesOf, FallsShortOf, IsPlannedOf}
+use Rattle.selection.specs.Plan.{Problem, planEnergy, roundedTask, rounded, IsLeastOf, IsChosenOf, fastest, threshold, QualifiesOf, FallsShortOf, IsPlannedOf, lastColumn}
 
 -- ---- rounding (document 000, equation (4), in whole numbers)
 module _ (p : Problem) (d : ℕ) (pos : 0 < d) where
@@ -96,21 +96,21 @@ module _ (Ok : List ℕ → Type 0) (p : Problem) where
   first-small d pos k a P f h = omega (arith, a .least P f, rounded-small p d pos P h)
 
 -- F = 4,000 × N / G rounded down: what a table must hold. The words of any table fit a machine word.
-pub last-small : (n g : ℕ) → n ≤ 32 → 1 ≤ g → 4000 * n / g ≤ 128000
+pub last-small : (n g : ℕ) → n ≤ 32 → 1 ≤ g → lastColumn n g ≤ 128000
 last-small n g a b = omega (arith, div-mul-le-self (4000 * n) g, mul-le-mul-left (4000 * n / g) b)
 
 pub work-small : (n last : ℕ) → n ≤ 32 → last ≤ 128000 → (n + 1) * (last + 1) ≤ 4224033
 work-small n last a b = omega (arith, mul-le-mul-right {m = n + 1} {n = 33} (last + 1) (omega arith))
 
-pub first-in-table : (G N k : ℕ) → 0 < G → G ≤ 1000 → k ≤ N → k ≤ 4000 * N / G
+pub first-in-table : (G N k : ℕ) → 0 < G → G ≤ 1000 → k ≤ N → k ≤ lastColumn N G
 first-in-table G N k pos small h = le-div-iff-mul-le pos .1 (omega (arith, mul-le-mul-left N small, mul-le-mul-right G h))
 
-pub next-in-table : (G N j k : ℕ) → 0 < G → G * j < 2000 * N → k ≤ 2 * j → k ≤ 4000 * N / G
+pub next-in-table : (G N j k : ℕ) → 0 < G → G * j < 2000 * N → k ≤ 2 * j → k ≤ lastColumn N G
 next-in-table G N j k pos going h = le-div-iff-mul-le pos .1 (omega (arith, mul-le-mul-right G h))
 
 -- k is at most F at every unit that is tried: at the first, and at half a unit that fell short.
 pub tried-in-table : (Ok : List ℕ → Type 0) (p : Problem) (G a k : ℕ) → 0 < G → G ≤ 1000 → (f : ℕ) → LeastPower (planEnergy p (fastest p)) f → Ok (fastest p)
-    → (a ≡ f) ⊎ FallsShortOf Ok p G (2 ^ suc a) → IsLeastOf Ok p (2 ^ a) k → k ≤ 4000 * p .count / G
+    → (a ≡ f) ⊎ FallsShortOf Ok p G (2 ^ suc a) → IsLeastOf Ok p (2 ^ a) k → k ≤ lastColumn (p .count) G
 tried-in-table Ok p G a k pos small f first fit (inl e) l =
     first-in-table G (p .count) k pos small (first-small Ok p (2 ^ a) (power-positive a) k l (fastest p) fit (rw e (first .enough)))
 tried-in-table Ok p G a k pos small f first fit (inr s) l =

@@ -10,7 +10,7 @@ use lib.ListN.{getD}
 use Rattle.numbers.specs.Numbers.{total}
 use Rattle.numbers.proofs.Powers.{exponent}
 use Rattle.numbers.proofs.Search.{seek}
-use Rattle.selection.specs.Plan.{Problem, planLoad, planEnergy, Fitting, fastest, IsPlanned}
+use Rattle.selection.specs.Plan.{Problem, planLoad, planEnergy, Fitting, fastest, IsPlanned, workWords}
 use Rattle.selection.proofs.Fastest.{Falling, fastest-fits, fastest-least}
 use Rattle.selection.proofs.Table.{leastOf, firstOf, via, best}
 use Rattle.selection.proofs.Choose.{spend, cell}
@@ -74,6 +74,8 @@ pub record Cases : Type 0 where
   slack-100 : Selects S 100 (2 ∷ 1 ∷ []) 1 29 41
   -- "S with slack 1,000: plan 1 2, unit 8, load 28, energy 42."
   slack-1000 : Selects S 1000 (1 ∷ 2 ∷ []) 8 28 42
+  -- "S has W = 243"; "S with slack 1,000: W = 27."
+  words : (workWords 2 100 ≡ 243) × (workWords 2 1000 ≡ 27)
   -- "Plan 1 3 for S: load 24."
   load-of-1-3 : planLoad S (1 ∷ 3 ∷ []) ≡ 24
   -- "Highest rate 2, one task of period 30: 60 cycles fit, 61 give refusal 7."
@@ -87,6 +89,7 @@ unfolding S one at total fastest exponent seek usedExponent usedFrom leastEnergy
 cases = record {
   slack-100 = computed S 100 (2 ∷ 1 ∷ []) 0 1 29 41 (le-by-compare _ _ tt) (le-by-compare _ _ tt) refl refl refl refl refl;
   slack-1000 = computed S 1000 (1 ∷ 2 ∷ []) 3 8 28 42 (le-by-compare _ _ tt) (le-by-compare _ _ tt) refl refl refl refl refl;
+  words = (refl, refl);
   load-of-1-3 = refl;
   cycles-60 = computed _ 100 (2 ∷ []) 0 1 30 6 (le-by-compare _ _ tt) (le-by-compare _ _ tt) refl refl refl refl refl;
   cycles-61 = none-fits;

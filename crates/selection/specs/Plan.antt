@@ -1,6 +1,6 @@
 -- Which plan is selected (document 01, 'A task set' and 'Which plan'), over any loads and energies.
 -- Tasks stand at places from 0 here; rate numbers count from 1.
-use Prim.Native.Nat.{ℕ, zero, suc, _*_, _^_, _≤_, _<_}
+use Prim.Native.Nat.{ℕ, zero, suc, _+_, _*_, _/_, _^_, _≤_, _<_}
 use mathlib.Core.Path.{_≡_}
 use mathlib.Core.List.{List}
 use mathlib.Core.Logic.{_⊎_}
@@ -95,3 +95,10 @@ pub record IsPlannedOf (Ok : List ℕ → Type 0) (p : Problem) (G a : ℕ) (P :
 -- Document 01's plan: chosen among those that fit.
 abbrev pub IsPlanned : Problem → ℕ → ℕ → List ℕ → Type 0
 IsPlanned p = IsPlannedOf (Fitting p) p
+
+-- "Working words needed: W = (N + 1) × (F + 1), where F is 4,000 × N / G rounded down."
+abbrev pub lastColumn : ℕ → ℕ → ℕ
+lastColumn n g = 4000 * n / g
+
+abbrev pub workWords : ℕ → ℕ → ℕ
+workWords n g = (n + 1) * (lastColumn n g + 1)

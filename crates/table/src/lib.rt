@@ -1,6 +1,7 @@
 // The table that finds the plan, over arrays of costs and loads: which costs these are, and which way is taken through it, are left
-// to others. Options stand by task and rate number: the one of the task at place t with rate number r at t * 16 + r. Loads are cut at
-// cap, which stands for 'none', so that every sum of two words fits.
+// to others. Options stand by task and rate number: the one of the task at place t with rate number r at t * 16 + r, so that no
+// number is shifted by one and a place is found without a product. Loads are cut at cap, which stands for 'none', so that every sum
+// of two words fits.
 ghost use mathlib.Core.Path.{_≡_};
 ghost use Prim.Native.Nat.{ℕ, _+_, _-_, _≤_, _<_, min};
 ghost use lib.ListN.{length};

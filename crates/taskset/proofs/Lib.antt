@@ -1,12 +1,9 @@
 pub mod Checks
 pub mod Places
 pub mod Whole
-pub mod Following
-pub mod Judging
 pub mod Verdict
 pub mod PlanVerdict
 pub mod Sets
-pub mod Access
 pub mod Small
 pub mod DemandThree
 pub mod Unique

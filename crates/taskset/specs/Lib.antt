@@ -3,4 +3,3 @@ pub mod Quantities
 pub mod Refusals
 pub mod Calls
 pub mod DemandThree
-pub mod Steps

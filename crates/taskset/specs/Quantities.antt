@@ -1,11 +1,11 @@
 -- What a set and a plan come to (document 01, 'A task set' and 'Which plan'): job times, hyper-period, loads, energies, working
 -- words; the set as a problem of selection, and with a plan as the walk's tasks.
-use Prim.Native.Nat.{ℕ, _+_, _*_, _/_}
+use Prim.Native.Nat.{ℕ, _*_, _/_}
 use mathlib.Core.List.{List}
 use lib.ListN.{getD}
 use Rattle.numbers.specs.Numbers.{ceil, running}
 use Rattle.schedule.specs.Walk.{Task, periodic, tasksFrom}
-use Rattle.selection.specs.Plan.{Problem, planEnergy}
+use Rattle.selection.specs.Plan.{Problem, planEnergy, workWords}
 use Rattle.taskset.specs.Words.{listHead, listExtra, slack, rateCount, taskCount, rate, period, cycles, energy}
 
 -- "Hyper-period L: .. at most 10,000,000."
@@ -35,13 +35,6 @@ module _ (head extra : ℕ) (s : List ℕ) where
   -- The tasks that the walk runs: each with its period, and with its job time at the rate that the plan gives it.
   abbrev pub tasksOf : List ℕ → List Task
   tasksOf P = tasksFrom (λ t. periodic (period head extra s t) (jobTime t (getD P t 0))) 0 (taskCount head s)
-
--- "Working words needed: W = (N + 1) × (F + 1), where F is 4,000 × N / G rounded down."
-abbrev pub lastColumn : ℕ → ℕ → ℕ
-lastColumn n g = 4000 * n / g
-
-abbrev pub workWords : ℕ → ℕ → ℕ
-workWords n g = (n + 1) * (lastColumn n g + 1)
 
 -- The same of document 01's own list.
 abbrev pub problem : List ℕ → Problem

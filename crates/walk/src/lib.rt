@@ -214,7 +214,7 @@ fn periods(set: &[u32], m: usize, n: usize) -> [u32; 32]
     let mut p = [0u32; 32];
     let mut t: usize = 0;
     while t < n {
-        p[t] = taskset::period_of(set, LIST_HEAD, LIST_EXTRA, m, t);
+        p[t] = checks::period_of(set, LIST_HEAD, LIST_EXTRA, m, t);
         t += 1;
     }
     p
@@ -230,7 +230,7 @@ fn times(set: &[u32], plan: &[u32], m: usize, n: usize) -> [u32; 32]
     let mut t: usize = 0;
     while t < n {
         let r = plan[t] as usize;
-        c[t] = taskset::job_time(set, LIST_HEAD, LIST_EXTRA, m, t, r);
+        c[t] = checks::job_time(set, LIST_HEAD, LIST_EXTRA, m, t, r);
         t += 1;
     }
     c
@@ -240,7 +240,7 @@ fn times(set: &[u32], plan: &[u32], m: usize, n: usize) -> [u32; 32]
 pub fn walk(set: &[u32], plan: &[u32]) -> WalkAnswer
     ensures { λ r. ⌜ Walked (now (set .entry)) (now (plan .entry)) r ⌝ }
 {
-    let checked = taskset::check_set(set, LIST_HEAD, LIST_EXTRA);
+    let checked = checks::check_set(set, LIST_HEAD, LIST_EXTRA);
     match checked {
         Checked::Refused(r) => WalkAnswer::Refused(r),
         Checked::Good {

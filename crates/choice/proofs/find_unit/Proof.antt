@@ -1,3 +1,4 @@
+use mathlib.Core.Path.{_∙_}
 use mathlib.Core.Logic.{inl, inr}
 use native.Mathlib.Omega.{arith}
 use Rattle.choice.proofs.Adding.{sum-low}
@@ -41,14 +42,13 @@ least-energy-requires : tie.Need-least-energy-requires Inv-loop μ-loop
 least-energy-requires c κs =
     let l = c .before .before .before in
     let q = l .before .before .before in
-    unit-ready (q .before .before .before .pre) (l .loop .inv) (q .cut .ensures)
+    let g = q .before .before .before .pre in
+    unit-ready g (q .cut .ensures) (omega (arith, g .small)) (l .loop .inv)
 
 same-length : tie.Need-same-length Inv-loop μ-loop
 same-length c =
     let u = c .before .before .before in
-    let l = u .before .before .before .before in
-    let q = l .before .before .before in
-    unit-used (q .before .before .before .pre) (l .loop .inv) (q .cut .ensures) (u .least-energy .ensures) (inl (c .if1 .taken)) .work-size
+    u .least-energy .ensures .work-size ∙ u .before .before .before .before .loop .inv .work-size
 
 returns : tie.Need-returns Inv-loop μ-loop
 returns c =
@@ -70,9 +70,7 @@ mul-if2-2 c =
 same-length-2 : tie.Need-same-length-2 Inv-loop μ-loop
 same-length-2 c =
     let u = c .before .before .before .before in
-    let l = u .before .before .before .before in
-    let q = l .before .before .before in
-    unit-used (q .before .before .before .pre) (l .loop .inv) (q .cut .ensures) (u .least-energy .ensures) (inr (omega (arith, c .if2 .taken))) .work-size
+    u .least-energy .ensures .work-size ∙ u .before .before .before .before .loop .inv .work-size
 
 returns-2 : tie.Need-returns-2 Inv-loop μ-loop
 returns-2 c =

@@ -10,7 +10,7 @@ use Rattle.planner.proofs.plan_checked.Lts as lts
 use Rattle.planner.proofs.put_tasks.Reads as put-tasks-reads
 use Rattle.choice.proofs.choose.Reads as choose-reads
 use Rattle.choice.proofs.fastest_sum.Reads as fastest-sum-reads
-use Rattle.taskset.proofs.slack_of.Reads as slack-of-reads
+use Rattle.checks.proofs.slack_of.Reads as slack-of-reads
 
 put-tasks-requires : tie.Need-put-tasks-requires
 put-tasks-requires c κs =

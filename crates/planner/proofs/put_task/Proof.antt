@@ -10,9 +10,9 @@ use Rattle.planner.proofs.put_task.Statement.{statement}
 use Rattle.planner.proofs.put_task.Tie as tie
 use Rattle.planner.proofs.put_task.Reads as reads
 use Rattle.planner.proofs.put_task.Lts as lts
-use Rattle.taskset.proofs.energy_of.Reads as energy-of-reads
-use Rattle.taskset.proofs.job_time.Reads as job-time-reads
-use Rattle.taskset.proofs.period_of.Reads as period-of-reads
+use Rattle.checks.proofs.energy_of.Reads as energy-of-reads
+use Rattle.checks.proofs.job_time.Reads as job-time-reads
+use Rattle.checks.proofs.period_of.Reads as period-of-reads
 
 abbrev Inv-loop : tie.InvT-loop
 Inv-loop loads₀ energies₀ set m hyper t jobs r₀ loads energies r = (1 ≤ r) × (r ≤ m + 1) × PutBoth set m t r loads energies

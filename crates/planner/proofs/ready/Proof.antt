@@ -2,7 +2,7 @@
 -- Assumes nothing.
 use mathlib.Core.Path.{subst, ap, _∙_}
 use Rattle.taskset.specs.Words.{listHead, listExtra}
-use Rattle.taskset.specs.Quantities.{workWords}
+use Rattle.selection.specs.Plan.{workWords}
 use Rattle.taskset.specs.Calls.{SetAnswers}
 use Rattle.planner.proofs.Enough.{set-refused, slack-range, tasks-few, some-words, work-short, plan-short, is-ready}
 use borrow.Author.Needs.{needs}
@@ -11,8 +11,8 @@ use Rattle.planner.proofs.ready.Tie as tie
 use Rattle.planner.proofs.ready.Reads as reads
 use Rattle.planner.proofs.ready.Lts as lts
 use Rattle.planner.proofs.work_needed.Reads as work-needed-reads
-use Rattle.taskset.proofs.check_set.Reads as check-set-reads
-use Rattle.taskset.proofs.slack_of.Reads as slack-of-reads
+use Rattle.checks.proofs.check_set.Reads as check-set-reads
+use Rattle.checks.proofs.slack_of.Reads as slack-of-reads
 
 check-set-requires : tie.Need-check-set-requires
 check-set-requires c κs = search needs

@@ -1,3 +1,5 @@
+use Prim.Native.Nat.{ℕ, _+_, _*_}
+use mathlib.Core.Path.{ap}
 use native.Mathlib.Omega.{arith}
 use Rattle.selection.proofs.Bounds.{last-small, work-small}
 use borrow.Author.Needs.{needs}
@@ -5,25 +7,29 @@ use Rattle.planner.proofs.work_needed.Statement.{statement}
 use Rattle.planner.proofs.work_needed.Tie as tie
 use Rattle.planner.proofs.work_needed.Reads as reads
 use Rattle.planner.proofs.work_needed.Lts as lts
+use Rattle.choice.proofs.last_column.Reads as last-column-reads
 
-mul-last : tie.Need-mul-last
-mul-last c = search needs
-
-div-last : tie.Need-div-last
-div-last c = search needs
+last-column-requires : tie.Need-last-column-requires
+last-column-requires c κs = search needs
 
 add-result : tie.Need-add-result
 add-result c = search needs
 
 add-result-2 : tie.Need-add-result-2
-add-result-2 c = omega (arith, last-small (c .args .n) (c .args .g) (c .pre .0) (c .pre .1))
+add-result-2 c = let s = c .before in omega (arith, c .last-column .ensures, last-small (s .args .n) (s .args .g) (s .pre .0) (s .pre .1))
 
 mul-result : tie.Need-mul-result
-mul-result c = omega (arith, work-small (c .args .n) _ (c .pre .0) (last-small (c .args .n) (c .args .g) (c .pre .0) (c .pre .1)))
+mul-result c =
+    let s = c .before in
+    let last = c .last-column .ensures in
+    omega (
+      arith,
+      ap (λ (x : ℕ). (s .args .n + 1) * (x + 1)) last,
+      work-small (s .args .n) _ (s .pre .0) (last-small (s .args .n) (s .args .g) (s .pre .0) (s .pre .1)),
+    )
 
 returns : tie.Need-returns
-returns c = search needs
+returns c = ap (λ (x : ℕ). (c .before .args .n + 1) * (x + 1)) (c .last-column .ensures)
 
 pub work-needed-spec : {M : Type 1} → statement M
-work-needed-spec =
-    tie.close (tie.spec mul-last div-last add-result add-result-2 mul-result returns)
+work-needed-spec = tie.close (tie.spec last-column-requires add-result add-result-2 mul-result returns)

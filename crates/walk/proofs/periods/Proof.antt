@@ -11,7 +11,7 @@ use Rattle.walk.proofs.periods.Statement.{statement}
 use Rattle.walk.proofs.periods.Tie as tie
 use Rattle.walk.proofs.periods.Reads as reads
 use Rattle.walk.proofs.periods.Lts as lts
-use Rattle.taskset.proofs.period_of.Reads as period-of-reads
+use Rattle.checks.proofs.period_of.Reads as period-of-reads
 
 abbrev Inv-loop : tie.InvT-loop
 Inv-loop set m n p₀ t₀ p t = (t ≤ n) × Holds (period listHead listExtra set) t p

@@ -10,7 +10,7 @@ use Rattle.walk.proofs.times.Statement.{statement}
 use Rattle.walk.proofs.times.Tie as tie
 use Rattle.walk.proofs.times.Reads as reads
 use Rattle.walk.proofs.times.Lts as lts
-use Rattle.taskset.proofs.job_time.Reads as job-time-reads
+use Rattle.checks.proofs.job_time.Reads as job-time-reads
 
 abbrev Inv-loop : tie.InvT-loop
 Inv-loop set plan m n c₀ t₀ c t = (t ≤ n) × Holds (timeAt set plan) t c

@@ -11,7 +11,7 @@ use Rattle.walk.proofs.walk.Statement.{statement}
 use Rattle.walk.proofs.walk.Tie as tie
 use Rattle.walk.proofs.walk.Reads as reads
 use Rattle.walk.proofs.walk.Lts as lts
-use Rattle.taskset.proofs.check_set.Reads as check-set-reads
+use Rattle.checks.proofs.check_set.Reads as check-set-reads
 use Rattle.walk.proofs.check_plan.Reads as check-plan-reads
 use Rattle.walk.proofs.periods.Reads as periods-reads
 use Rattle.walk.proofs.run.Reads as run-reads

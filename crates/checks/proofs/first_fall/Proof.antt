@@ -1,0 +1,84 @@
+-- The first rate that is not above the one before it. The invariant: none before the place in hand.
+-- Assumes nothing.
+use Rattle.numbers.proofs.Searches.{found-here, found-end, none-more}
+use Prim.Native.Nat.{ℕ, _+_, _≤_, _<_, _-_}
+use native.Mathlib.Omega.{arith}
+use Rattle.checks.specs.Steps.{Falls}
+use borrow.Author.Needs.{needs}
+use Rattle.checks.proofs.first_fall.Statement.{statement}
+use Rattle.checks.proofs.first_fall.Tie as tie
+use Rattle.checks.proofs.first_fall.Reads as reads
+use Rattle.checks.proofs.first_fall.Lts as lts
+
+abbrev Inv-loop : tie.InvT-loop
+Inv-loop s head m end q₀ q = (head + 2 ≤ q) × (q ≤ end) × ((k : ℕ) → head + 2 ≤ k → k < q → Falls s k → ⊥)
+
+abbrev μ-loop : tie.MeasureT-loop
+μ-loop s head m end q₀ q = end - q
+
+add-end : tie.Need-add-end Inv-loop μ-loop
+add-end c = search needs
+
+add-end-2 : tie.Need-add-end-2 Inv-loop μ-loop
+add-end-2 c = search needs
+
+add-q : tie.Need-add-q Inv-loop μ-loop
+add-q c = search needs
+
+loop-holds : tie.Need-loop-holds Inv-loop μ-loop
+loop-holds c = (omega arith, omega arith, (λ k a b. absurd (omega arith)))
+
+mul-if1 : tie.Need-mul-if1 Inv-loop μ-loop
+mul-if1 c = search needs
+
+shared-slice-read-if1 : tie.Need-shared-slice-read-if1 Inv-loop μ-loop
+shared-slice-read-if1 c = search needs
+
+sub-if1 : tie.Need-sub-if1 Inv-loop μ-loop
+sub-if1 c = search needs
+
+mul-if1-2 : tie.Need-mul-if1-2 Inv-loop μ-loop
+mul-if1-2 c = search needs
+
+shared-slice-read-if1-2 : tie.Need-shared-slice-read-if1-2 Inv-loop μ-loop
+shared-slice-read-if1-2 c = search needs
+
+returns : tie.Need-returns Inv-loop μ-loop
+returns c =
+    let b = c .before .before .before .before in
+    found-here (omega arith) (b .loop .inv .2) (omega arith) (c .if1 .taken)
+
+add-q-2 : tie.Need-add-q-2 Inv-loop μ-loop
+add-q-2 c = search needs
+
+loop-less : tie.Need-loop-less Inv-loop μ-loop
+loop-less c = search needs
+
+loop-again : tie.Need-loop-again Inv-loop μ-loop
+loop-again c =
+    let b = c .before .before .before .before in
+    (omega arith, omega arith, none-more (omega arith) (b .loop .inv .2) (λ h. omega (arith, c .if1 .left)))
+
+returns-2 : tie.Need-returns-2 Inv-loop μ-loop
+returns-2 c = found-end (omega arith) (c .before .loop .inv .2) (omega arith)
+
+pub first-fall-spec : {M : Type 1} → statement M
+first-fall-spec =
+    tie.close
+    (tie.spec
+    Inv-loop
+    μ-loop
+    add-end
+    add-end-2
+    add-q
+    loop-holds
+    mul-if1
+    shared-slice-read-if1
+    sub-if1
+    mul-if1-2
+    shared-slice-read-if1-2
+    returns
+    add-q-2
+    loop-less
+    loop-again
+    returns-2)
