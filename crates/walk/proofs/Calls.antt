@@ -21,8 +21,8 @@ use Rattle.taskset.specs.declared.WalkAnswer.the-variants.{Kept, Missed, Refuse
 use Rattle.taskset.proofs.Checks.{refuses-front}
 use Rattle.taskset.proofs.Sets.{IsSet, set-of, job-time-positive}
 use Rattle.taskset.proofs.DemandThree.{plan-of, walk-owes}
-use Rattle.walk.specs.Arrays.{Given, taskAt}
-use Rattle.walk.specs.Answers.{Walked, Says, SetGiven, PlanGiven, Holds, timeAt}
+use Rattle.ticks.specs.Arrays.{Given, taskAt, Says}
+use Rattle.walk.specs.Answers.{Walked, SetGiven, PlanGiven, Holds, timeAt}
 
 abbrev lastCheck : List ℕ → List ℕ → ℕ → Type 0
 lastCheck s P = IsBadPlan (rateCount listHead s) (taskCount listHead s) P

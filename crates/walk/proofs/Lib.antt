@@ -1,8 +1,2 @@
-pub mod Scan
-pub mod Scanned
-pub mod Ticked
-pub mod Again
-pub mod Releases
-pub mod Ticks
 pub mod Plans
 pub mod Calls

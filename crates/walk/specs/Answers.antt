@@ -3,18 +3,14 @@ use Prim.Native.Nat.{ℕ, _≤_, _<_}
 use mathlib.Core.Path.{_≡_}
 use mathlib.Core.List.{List}
 use lib.ListN.{length, getD}
-use Rattle.schedule.specs.Walk.{tasksFrom}
-use Rattle.schedule.specs.Counted.{kept, missed, walk}
 use Rattle.taskset.specs.Words.{listHead, listExtra, rateCount, taskCount}
 use Rattle.taskset.specs.Quantities.{jobTime}
 use Rattle.taskset.specs.Refusals.{IsBadPlan, Accepts, setChecks}
 use Rattle.taskset.specs.Calls.{WalkAnswers}
 use Rattle.taskset.specs.DemandThree.{WalkOwes}
 use Rattle.taskset.specs.declared.WalkAnswer.{WalkAnswer}
-use Rattle.taskset.specs.declared.WalkAnswer.the-variants.{Kept, Missed, Refused}
 use Rattle.walk.specs.declared.PlanCheck.{PlanCheck}
 use Rattle.walk.specs.declared.PlanCheck.the-variants.{At, Sound}
-use Rattle.walk.specs.Arrays.{taskAt}
 
 -- THE CALL'S CONTRACT: the answer is document 01's, and it owes what demand 3's endless walk says of it.
 pub record Walked (s P : List ℕ) (a : WalkAnswer) : Type 0 where
@@ -22,12 +18,6 @@ pub record Walked (s P : List ℕ) (a : WalkAnswer) : Type 0 where
   pub owes : WalkOwes s P a
 
 -- BELOW THE CALL.
-
--- The answer is the definition's walk of n tasks with periods p and job times c, to the tick end.
-abbrev pub Says : List ℕ → List ℕ → ℕ → ℕ → WalkAnswer → Type 0
-Says p c n end (Kept busy idle preempted) = walk (tasksFrom (taskAt p c) 0 n) end ≡ kept busy idle preempted
-Says p c n end (Missed tick task) = walk (tasksFrom (taskAt p c) 0 n) end ≡ missed tick task
-Says p c n end (Refused r) = ⊥
 
 -- Check 8.
 abbrev pub PlanAnswers : ℕ → ℕ → List ℕ → PlanCheck → Type 0

@@ -14,7 +14,7 @@ use Rattle.walk.proofs.walk.Lts as lts
 use Rattle.checks.proofs.check_set.Reads as check-set-reads
 use Rattle.walk.proofs.check_plan.Reads as check-plan-reads
 use Rattle.walk.proofs.periods.Reads as periods-reads
-use Rattle.walk.proofs.run.Reads as run-reads
+use Rattle.ticks.proofs.run.Reads as run-reads
 use Rattle.walk.proofs.times.Reads as times-reads
 
 check-set-requires : tie.Need-check-set-requires

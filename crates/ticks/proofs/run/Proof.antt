@@ -11,17 +11,17 @@ use lib.ListN.{getD, getD-replicate}
 use lib.Seq.{getD-set-other}
 use Rattle.schedule.specs.Walk.{tasksFrom}
 use Rattle.schedule.specs.Counted.{walkFrom, missed}
-use Rattle.walk.specs.Arrays.{chosen, Early, taskAt}
-use Rattle.walk.proofs.Releases.{Held, Part, part-start, part-pass, part-take, part-skip, part-miss, part-end, held-start, held-next, walkFrom-miss, walkFrom-on, walkFrom-kept, periodic-start, periodic-steady, coming-first}
-use Rattle.walk.proofs.Ticks.{below, early-set, early-worked, Counted, counted}
+use Rattle.ticks.specs.Arrays.{chosen, Early, taskAt}
+use Rattle.ticks.proofs.Releases.{Held, Part, part-start, part-pass, part-take, part-skip, part-miss, part-end, held-start, held-next, walkFrom-miss, walkFrom-on, walkFrom-kept, periodic-start, periodic-steady, coming-first}
+use Rattle.ticks.proofs.Ticks.{below, early-set, early-worked, Counted, counted}
 use borrow.Author.Needs.{needs}
-use Rattle.walk.proofs.run.Statement.{statement}
-use Rattle.walk.proofs.run.Tie as tie
-use Rattle.walk.proofs.run.Reads as reads
-use Rattle.walk.proofs.run.Lts as lts
-use Rattle.walk.proofs.State.new.Reads as new-reads
-use Rattle.walk.proofs.State.tick.Reads as tick-reads
-use Rattle.walk.proofs.lesser.Reads as lesser-reads
+use Rattle.ticks.proofs.run.Statement.{statement}
+use Rattle.ticks.proofs.run.Tie as tie
+use Rattle.ticks.proofs.run.Reads as reads
+use Rattle.ticks.proofs.run.Lts as lts
+use Rattle.ticks.proofs.State.new.Reads as new-reads
+use Rattle.ticks.proofs.State.tick.Reads as tick-reads
+use Rattle.ticks.proofs.lesser.Reads as lesser-reads
 
 abbrev Inv-loop : tie.InvT-loop
 Inv-loop p c n end s₀ late₀ next₀ t i₀ s late next i =

@@ -12,8 +12,8 @@ use borrow.Author.Tests.{lt-ltb, le-ltb}
 use lib.ListN.{getD}
 use lib.Dec.{ltb}
 use Rattle.schedule.specs.Walk.{choice}
-use Rattle.walk.specs.Arrays.{jobsFrom, blank, chosen}
-use Rattle.walk.proofs.Scan.{scan, scan-choice}
+use Rattle.ticks.specs.Arrays.{jobsFrom, blank, chosen}
+use Rattle.ticks.proofs.Scan.{scan, scan-choice}
 
 unfoldable pub scanned : List ℕ → List ℕ → ℕ → Bool → ℕ → ℕ → ℕ → ℕ
 scanned left due n found b d i = scan found b d i (jobsFrom blank left due i (n - i))

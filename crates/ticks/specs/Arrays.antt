@@ -6,9 +6,11 @@ use mathlib.Core.Bool.{cond, not, _&&_}
 use mathlib.Core.List.{List, [], _∷_}
 use lib.Dec.{ltb, eqb}
 use lib.ListN.{length, getD, set, replicate}
-use Rattle.schedule.specs.Walk.{Task, Job, periodic, choice}
-use Rattle.schedule.specs.Counted.{count}
-use Rattle.walk.specs.declared.State.{State}
+use Rattle.schedule.specs.Walk.{Task, Job, periodic, choice, tasksFrom}
+use Rattle.schedule.specs.Counted.{count, kept, missed, walk}
+use Rattle.taskset.specs.declared.WalkAnswer.{WalkAnswer}
+use Rattle.taskset.specs.declared.WalkAnswer.the-variants.{Kept, Missed, Refused}
+use Rattle.ticks.specs.declared.State.{State}
 
 -- The jobs of the n tasks from place i on, where k gives each place's task, by ticks left and deadlines.
 abbrev pub jobsFrom : (ℕ → Task) → List ℕ → List ℕ → ℕ → ℕ → List Job
@@ -88,3 +90,9 @@ pub record Given (p c : List ℕ) (n end : ℕ) : Type 0 where
 -- The task at a place.
 abbrev pub taskAt : List ℕ → List ℕ → ℕ → Task
 taskAt p c i = periodic (getD p i 0) (getD c i 0)
+
+-- The answer is the definition's walk of n tasks with periods p and job times c, to the tick end.
+abbrev pub Says : List ℕ → List ℕ → ℕ → ℕ → WalkAnswer → Type 0
+Says p c n end (Kept busy idle preempted) = walk (tasksFrom (taskAt p c) 0 n) end ≡ kept busy idle preempted
+Says p c n end (Missed tick task) = walk (tasksFrom (taskAt p c) 0 n) end ≡ missed tick task
+Says p c n end (Refused r) = ⊥

@@ -7,16 +7,16 @@ use native.Mathlib.Omega.{arith}
 use native.Mathlib.Nat.{pos-of-ne-zero}
 use lib.ListN.{getD, set}
 use lib.Seq.{getD-set-same}
-use Rattle.walk.proofs.Again.{chosen-again, chosen-most, chosen-left}
-use Rattle.walk.proofs.Ticked.{stays-some, stays-none}
-use Rattle.walk.proofs.Ticks.{cuts-few, ticked-idle, ticked-busy}
+use Rattle.ticks.proofs.Again.{chosen-again, chosen-most, chosen-left}
+use Rattle.ticks.proofs.Ticked.{stays-some, stays-none}
+use Rattle.ticks.proofs.Ticks.{cuts-few, ticked-idle, ticked-busy}
 use borrow.Author.Needs.{needs}
-use Rattle.walk.proofs.State.tick.Statement.{statement}
-use Rattle.walk.proofs.State.tick.Tie as tie
-use Rattle.walk.proofs.State.tick.Reads as reads
-use Rattle.walk.proofs.State.tick.Lts as lts
-use Rattle.walk.proofs.place.Reads as place-reads
-use Rattle.walk.proofs.preempts.Reads as preempts-reads
+use Rattle.ticks.proofs.State.tick.Statement.{statement}
+use Rattle.ticks.proofs.State.tick.Tie as tie
+use Rattle.ticks.proofs.State.tick.Reads as reads
+use Rattle.ticks.proofs.State.tick.Lts as lts
+use Rattle.ticks.proofs.place.Reads as place-reads
+use Rattle.ticks.proofs.preempts.Reads as preempts-reads
 
 place-requires : tie.Need-place-requires
 place-requires c κs = search needs

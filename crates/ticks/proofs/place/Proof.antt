@@ -1,9 +1,9 @@
 use borrow.Author.Needs.{needs}
-use Rattle.walk.proofs.place.Statement.{statement}
-use Rattle.walk.proofs.place.Tie as tie
-use Rattle.walk.proofs.place.Reads as reads
-use Rattle.walk.proofs.place.Lts as lts
-use Rattle.walk.proofs.choose.Reads as choose-reads
+use Rattle.ticks.proofs.place.Statement.{statement}
+use Rattle.ticks.proofs.place.Tie as tie
+use Rattle.ticks.proofs.place.Reads as reads
+use Rattle.ticks.proofs.place.Lts as lts
+use Rattle.ticks.proofs.choose.Reads as choose-reads
 
 returns : tie.Need-returns
 returns c = c .before .pre .1 (c .if1 .taken)

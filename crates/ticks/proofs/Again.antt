@@ -13,7 +13,7 @@ use lib.Seq.{getD-set-same, getD-set-other}
 use borrow.Author.Tests.{ltb-true, lt-ltb, eqb-true, eqb-false}
 use Rattle.schedule.specs.Walk.{sooner, choice}
 use Rattle.numbers.proofs.Tests.{bool-cases, and-true}
-use Rattle.walk.specs.Arrays.{jobsFrom, blank, chosen}
+use Rattle.ticks.specs.Arrays.{jobsFrom, blank, chosen}
 
 -- which jobs are unfinished is all that the choice takes from the ticks left
 sooner-same : (l l′ d : List ℕ) (e i n : ℕ) → ((j : ℕ) → ltb 0 (getD l j 0) ≡ ltb 0 (getD l′ j 0)) → sooner e (jobsFrom blank l d i n) ≡ sooner e (jobsFrom blank l′ d i n)

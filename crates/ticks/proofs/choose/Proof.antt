@@ -6,14 +6,14 @@ use mathlib.Core.Bool.{true}
 use mathlib.Core.Logic.{inl, inr, ⊎-elim}
 use native.Mathlib.Omega.{arith}
 use borrow.Author.Needs.{needs}
-use Rattle.walk.specs.Arrays.{chosen}
-use Rattle.walk.proofs.Scanned.{scanned, scanned-take, scanned-pass}
-use Rattle.walk.proofs.Ticked.{scanned-first}
-use Rattle.walk.proofs.Ticks.{pick}
-use Rattle.walk.proofs.choose.Statement.{statement}
-use Rattle.walk.proofs.choose.Tie as tie
-use Rattle.walk.proofs.choose.Reads as reads
-use Rattle.walk.proofs.choose.Lts as lts
+use Rattle.ticks.specs.Arrays.{chosen}
+use Rattle.ticks.proofs.Scanned.{scanned, scanned-take, scanned-pass}
+use Rattle.ticks.proofs.Ticked.{scanned-first}
+use Rattle.ticks.proofs.Ticks.{pick}
+use Rattle.ticks.proofs.choose.Statement.{statement}
+use Rattle.ticks.proofs.choose.Tie as tie
+use Rattle.ticks.proofs.choose.Reads as reads
+use Rattle.ticks.proofs.choose.Lts as lts
 
 abbrev Inv-loop : tie.InvT-loop
 Inv-loop left due n best₀ when₀ i₀ best when i =

@@ -18,8 +18,8 @@ use Rattle.numbers.proofs.Sums.{over-end}
 use Rattle.schedule.specs.Walk.{Task, tasksFrom, Job, fresh, released, release, choice, run, before, late, misses, periodic}
 use Rattle.schedule.specs.Counted.{missed, kept, ran, count, busyAt, idleAt, leftAt, preemptedAt, lateTask, walkFrom}
 use Rattle.schedule.proofs.Periodic.{multiples-apart}
-use Rattle.walk.specs.Arrays.{jobsFrom, chosen, worked, stays, cuts}
-use Rattle.walk.proofs.Ticked.{chosen-is, worked-run, jobs-same, length-jobs, length-tasks, left-jobs, left-past}
+use Rattle.ticks.specs.Arrays.{jobsFrom, chosen, worked, stays, cuts}
+use Rattle.ticks.proofs.Ticked.{chosen-is, worked-run, jobs-same, length-jobs, length-tasks, left-jobs, left-past}
 
 -- ---- the next release
 -- d is the first tick from t on at which the task releases a job, a full one

@@ -15,11 +15,11 @@ use Rattle.numbers.specs.Numbers.{over}
 use Rattle.numbers.proofs.Tests.{bool-cases}
 use Rattle.schedule.specs.Walk.{Task, tasksFrom, before}
 use Rattle.schedule.specs.Counted.{count, busyAt, idleAt, preemptedAt}
-use Rattle.walk.specs.Arrays.{chosen, worked, stays, cuts, Early, Ticked}
-use Rattle.walk.specs.declared.State.{State}
-use Rattle.walk.proofs.Scanned.{scanned, scanned-end}
-use Rattle.walk.proofs.Ticked.{length-jobs, worked-some, worked-none, stays-none}
-use Rattle.walk.proofs.Releases.{Held, pending, busy-fits, idle-fits, preempted-fits}
+use Rattle.ticks.specs.Arrays.{chosen, worked, stays, cuts, Early, Ticked}
+use Rattle.ticks.specs.declared.State.{State}
+use Rattle.ticks.proofs.Scanned.{scanned, scanned-end}
+use Rattle.ticks.proofs.Ticked.{length-jobs, worked-some, worked-none, stays-none}
+use Rattle.ticks.proofs.Releases.{Held, pending, busy-fits, idle-fits, preempted-fits}
 
 pub below : {a b : ℕ} → a ≤ b → (a ≡ b → ⊥) → a < b
 below l ne = ⊎-elim (λ e. absurd (ne e)) (λ h. h) (eq-or-lt-of-le l)

@@ -14,9 +14,9 @@ use borrow.Author.Tests.{ltb-true, ltb-false, lt-ltb, le-ltb}
 use Rattle.numbers.proofs.Tests.{bool-cases, or-false, and-false}
 use Rattle.schedule.specs.Walk.{Task, tasksFrom, Job, sooner, choice, work, run}
 use Rattle.schedule.specs.Counted.{leftAt}
-use Rattle.walk.specs.Arrays.{jobsFrom, blank, chosen, worked, stays}
-use Rattle.walk.proofs.Scan.{scan-found}
-use Rattle.walk.proofs.Scanned.{scanned}
+use Rattle.ticks.specs.Arrays.{jobsFrom, blank, chosen, worked, stays}
+use Rattle.ticks.proofs.Scan.{scan-found}
+use Rattle.ticks.proofs.Scanned.{scanned}
 
 -- ---- the choice does not look at the tasks
 sooner-tasks : (k k′ : ℕ → Task) (l d : List ℕ) (e i n : ℕ) → sooner e (jobsFrom k l d i n) ≡ sooner e (jobsFrom k′ l d i n)

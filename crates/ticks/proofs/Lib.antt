@@ -1,0 +1,6 @@
+pub mod Scan
+pub mod Scanned
+pub mod Ticked
+pub mod Again
+pub mod Releases
+pub mod Ticks
