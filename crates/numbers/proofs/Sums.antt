@@ -6,7 +6,7 @@ use mathlib.Core.List.{List, [], _∷_, map}
 use native.Mathlib.Nat.{add-zero, zero-add, add-suc, suc-add}
 use native.Mathlib.Omega.{arith}
 use lib.ListN.{getD}
-use Rattle.numbers.specs.Numbers.{total, over}
+use Rattle.numbers.specs.Numbers.{All, total, over}
 use Rattle.numbers.proofs.Tests.{below-more}
 
 -- ---- over the tasks of a plan
@@ -71,14 +71,10 @@ total-over f (suc n) P =
     omega (arith, total-over f n P, over-end g 0 n, ap g (zero-add n))
 
 -- ---- over a list
--- The sum of f over a list, and what holds of each of its members.
+-- The sum of f over a list.
 abbrev pub sum : {A : Type 0} → (A → ℕ) → List A → ℕ
 sum f [] = 0
 sum f (x ∷ xs) = f x + sum f xs
-
-abbrev pub All : {A : Type 0} → (A → Type 0) → List A → Type 0
-All P [] = Unit {0}
-All P (x ∷ xs) = P x × All P xs
 
 module _ {A : Type 0} where
   pub sum-mono : (f g : A → ℕ) → ((x : A) → f x ≤ g x) → (xs : List A) → sum f xs ≤ sum g xs

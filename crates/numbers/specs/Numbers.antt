@@ -2,7 +2,7 @@
 -- the operation that its name says.
 use Prim.Native.Nat.{ℕ, zero, suc, _+_, _-_, _*_, _/_, _%_, _^_, _≤_, _<_}
 use mathlib.Core.Bool.{Bool, _&&_}
-use mathlib.Core.List.{List}
+use mathlib.Core.List.{List, [], _∷_}
 use lib.ListN.{getD}
 use lib.Dec.{leb}
 
@@ -60,3 +60,10 @@ pub record LeastPower (x e : ℕ) : Type 0 where
 pub record Lowest (P : ℕ → Type 0) (k : ℕ) : Type 0 where
   pub here : P k
   pub before : (j : ℕ) → j < k → P j → ⊥
+
+-- LISTS.
+
+-- P holds of each item of a list.
+abbrev pub All : {A : Type 0} → (A → Type 0) → List A → Type 0
+All P [] = Unit {0}
+All P (x ∷ xs) = P x × All P xs

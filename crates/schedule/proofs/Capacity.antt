@@ -11,7 +11,8 @@ use native.Mathlib.Omega.{arith}
 use native.Mathlib.Nat.{eq-zero-or-pos, add-zero}
 use lib.Dec.{ltb}
 use borrow.Author.Tests.{ltb-true}
-use Rattle.numbers.proofs.Sums.{sum, All}
+use Rattle.numbers.specs.Numbers.{All}
+use Rattle.numbers.proofs.Sums.{sum}
 use Rattle.numbers.proofs.Tests.{bool-cases, or-true, and-true, lt-or-le}
 use Rattle.schedule.specs.Walk.{Task, Job, fresh, released, release, work, choice, before, late, KeepsForEver}
 use Rattle.schedule.proofs.Choice.{held, held-cases, run-held, work-held}

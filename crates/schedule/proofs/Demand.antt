@@ -6,8 +6,8 @@ use mathlib.Core.List.{List, [], _∷_}
 use mathlib.Core.Logic.{⊎-elim}
 use native.Mathlib.Omega.{arith}
 use native.Mathlib.Nat.{mul-add, mul-zero, mul-suc, mul-comm, mul-assoc, add-mul, le-trans, mul-le-mul-left, mul-le-mul-right, le-of-mul-le-mul-left, eq-zero-or-pos, div-mul-cancel, sub-add-cancel, suc-pred-eq-of-pos, dvd-of-mod-eq-zero}
-use Rattle.numbers.proofs.Sums.{sum, All}
-use Rattle.numbers.specs.Numbers.{over}
+use Rattle.numbers.proofs.Sums.{sum}
+use Rattle.numbers.specs.Numbers.{All, over}
 use Rattle.numbers.proofs.Tests.{lt-or-le}
 use Rattle.schedule.specs.Walk.{Task}
 

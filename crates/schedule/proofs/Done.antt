@@ -10,9 +10,9 @@ use native.Mathlib.Nat.{zero-add}
 use lib.Dec.{ltb}
 use lib.ListN.{length}
 use borrow.Author.Tests.{ltb-false}
-use Rattle.numbers.specs.Numbers.{over}
+use Rattle.numbers.specs.Numbers.{All, over}
 use Rattle.numbers.proofs.Tests.{and-false, or-false}
-use Rattle.numbers.proofs.Sums.{sum, All, over-end}
+use Rattle.numbers.proofs.Sums.{sum, over-end}
 use Rattle.schedule.specs.Walk.{Task, Job, fresh, released, release, work, choice, before, late, misses}
 use Rattle.schedule.specs.Counted.{count, ran, busyAt, idleAt}
 use Rattle.schedule.proofs.Choice.{leftOf, run-left}

@@ -8,8 +8,8 @@ use mathlib.Core.List.{List}
 use mathlib.Core.Logic.{⊎-elim, _↔_}
 use native.Mathlib.Omega.{arith}
 use native.Mathlib.Nat.{eq-or-lt-of-le, zero-add, add-zero, suc-add, add-suc}
-use Rattle.numbers.proofs.Sums.{sum, All}
-use Rattle.numbers.specs.Numbers.{over}
+use Rattle.numbers.proofs.Sums.{sum}
+use Rattle.numbers.specs.Numbers.{All, over}
 use Rattle.numbers.proofs.Tests.{bool-cases}
 use Rattle.schedule.specs.Walk.{Task, misses, KeepsForEver}
 use Rattle.schedule.specs.Counted.{kept, busyAt, idleAt, missedAt, keptTo, walkFrom, walk, IsKept}

@@ -9,9 +9,9 @@ use native.Mathlib.Omega.{arith}
 use native.Mathlib.Nat.{suc-mul, mul-le-mul-right, lt-of-mul-lt-mul-right, div-mul-cancel, dvd-of-mod-eq-zero, suc-pred-eq-of-pos, add-mod-right, add-comm, zero-mod, zero-mul, eq-zero-or-pos}
 use lib.Dec.{eqb}
 use borrow.Author.Tests.{eqb-true, eq-eqb}
-use Rattle.numbers.specs.Numbers.{over}
+use Rattle.numbers.specs.Numbers.{All, over}
 use Rattle.numbers.proofs.Tests.{bool-cases}
-use Rattle.numbers.proofs.Sums.{sum, All, over-join, over-none}
+use Rattle.numbers.proofs.Sums.{sum, over-join, over-none}
 use Rattle.schedule.specs.Walk.{Task, misses, KeepsForEver, periodic, tasksFrom}
 use Rattle.schedule.specs.Counted.{busyAt}
 use Rattle.schedule.proofs.Demand.{Shares, load, all-sporadic}

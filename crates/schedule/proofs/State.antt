@@ -6,7 +6,8 @@ use mathlib.Core.Bool.{Bool, true, false, _&&_, _||_}
 use mathlib.Core.List.{List, [], _∷_, map}
 use lib.Dec.{ltb}
 use lib.ListN.{length}
-use Rattle.numbers.proofs.Sums.{sum, All, sum-map}
+use Rattle.numbers.specs.Numbers.{All}
+use Rattle.numbers.proofs.Sums.{sum, sum-map}
 use Rattle.schedule.specs.Walk.{Task, Job, fresh, released, release, choice, before, late, misses}
 use Rattle.schedule.proofs.Choice.{work-task}
 

@@ -8,9 +8,10 @@ use mathlib.Core.Logic.{_↔_, ⊎-elim}
 use native.Mathlib.Nat.{mul-le-mul, mul-le-mul-left, div-le-self, mod-eq-zero-of-dvd}
 use native.Mathlib.Omega.{arith}
 use lib.ListN.{getD}
+use Rattle.numbers.specs.Numbers.{All}
 use Rattle.numbers.proofs.Tests.{lt-or-le}
 use Rattle.numbers.proofs.Rounding.{ceil-falls, ceil-positive}
-use Rattle.numbers.proofs.Sums.{sum, All, total-bound, total-over}
+use Rattle.numbers.proofs.Sums.{sum, total-bound, total-over}
 use Rattle.numbers.proofs.Multiples.{running-positive, running-divides, running-least}
 use Rattle.schedule.specs.Walk.{KeepsForEver}
 use Rattle.schedule.proofs.Demand.{load}

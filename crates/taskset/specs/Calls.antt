@@ -7,7 +7,7 @@ use Rattle.schedule.specs.Counted.{Outcome, missed, kept, walk}
 use Rattle.selection.specs.Plan.{planLoad, IsPlanned}
 use Rattle.taskset.specs.Words.{listHead, listExtra, slack, rateCount, taskCount}
 use Rattle.taskset.specs.Quantities.{hyperPeriod, problem, tasks, reportedEnergy, workNeeded}
-use Rattle.taskset.specs.Refusals.{number, second, Check, Accepts, Refuses, wordChecks, setChecks, plannerChecks, walkChecks, readerChecks, writerChecks}
+use Rattle.taskset.specs.Refusals.{number, second, Accepts, Refuses, wordChecks, setChecks, plannerChecks, walkChecks}
 use Rattle.taskset.specs.declared.Refusal.{Refusal}
 use Rattle.taskset.specs.declared.Shape.{Shape}
 use Rattle.taskset.specs.declared.Shape.the-variants.{Whole, Refused as NotWhole}
@@ -17,8 +17,6 @@ use Rattle.taskset.specs.declared.PlannerAnswer.{PlannerAnswer}
 use Rattle.taskset.specs.declared.PlannerAnswer.the-variants.{Planned, Refused as NotPlanned}
 use Rattle.taskset.specs.declared.WalkAnswer.{WalkAnswer}
 use Rattle.taskset.specs.declared.WalkAnswer.the-variants.{Kept, Missed, Refused as NotWalked}
-use Rattle.taskset.specs.declared.CopyAnswer.{CopyAnswer}
-use Rattle.taskset.specs.declared.CopyAnswer.the-variants.{Wrote, Refused as NotCopied}
 
 -- NUMBERS AND VALUES. "A C call returns 0, or refusal number × 2^32 + the second number."
 abbrev pub code : Refusal → ℕ
@@ -78,14 +76,3 @@ abbrev pub WalkAnswers : List ℕ → List ℕ → WalkAnswer → Type 0
 WalkAnswers s P (Kept busy idle preempted) = Walks s P (Kept busy idle preempted)
 WalkAnswers s P (Missed tick task) = Walks s P (Missed tick task)
 WalkAnswers s P (NotWalked r) = Refuses (walkChecks s P) (number r) (second r)
-
--- READER AND WRITER. "both return how many words or bytes they wrote". What they write is for the text's own definitions.
-abbrev pub CopyAnswers : List Check → ℕ → CopyAnswer → Type 0
-CopyAnswers checks needed (Wrote n) = Accepts checks × (n ≡ needed)
-CopyAnswers checks needed (NotCopied r) = Refuses checks (number r) (second r)
-
-abbrev pub ReaderAnswers : (ℕ → Type 0) → ℕ → ℕ → CopyAnswer → Type 0
-ReaderAnswers departs needed lent = CopyAnswers (readerChecks departs needed lent) needed
-
-abbrev pub WriterAnswers : List ℕ → ℕ → ℕ → CopyAnswer → Type 0
-WriterAnswers s needed lent = CopyAnswers (writerChecks s needed lent) needed

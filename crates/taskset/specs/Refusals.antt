@@ -121,11 +121,3 @@ plannerChecks s planLength workLength = readyChecks s planLength workLength ++ (
 -- "Walk: 2, 3, 4, 8."
 abbrev pub walkChecks : List ℕ → List ℕ → List Check
 walkChecks s P = setChecks listHead listExtra s ++ (check 8 (IsBadPlan (rateCount listHead s) (taskCount listHead s) P) ∷ [])
-
--- "Reader: 1, 6." Where the text departs, and how many words it says, is for the text's own definitions.
-abbrev pub readerChecks : (ℕ → Type 0) → ℕ → ℕ → List Check
-readerChecks departs needed lent = check 1 departs ∷ check 6 (IsShort needed lent) ∷ []
-
--- "Writer: 2, 3, 6."
-abbrev pub writerChecks : List ℕ → ℕ → ℕ → List Check
-writerChecks s needed lent = wordChecks listHead listExtra s ++ (check 6 (IsShort needed lent) ∷ [])

@@ -1,0 +1,118 @@
+-- The answers of the reader and the writer: each is one, and what the writer wrote the reader reads back.
+-- Assumes nothing.
+use Prim.Native.Nat.{ℕ, _≤_}
+use mathlib.Core.Path.{_≡_, refl, sym, ap, _∙_, subst}
+use mathlib.Core.List.{List, _++_}
+use native.Mathlib.Omega.{arith}
+use lib.ListN.{length, take, drop}
+use lib.Seq.{take-at}
+use Rattle.taskset.specs.Words.{listHead, listExtra}
+use Rattle.taskset.specs.Refusals.{number, second, IsBadWord, IsShort}
+use Rattle.taskset.specs.declared.CopyAnswer.{CopyAnswer}
+use Rattle.taskset.specs.declared.CopyAnswer.the-variants.{Wrote, Refused as NotCopied}
+use Rattle.taskset.proofs.Checks.{AllSingle, lowest-single, not-both, no-word-fault}
+use Rattle.taskset.proofs.Whole.{IsWhole, whole-of}
+use Rattle.taskset.proofs.Unique.{refusal-unique, short-single}
+use Rattle.text.specs.Text.{Script, scriptText, IsTextOf, WellFormed, FirstBad, words, scriptOf}
+use Rattle.text.specs.Calls.{readerChecks, ReaderGives, writerChecks, WriterGives}
+use Rattle.text.proofs.Reading.{Res, got, bad, readText}
+use Rattle.text.proofs.Pieces.{first-bad-one, no-first-bad}
+use Rattle.text.proofs.Grammar.{Answer, read-render, read-right}
+use Rattle.text.proofs.RoundTrip.{words-of-list, script-of-list}
+
+-- ---- texts and scripts
+pub reads : (s : Script) (t : List ℕ) → IsTextOf s t → readText t ≡ got s (length t)
+reads s t h = subst (λ (u : List ℕ). readText u ≡ got s (length u)) (h .text) (read-render s (h .script))
+
+pub is-read : (s : Script) (t : List ℕ) (n : ℕ) → readText t ≡ got s n → IsTextOf s t × (n ≡ length t)
+is-read s t n e = subst (Answer t) e (read-right t)
+
+pub is-refused : (t : List ℕ) (o : ℕ) → readText t ≡ bad o → FirstBad WellFormed t o
+is-refused t o e = subst (Answer t) e (read-right t)
+
+pub refuses : (t : List ℕ) (o : ℕ) → FirstBad WellFormed t o → readText t ≡ bad o
+refuses t o h = go (readText t) (read-right t)
+  where
+    go : (x : Res Script) → Answer t x → x ≡ bad o
+    go (got s n) a = absurd (no-first-bad WellFormed t o (s, a .0) h)
+    go (bad p) a = ap (λ (k : ℕ). bad k) (first-bad-one WellFormed t p o a h)
+
+-- One text says one script.
+pub one-script : (s r : Script) (t : List ℕ) → IsTextOf s t → IsTextOf r t → s ≡ r
+one-script s r t h k = let e : got s (length t) ≡ got r (length t) = sym (reads s t h) ∙ reads r t k in cc
+
+-- A list that passes check 2 has a text, which says its words.
+module _ (s : List ℕ) (pass : (q : ℕ) → IsBadWord listHead listExtra s q → ⊥) where
+  whole : IsWhole listHead listExtra s
+  whole = whole-of listHead listExtra s (no-word-fault listHead listExtra s pass)
+
+  pub list-text : IsTextOf (scriptOf s) (scriptText (scriptOf s))
+  list-text = record { script = script-of-list s whole; text = refl }
+
+  pub list-words : words (scriptOf s) ≡ s
+  list-words = words-of-list s whole
+
+-- ---- each answer is one
+pub record SameCopied (a b : CopyAnswer) (d₁ d₂ : List ℕ) : Type 0 where
+  pub answer : a ≡ b
+  pub list : d₁ ≡ d₂
+
+reader-single : (t : List ℕ) (lent : ℕ) → AllSingle (readerChecks t lent)
+reader-single t lent = (first-bad-one WellFormed t, (short, tt))
+  where
+    short : (j k : ℕ) → (s : Script) × IsTextOf s t × IsShort (length (words s)) lent j
+        → (s : Script) × IsTextOf s t × IsShort (length (words s)) lent k → j ≡ k
+    short j k x y = x .2 .1 ∙ ap (λ (s : Script). length (words s)) (one-script (x .0) (y .0) t (x .1) (y .1)) ∙ sym (y .2 .1)
+
+writer-single : (s : List ℕ) (lent : ℕ) → AllSingle (writerChecks s lent)
+writer-single s lent = (lowest-single, (lowest-single, (short-single (length (scriptText (scriptOf s))) lent, tt)))
+
+pub reader-unique : (t d d₁ d₂ : List ℕ) (a b : CopyAnswer) → ReaderGives t d d₁ a → ReaderGives t d d₂ b → SameCopied a b d₁ d₂
+reader-unique t d d₁ d₂ (Wrote n) (Wrote k) x y =
+    let same : x .1 .0 ≡ y .1 .0 = one-script (x .1 .0) (y .1 .0) t (x .1 .1) (y .1 .1) in
+    let count : n ≡ k = x .1 .2 ∙ ap (λ (s : Script). length (words s)) same ∙ sym (y .1 .2) in
+    record { answer = ap Wrote count; list = x .1 .3 ∙ (cc) ∙ sym (y .1 .3) }
+reader-unique t d d₁ d₂ (Wrote n) (NotCopied r) x y = absurd (not-both (readerChecks t (length d)) (number r) (second r) (x .0) (y .0))
+reader-unique t d d₁ d₂ (NotCopied r) (Wrote n) x y = absurd (not-both (readerChecks t (length d)) (number r) (second r) (y .0) (x .0))
+reader-unique t d d₁ d₂ (NotCopied q) (NotCopied r) x y = record {
+  answer = ap NotCopied (refusal-unique (readerChecks t (length d)) (reader-single t (length d)) q r (x .0) (y .0));
+  list = x .1 ∙ sym (y .1);
+}
+
+pub writer-unique : (s d d₁ d₂ : List ℕ) (a b : CopyAnswer) → WriterGives s d d₁ a → WriterGives s d d₂ b → SameCopied a b d₁ d₂
+writer-unique s d d₁ d₂ (Wrote n) (Wrote k) x y =
+    let count : n ≡ k = x .1 ∙ sym (y .1) in
+    record { answer = ap Wrote count; list = x .2 ∙ (cc) ∙ sym (y .2) }
+writer-unique s d d₁ d₂ (Wrote n) (NotCopied r) x y = absurd (not-both (writerChecks s (length d)) (number r) (second r) (x .0) (y .0))
+writer-unique s d d₁ d₂ (NotCopied r) (Wrote n) x y = absurd (not-both (writerChecks s (length d)) (number r) (second r) (y .0) (x .0))
+writer-unique s d d₁ d₂ (NotCopied q) (NotCopied r) x y = record {
+  answer = ap NotCopied (refusal-unique (writerChecks s (length d)) (writer-single s (length d)) q r (x .0) (y .0));
+  list = x .1 ∙ sym (y .1);
+}
+
+-- ---- written and read back
+module _ (s d d′ e : List ℕ) (n : ℕ) (wrote : WriterGives s d d′ (Wrote n)) (room : length s ≤ length e) where
+  written : take n d′ ≡ scriptText (scriptOf s)
+  written = rw (wrote .2) (take-at (scriptText (scriptOf s)) (drop n d) n (sym (wrote .1)))
+
+  -- The list that was written, all of it, is what the reader may answer.
+  back : ReaderGives (take n d′) e (s ++ drop (length s) e) (Wrote (length s))
+  back =
+      let is : IsTextOf (scriptOf s) (take n d′) = rw written (list-text s (wrote .0 .0)) in
+      let same : words (scriptOf s) ≡ s = list-words s (wrote .0 .0) in (
+        (
+          (λ o h. no-first-bad WellFormed (take n d′) o (scriptOf s, is) h),
+          (
+            (λ k h.
+                let one : h .0 ≡ scriptOf s = one-script (h .0) (scriptOf s) (take n d′) (h .1) is in
+                let size : length (words (h .0)) ≡ length s = ap (λ (r : Script). length (words r)) one ∙ ap length same in
+                omega (arith, h .2 .0)),
+            tt,
+          ),
+        ),
+        (scriptOf s, is, rw same, rw same),
+      )
+
+  -- And the only thing.
+  pub read-back : (e′ : List ℕ) (a : CopyAnswer) → ReaderGives (take n d′) e e′ a → SameCopied a (Wrote (length s)) e′ (s ++ drop (length s) e)
+  read-back e′ a h = reader-unique (take n d′) e e′ (s ++ drop (length s) e) a (Wrote (length s)) h back

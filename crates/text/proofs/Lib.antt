@@ -1,0 +1,11 @@
+pub mod Reading
+pub mod Pieces
+pub mod Literals
+pub mod Digits
+pub mod Numerals
+pub mod Repeats
+pub mod Grammar
+pub mod Sizes
+pub mod RoundTrip
+pub mod Copies
+pub mod Theorems

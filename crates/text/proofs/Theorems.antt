@@ -1,0 +1,119 @@
+-- The theorems on the bracketed text, each in one statement, for a reader of the proofs.
+-- Assumes nothing.
+use Prim.Native.Nat.{ℕ, _≤_, _<_}
+use mathlib.Core.Path.{_≡_, refl, sym, _∙_}
+use mathlib.Core.List.{List, [], _∷_, _++_}
+use mathlib.Core.Logic.{_↔_, _⊎_, inl, inr}
+use lib.ListN.{length, take, drop, replicate}
+use Rattle.taskset.specs.Words.{listHead, listExtra}
+use Rattle.taskset.specs.Refusals.{Accepts, wordChecks}
+use Rattle.taskset.specs.declared.CopyAnswer.{CopyAnswer}
+use Rattle.taskset.specs.declared.CopyAnswer.the-variants.{Wrote}
+use Rattle.text.specs.Text.{Script, bytes, joined, scriptText, IsTextOf, WellFormed, FirstBad, words, scriptOf}
+use Rattle.text.specs.Calls.{ReaderGives, WriterGives}
+use Rattle.text.proofs.Reading.{Res, got, bad, literal, more, number, many, readText}
+use Rattle.text.proofs.Pieces.{first-bad-one, no-first-bad}
+use Rattle.text.proofs.Grammar.{Answer, read-render, read-right}
+use Rattle.text.proofs.Sizes.{text-length}
+use Rattle.text.proofs.Copies.{SameCopied, reads, is-read, is-refused, refuses, one-script, list-text, list-words, reader-unique, writer-unique, read-back}
+
+-- ---- texts
+-- Reading gives a script, and all of the text's bytes, just where the text is the text of that script.
+pub accepts-well-formed : (s : Script) (t : List ℕ) → (readText t ≡ got s (length t)) ↔ IsTextOf s t
+accepts-well-formed s t = ((λ e. is-read s t (length t) e .0), reads s t)
+
+-- Reading refuses at an offset just where that is the first bad one.
+pub refuses-first-bad : (t : List ℕ) (o : ℕ) → (readText t ≡ bad o) ↔ FirstBad WellFormed t o
+refuses-first-bad t o = (is-refused t o, refuses t o)
+
+-- Every text is well formed or has a first bad offset.
+pub well-formed-or-bad : (t : List ℕ) → WellFormed t ⊎ ((o : ℕ) × FirstBad WellFormed t o)
+well-formed-or-bad t = go (readText t) (read-right t)
+  where
+    go : (x : Res Script) → Answer t x → WellFormed t ⊎ ((o : ℕ) × FirstBad WellFormed t o)
+    go (got s n) a = inl (s, a .0)
+    go (bad o) a = inr (o, a)
+
+-- Whatever the form, a text has at most one first bad offset, and a text of the form has none.
+pub one-first-bad : (Form : List ℕ → Type 0) (t : List ℕ) (o p : ℕ) → FirstBad Form t o → FirstBad Form t p → o ≡ p
+one-first-bad = first-bad-one
+
+pub none-in-form : (Form : List ℕ → Type 0) (t : List ℕ) (o : ℕ) → Form t → FirstBad Form t o → ⊥
+none-in-form = no-first-bad
+
+-- A script has one text, and a text one script.
+pub script-has-one-text : (s : Script) (t u : List ℕ) → IsTextOf s t → IsTextOf s u → t ≡ u
+script-has-one-text s t u h k = sym (h .text) ∙ k .text
+
+pub text-has-one-script : (s r : Script) (t : List ℕ) → IsTextOf s t → IsTextOf r t → s ≡ r
+text-has-one-script = one-script
+
+-- "every well-formed text is under 5,000"
+pub under-5000 : (t : List ℕ) → WellFormed t → length t < 5000
+under-5000 t h = text-length (h .0) t (h .1)
+
+-- ---- lists
+-- A list that passes check 2 has a text; reading that text gives its script back, whose words are the list.
+pub record ReadsBack (s : List ℕ) : Type 0 where
+  pub text : IsTextOf (scriptOf s) (scriptText (scriptOf s))
+  pub script : readText (scriptText (scriptOf s)) ≡ got (scriptOf s) (length (scriptText (scriptOf s)))
+  pub list : words (scriptOf s) ≡ s
+
+pub round-trip : (s : List ℕ) → Accepts (wordChecks listHead listExtra s) → ReadsBack s
+round-trip s a = record { text = list-text s (a .0); script = read-render (scriptOf s) (list-text s (a .0) .script); list = list-words s (a .0) }
+
+-- ---- calls
+-- Of one text and lent list the reader has one answer, and of one set and lent buffer the writer.
+pub one-reading : (t d d₁ d₂ : List ℕ) (a b : CopyAnswer) → ReaderGives t d d₁ a → ReaderGives t d d₂ b → SameCopied a b d₁ d₂
+one-reading = reader-unique
+
+pub one-writing : (s d d₁ d₂ : List ℕ) (a b : CopyAnswer) → WriterGives s d d₁ a → WriterGives s d d₂ b → SameCopied a b d₁ d₂
+one-writing = writer-unique
+
+-- What the writer wrote of a list, the reader turns back into it, in any list e that has room.
+pub written-then-read : (s d d′ e : List ℕ) (n : ℕ) → WriterGives s d d′ (Wrote n) → length s ≤ length e
+    → (e′ : List ℕ) (a : CopyAnswer) → ReaderGives (take n d′) e e′ a → SameCopied a (Wrote (length s)) e′ (s ++ drop (length s) e)
+written-then-read = read-back
+
+-- ---- examples
+-- Document 01's input of the program is the text of "the set list S", and says the words of S.
+abbrev S : List ℕ
+S = 100 ∷ 3 ∷ 2 ∷ 4 ∷ 8 ∷ 2 ∷ 10 ∷ 12 ∷ 4 ∷ 9 ∷ 20 ∷ 15 ∷ 20 ∷ 7 ∷ 15 ∷ 30 ∷ []
+
+unfoldable pub example : List ℕ
+example = bytes "(slack 100)\n(rates 2 4 8)\n(task (period 10) (cycles 12) (energy 4 9 20))\n(task (period 15) (cycles 20) (energy 7 15 30))\n"
+
+pub example-text : IsTextOf (scriptOf S) example
+unfolding example readText number more literal many scriptOf
+example-text = accepts-well-formed (scriptOf S) example .0 refl
+
+pub example-words : words (scriptOf S) ≡ S
+unfolding words scriptOf
+example-words = refl
+
+-- Two rates, and n tasks all alike.
+unfoldable pub alike : ℕ → List ℕ
+alike n = bytes "(slack 1)\n(rates 1 2)\n" ++ joined (λ (k : ℕ). bytes "(task (period 1) (cycles 1) (energy 1 1))\n") (replicate n 0)
+
+-- "A ninth rate, a 33rd task or a digit that passes the largest number is refusal 1 at that byte." "Empty text: refusal 1, offset 0." After the
+-- largest number only a bracket may follow, after a first digit 0 no other, and a text that ends before its first task ends early.
+pub record Departures : Type 0 where
+  ninth-rate : FirstBad WellFormed (bytes "(slack 1)\n(rates 1 2 3 4 5 6 7 8 9)\n") 32
+  task-33 : FirstBad WellFormed (alike 33) 1366
+  largest-passed : FirstBad WellFormed (bytes "(slack 4294967296)\n") 16
+  empty : FirstBad WellFormed [] 0
+  leading-zero : FirstBad WellFormed (bytes "(slack 01)\n") 8
+  after-largest : FirstBad WellFormed (bytes "(slack 4294967295 ") 17
+  no-task : FirstBad WellFormed (bytes "(slack 1)\n(rates 1 2)\n") 22
+
+pub departures : Departures
+unfolding alike readText number more literal many
+departures = record {
+  ninth-rate = refuses-first-bad _ 32 .0 refl;
+  task-33 = refuses-first-bad _ 1366 .0 refl;
+  largest-passed = refuses-first-bad _ 16 .0 refl;
+  empty = refuses-first-bad [] 0 .0 refl;
+  leading-zero = refuses-first-bad _ 8 .0 refl;
+  after-largest = refuses-first-bad _ 17 .0 refl;
+  no-task = refuses-first-bad _ 22 .0 refl;
+}

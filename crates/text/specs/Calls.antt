@@ -1,0 +1,29 @@
+-- What the reader and the writer answer, and what they leave in the list lent to them.
+use Prim.Native.Nat.{ℕ}
+use mathlib.Core.Path.{_≡_}
+use mathlib.Core.List.{List, [], _∷_, _++_}
+use lib.ListN.{length, drop}
+use Rattle.taskset.specs.Words.{listHead, listExtra}
+use Rattle.taskset.specs.Refusals.{number, second, IsShort, Check, check, Accepts, Refuses, wordChecks}
+use Rattle.taskset.specs.declared.CopyAnswer.{CopyAnswer}
+use Rattle.taskset.specs.declared.CopyAnswer.the-variants.{Wrote, Refused as NotCopied}
+use Rattle.text.specs.Text.{Script, scriptText, IsTextOf, WellFormed, FirstBad, words, scriptOf}
+
+-- "Reader: 1, 6." lent is the length of the word list.
+abbrev pub readerChecks : List ℕ → ℕ → List Check
+readerChecks t lent = check 1 (FirstBad WellFormed t) ∷ check 6 (λ k. (s : Script) × IsTextOf s t × IsShort (length (words s)) lent k) ∷ []
+
+-- "both return how many words or bytes they wrote, and what lies after stays": t is the text, d the list as lent, d′ as given back.
+abbrev pub ReaderGives : (t d d′ : List ℕ) → CopyAnswer → Type 0
+ReaderGives t d d′ (Wrote n) =
+    Accepts (readerChecks t (length d)) × ((s : Script) × IsTextOf s t × (n ≡ length (words s)) × (d′ ≡ words s ++ drop n d))
+ReaderGives t d d′ (NotCopied r) = Refuses (readerChecks t (length d)) (number r) (second r) × (d′ ≡ d)
+
+-- "Writer: 2, 3, 6." lent is the length of the buffer. "The writer takes a set that passes checks 2 and 3".
+abbrev pub writerChecks : List ℕ → ℕ → List Check
+writerChecks s lent = wordChecks listHead listExtra s ++ (check 6 (IsShort (length (scriptText (scriptOf s))) lent) ∷ [])
+
+abbrev pub WriterGives : (s d d′ : List ℕ) → CopyAnswer → Type 0
+WriterGives s d d′ (Wrote n) =
+    Accepts (writerChecks s (length d)) × (n ≡ length (scriptText (scriptOf s))) × (d′ ≡ scriptText (scriptOf s) ++ drop n d)
+WriterGives s d d′ (NotCopied r) = Refuses (writerChecks s (length d)) (number r) (second r) × (d′ ≡ d)

@@ -1,0 +1,120 @@
+-- The bracketed text (document 01, 'The bracketed text'): the one text of a script, which texts are well formed, where another departs, and
+-- the words that a script says. A script is what stands in a text, form by form; it is not yet a task set: "Ranges are not judged by the
+-- reader."
+use Prim.Native.Nat.{ℕ, zero, suc, _+_, _/_, _%_, _^_, _≤_, _<_}
+use Prim.Native.Char.{code}
+use Prim.Native.String as Str
+use Prim.Native.String.{String}
+use mathlib.Core.Path.{_≡_}
+use mathlib.Core.List.{List, [], _∷_, _++_}
+use mathlib.Core.Bool.{cond}
+use lib.ListN.{length, take}
+use lib.Dec.{ltb}
+use Rattle.numbers.specs.Numbers.{All}
+use Rattle.taskset.specs.Words.{listHead, listExtra, slack, rateCount, taskCount, rate, period, cycles, energy}
+
+-- A task's line, and a whole text: "The order is slack, rates, then 1 to 32 tasks."
+pub record TaskLine : Type 0 where
+  pub period : ℕ
+  pub cycles : ℕ
+  pub energies : List ℕ
+
+pub record Script : Type 0 where
+  pub slack : ℕ
+  pub rates : List ℕ
+  pub tasks : List TaskLine
+
+-- THE TEXT OF A SCRIPT. "Forms stand one a line, each line ended by byte 10, one space between items, exactly as in the first example."
+
+-- The bytes of a string of ASCII characters.
+abbrev pub bytes : String → List ℕ
+bytes Str.[] = []
+bytes (Str._∷_ c s) = code c ∷ bytes s
+
+-- "A number is 0 or starts with 1 to 9": the decimal digits of n, highest first, at most k of them; ten are enough for a number of 32 bits.
+unfoldable pub digits : ℕ → ℕ → List ℕ
+digits zero n = []
+digits (suc k) n = cond (ltb n 10) ((48 + n) ∷ []) (digits k (n / 10) ++ ((48 + n % 10) ∷ []))
+
+unfoldable pub decimal : ℕ → List ℕ
+decimal n = digits 10 n
+
+-- What each item of a list gives, one after the other.
+abbrev pub joined : {A : Type 0} → (A → List ℕ) → List A → List ℕ
+joined f [] = []
+joined f (x ∷ xs) = f x ++ joined f xs
+
+-- A space and a number.
+abbrev pub spaced : ℕ → List ℕ
+spaced v = bytes " " ++ decimal v
+
+abbrev pub taskText : TaskLine → List ℕ
+taskText t =
+    bytes "(task (period " ++ (decimal (t .period) ++ (bytes ") (cycles " ++ (decimal (t .cycles) ++
+    (bytes ") (energy" ++ (joined spaced (t .energies) ++ bytes "))\n")))))
+
+abbrev pub scriptText : Script → List ℕ
+scriptText s =
+    bytes "(slack " ++ (decimal (s .slack) ++ (bytes ")\n(rates" ++ (joined spaced (s .rates) ++ (bytes ")\n" ++ joined taskText (s .tasks)))))
+
+-- WELL-FORMED TEXTS.
+
+-- "and is at most 4,294,967,295"
+abbrev pub Word : ℕ → Type 0
+Word v = v < 2 ^ 32
+
+-- A list of low to high items, each with P.
+pub record Between {A : Type 0} (P : A → Type 0) (low high : ℕ) (xs : List A) : Type 0 where
+  pub least : low ≤ length xs
+  pub most : length xs ≤ high
+  pub each : All P xs
+
+-- "Rates number 2 to 8, and each task has as many energies as there are rates."
+pub record TaskLineOk (m : ℕ) (t : TaskLine) : Type 0 where
+  pub period : Word (t .period)
+  pub cycles : Word (t .cycles)
+  pub energies : Between Word m m (t .energies)
+
+pub record ScriptOk (s : Script) : Type 0 where
+  pub slack : Word (s .slack)
+  pub rates : Between Word 2 8 (s .rates)
+  pub tasks : Between (TaskLineOk (length (s .rates))) 1 32 (s .tasks)
+
+-- t is the text of the script s.
+pub record IsTextOf (s : Script) (t : List ℕ) : Type 0 where
+  pub script : ScriptOk s
+  pub text : scriptText s ≡ t
+
+abbrev pub WellFormed : List ℕ → Type 0
+WellFormed t = (s : Script) × IsTextOf s t
+
+-- 1: "offset of the first byte such that no well-formed text begins with the bytes up to and including it; the text's length if it ends
+-- early"
+pub record FirstBad (Form : List ℕ → Type 0) (t : List ℕ) (o : ℕ) : Type 0 where
+  pub within : o ≤ length t
+  pub before : (rest : List ℕ) × Form (take o t ++ rest)
+  pub departs : o < length t → (rest : List ℕ) → Form (take (suc o) t ++ rest) → ⊥
+  pub early : o ≡ length t → Form t → ⊥
+
+-- THE WORDS OF A SCRIPT: "the slack G ..; the rate count M ..; M rates ..; the task count N ..; then for each task the period p .., the cycles c .., and M
+-- energies".
+abbrev pub taskWords : TaskLine → List ℕ
+taskWords t = t .period ∷ t .cycles ∷ t .energies
+
+unfoldable pub words : Script → List ℕ
+words s = s .slack ∷ length (s .rates) ∷ (s .rates ++ length (s .tasks) ∷ joined taskWords (s .tasks))
+
+-- THE SCRIPT OF A LIST OF WORDS: what the writer writes. Every number in its own place, as the list has it.
+abbrev pub each : {A : Type 0} → (ℕ → A) → ℕ → ℕ → List A
+each f i zero = []
+each f i (suc n) = f i ∷ each f (suc i) n
+
+abbrev pub lineOf : List ℕ → ℕ → TaskLine
+lineOf s t = record {
+  period = period listHead listExtra s t;
+  cycles = cycles listHead listExtra s t;
+  energies = each (energy listHead listExtra s t) 1 (rateCount listHead s);
+}
+
+unfoldable pub scriptOf : List ℕ → Script
+scriptOf s = record { slack = slack s; rates = each (rate listHead listExtra s) 1 (rateCount listHead s); tasks = each (lineOf s) 0 (taskCount listHead s) }
