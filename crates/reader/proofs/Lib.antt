@@ -1,0 +1,8 @@
+pub mod Classes
+pub mod Arms
+pub mod Places
+pub mod Writing
+pub mod Lists
+pub mod TaskLists
+pub mod Cuts
+pub mod Answers

@@ -1,0 +1,44 @@
+-- The rest was lent, and is back.
+-- Assumes nothing.
+use native.Mathlib.Omega.{arith}
+use denote.Ref.{now}
+use Rattle.text.specs.Text.{decimal}
+use Rattle.writer.proofs.Puts.{lent}
+use borrow.Author.Needs.{needs}
+use Rattle.writer.proofs.add_number.Statement.{statement}
+use Rattle.writer.proofs.add_number.Tie as tie
+
+sub-put-number : tie.Need-sub-put-number
+sub-put-number c = search needs
+
+part-put-number-start : tie.Need-part-put-number-start
+part-put-number-start c = search needs
+
+part-put-number-end : tie.Need-part-put-number-end
+part-put-number-end c = search needs
+
+put-number-requires : tie.Need-put-number-requires
+put-number-requires c κs = search needs
+
+add-result : tie.Need-add-result
+add-result c = search needs
+
+same-length : tie.Need-same-length
+same-length c = search needs
+
+returns : tie.Need-returns
+returns c =
+    let a = c .before .before .before .before .before in
+    lent (decimal (a .args .v)) (now (a .args .buf)) (c .before .before .put-number .last .0) (a .args .at) (c .before .before .put-number .result) (omega (arith, a .pre)) (c .before .before .put-number .ensures)
+
+pub add-number-spec : {M : Type 1} → statement M
+add-number-spec =
+    tie.close
+    (tie.spec
+    sub-put-number
+    part-put-number-start
+    part-put-number-end
+    put-number-requires
+    add-result
+    same-length
+    returns)
