@@ -16,7 +16,8 @@ use Rattle.text.proofs.Reading.{Res, got, bad, ended, readScript, readText, rea
 use Rattle.text.proofs.Pieces.{Good, no-first-bad}
 use Rattle.text.proofs.Grammar.{script-piece}
 use Rattle.text.proofs.Copies.{is-read, is-refused, one-script}
-use Rattle.reader.specs.Steps.{placed, written, wordCount}
+use Rattle.text.proofs.Writing.{placed, written}
+use Rattle.reader.specs.Steps.{wordCount}
 use Rattle.reader.proofs.Cuts.{later-zero}
 
 text-is : (t : List ℕ) → readText t ≡ ended (length t) (readAt readScript t 0)
@@ -58,6 +59,7 @@ module _ (t d : List ℕ) where
         (inr (departs-nowhere x, inl (refl, (s, x, (omega arith, sym w)))), refl)
 
     pub all-written : (n : ℕ) (f : List ℕ) → length t ≤ i → n ≡ wordCount s → wordCount s ≤ length d → f ≡ placed (words s) d → ReaderGives t d f (Wrote n)
+    unfolding placed
     all-written n f h w l p =
         let x = is-text h in
         let enough : (k : ℕ) → (u : Script) × IsTextOf u t × ((length d < length (words u)) × (k ≡ length (words u))) → ⊥ =
@@ -66,7 +68,9 @@ module _ (t d : List ℕ) where
 
 -- The words at the front of the reader's own list.
 pub front : (ws d e : List ℕ) (n : ℕ) → length ws ≡ n → e ≡ written 0 ws d → take n e ≡ ws
+unfolding placed written
 front ws d e n l q = rw q (take-at ws (drop (length ws) d) n l)
 
 pub front-fits : (ws d e : List ℕ) (n : ℕ) → length ws ≡ n → e ≡ written 0 ws d → n ≤ length e
+unfolding placed written
 front-fits ws d e n l q = omega (arith, ap length q ∙ length-append ws (drop (length ws) d))

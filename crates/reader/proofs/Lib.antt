@@ -1,7 +1,6 @@
 pub mod Classes
 pub mod Arms
 pub mod Places
-pub mod Writing
 pub mod Lists
 pub mod TaskLists
 pub mod Cuts

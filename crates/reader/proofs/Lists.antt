@@ -8,10 +8,10 @@ use native.Mathlib.Omega.{arith}
 use native.Mathlib.Nat.{add-zero}
 use lib.ListN.{length, getD, take, drop, set, length-append, length-drop, length-set, take-append-drop}
 use lib.Seq.{drop-cons, set-at, append-snoc, length-take-le}
-use Rattle.reader.specs.Steps.{written, Wrote, plain, unit}
+use Rattle.text.proofs.Writing.{placed, written, written-none, written-then}
+use Rattle.reader.specs.Steps.{Wrote, plain, unit}
 use Rattle.text.proofs.Reading.{Res, got, bad, ext, mapRes, seq, many, starts, readAt}
 use Rattle.reader.proofs.Places.{seq-at, map-id, onward}
-use Rattle.reader.proofs.Writing.{written-then}
 
 -- The items so far in front of those that are left.
 abbrev pub behind : {A : Type 0} → List A → Res (List A) → Res (List A)
@@ -54,6 +54,7 @@ module _ {A : Type 0} (p : List ℕ → Res A) (c : ℕ) (s : List ℕ) (i : ℕ
 
 -- One word more.
 pub written-one : (xs d : List ℕ) (k n v : ℕ) → length xs ≡ n → k + n < length d → set (written k xs d) (k + n) v ≡ written k (xs ++ (v ∷ [])) d
+unfolding placed written
 written-one xs d k n v e h =
     let r : List ℕ = drop k d in
     let lr : n < length r = rw length-drop (omega arith) in
@@ -73,6 +74,7 @@ pub record SoFar (whole left : Res (List ℕ)) (k n : ℕ) (d e : List ℕ) : Ty
   pub rest : whole ≡ behind items left
 
 pub start : (whole left : Res (List ℕ)) (k : ℕ) (d : List ℕ) → whole ≡ left → SoFar whole left k 0 d d
+unfolding placed written
 start whole left k d e = record { items = []; count = refl; same = refl; in-place = sym (take-append-drop k d); rest = e ∙ sym (map-id left) }
 
 module _ {whole left : Res (List ℕ)} {k n : ℕ} {d e : List ℕ} (h : SoFar whole left k n d e) where
@@ -122,7 +124,7 @@ many-split {A} p c (suc m) k s i = rw (must p c s i m k, must p c s i m 0, seq-a
 pub two-then : (es d : List ℕ) (k p c : ℕ) → k + 1 < length d → written (k + 2) es (set (set d k p) (k + 1) c) ≡ written k (p ∷ c ∷ es) d
 two-then es d k p c h =
     let e₁ : set d k p ≡ written k (p ∷ []) d =
-    ap (λ (z : List ℕ). set z k p) (sym (take-append-drop k d)) ∙ (rw add-zero at (written-one [] d k 0 p refl (omega arith))) in
+    ap (λ (z : List ℕ). set z k p) (written-none d k) ∙ (rw add-zero at (written-one [] d k 0 p refl (omega arith))) in
     let e₂ : set (set d k p) (k + 1) c ≡ written k (p ∷ c ∷ []) d = ap (λ (z : List ℕ). set z (k + 1) c) e₁ ∙ written-one (p ∷ []) d k 1 c refl h in
     ap (written (k + 2) es) e₂ ∙ written-then (p ∷ c ∷ []) es d k (k + 2) refl (omega arith)
 

@@ -8,12 +8,12 @@ use native.Mathlib.Omega.{arith}
 use native.Mathlib.Nat.{zero-mul, suc-mul}
 use lib.ListN.{length, getD, drop, set, length-append, take-append-drop}
 use lib.Seq.{drop-cons, drop-drop, append-snoc, take-at, drop-at, set-at}
-use Rattle.reader.specs.Steps.{placed, written, Wrote, allWords, opensAt, wordCount}
+use Rattle.text.proofs.Writing.{placed, written, extend}
+use Rattle.reader.specs.Steps.{Wrote, allWords, opensAt, wordCount}
 use Rattle.text.specs.Text.{TaskLine, TaskLineOk, taskWords, words}
 use Rattle.numbers.specs.Numbers.{All}
 use Rattle.text.proofs.Reading.{Res, got, bad, mapRes, readTask, starts, mkScript, readAt}
 use Rattle.reader.proofs.Places.{map-id}
-use Rattle.reader.proofs.Writing.{extend}
 use Rattle.reader.proofs.Lists.{behind}
 use Rattle.text.proofs.Grammar.{dom-of, task-piece}
 
@@ -47,6 +47,7 @@ pub record TasksSoFar (whole left : Res (List TaskLine)) (k n w : ℕ) (d e : Li
   pub rest : whole ≡ behind items left
 
 pub start : (whole left : Res (List TaskLine)) (k : ℕ) (d : List ℕ) → whole ≡ left → TasksSoFar whole left k 0 k d d
+unfolding placed written
 start whole left k d e = record { items = []; count = refl; end = omega arith; room = omega arith; same = refl; in-place = sym (take-append-drop k d); rest = e ∙ sym (map-id left) }
 
 module _ {whole left : Res (List TaskLine)} {k n w : ℕ} {d e : List ℕ} (h : TasksSoFar whole left k n w d e) where
@@ -81,6 +82,7 @@ opens-is s i r x e q = sym e ∙ q
 -- The words of a set: the slack, the rates and the tasks are in place, and then the two counts go between them.
 pub layout : (g m n : ℕ) (rs : List ℕ) (ts : List TaskLine) (d : List ℕ) → length rs ≡ m → 3 + m ≤ length d
     → set (set (set (written (3 + m) (allWords ts) (written 2 rs d)) 0 g) 1 m) (2 + m) n ≡ written 0 (g ∷ m ∷ (rs ++ n ∷ allWords ts)) d
+unfolding placed written
 layout g m n rs ts [] l h = absurd (omega arith)
 layout g m n rs ts (a ∷ []) l h = absurd (omega arith)
 layout g m n rs ts (a ∷ b ∷ r) l h =

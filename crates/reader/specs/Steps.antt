@@ -2,12 +2,13 @@
 -- written after it. Not part of what a reader must believe: the call's contract speaks of scripts and their texts.
 use Prim.Native.Nat.{ℕ, _-_}
 use mathlib.Core.Path.{_≡_}
-use mathlib.Core.List.{List, _++_}
+use mathlib.Core.List.{List}
 use mathlib.Core.Bool.{Bool, cond}
-use lib.ListN.{length, getD, take, drop}
+use lib.ListN.{length, getD, drop}
 use lib.Dec.{ltb, eqb}
 use Rattle.text.specs.Text.{bytes, TaskLine, Script, taskWords, joined, words}
 use Rattle.text.proofs.Reading.{Res, got, bad, isDigit, within, upTo, field, starts}
+use Rattle.text.proofs.Writing.{written}
 use Rattle.reader.specs.declared.Class.{Class}
 use Rattle.reader.specs.declared.Class.the-variants.{End, Digit, Bracket, Space, LineEnd, Letter, Other}
 use Rattle.reader.specs.declared.Place.{Place}
@@ -52,14 +53,6 @@ slackLine = upTo (field (bytes "(slack ")) (bytes ")\n(")
 
 abbrev pub spacedNumber : List ℕ → Res ℕ
 spacedNumber = field (bytes " ")
-
--- xs at the front of d, and what lies after stays.
-abbrev pub placed : List ℕ → List ℕ → List ℕ
-placed xs d = xs ++ drop (length xs) d
-
--- xs from place at of d on, and all else stays.
-abbrev pub written : ℕ → List ℕ → List ℕ → List ℕ
-written at xs d = take at d ++ placed xs (drop at d)
 
 -- The words of what was read stand in the list from k on, and all else is as it was: d is the list before, e after. Nothing is said where
 -- nothing was read.

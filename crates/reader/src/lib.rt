@@ -7,7 +7,8 @@ ghost use Rattle.text.specs.Text;
 ghost use Rattle.text.specs.Calls.{ReaderGives};
 ghost use Rattle.text.proofs.Reading;
 ghost use Rattle.text.proofs.Reading.{readAt, mapRes};
-ghost use Rattle.reader.specs.Steps.{stepAt, opensAt, ofPlace, ofValue, ofCount, slackLine, spacedNumber, placed, Wrote, plain, unit, allWords, wordCount};
+ghost use Rattle.text.proofs.Writing.{placed};
+ghost use Rattle.reader.specs.Steps.{stepAt, opensAt, ofPlace, ofValue, ofCount, slackLine, spacedNumber, Wrote, plain, unit, allWords, wordCount};
 use taskset::CopyAnswer;
 use taskset::Refusal;
 

@@ -9,3 +9,4 @@ pub mod Sizes
 pub mod RoundTrip
 pub mod Copies
 pub mod Theorems
+pub mod Writing

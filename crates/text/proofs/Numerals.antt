@@ -40,16 +40,16 @@ fuel (suc k) n h =
     (λ b. rw (large (suc (suc k)) n b, large (suc k) n b, fuel k (n / 10) (omega arith)))
 
 -- one digit more
-pub decimal-step : (w d : ℕ) → 1 ≤ w → d < 10 → w * 10 + d < 2 ^ 32 → decimal (w * 10 + d) ≡ decimal w ++ ((48 + d) ∷ [])
+pub decimal-step : (w d : ℕ) → 1 ≤ w → d < 10 → w * 10 + d < 2 ^ 64 → decimal (w * 10 + d) ≡ decimal w ++ ((48 + d) ∷ [])
 unfolding decimal
 decimal-step w d h k l =
     let q : (w * 10 + d) / 10 ≡ w = omega arith in
     let m : (w * 10 + d) % 10 ≡ d = omega arith in
-    large 9 (w * 10 + d) (omega arith) ∙ rw (q, m, fuel 8 w (omega arith))
+    large 19 (w * 10 + d) (omega arith) ∙ rw (q, m, fuel 18 w (omega arith))
 
 pub decimal-one : (d : ℕ) → d < 10 → decimal d ≡ (48 + d) ∷ []
 unfolding decimal
-decimal-one d h = small 9 d h
+decimal-one d h = small 19 d h
 
 next-later : (n : ℕ) (x : Res ℕ) → later n (next x) ≡ later (n + 1) x
 next-later n (got a m) = ap (λ (k : ℕ). got a k) (omega arith)
@@ -109,8 +109,8 @@ zero-text r = refl
 
 number-exact : (v : ℕ) → Word v → (r : List ℕ) → NoDigit r → number (decimal v ++ r) ≡ got v (length (decimal v))
 unfolding decimal
-number-exact zero h r f = zero-text r ∙ rw (small 9 0 (omega arith))
-number-exact (suc v) h r f = number-digits 10 (suc v) (omega arith) (omega arith) h r ∙ rw (more-stop (suc v) r f, add-zero)
+number-exact zero h r f = zero-text r ∙ rw (small 19 0 (omega arith))
+number-exact (suc v) h r f = number-digits 20 (suc v) (omega arith) (omega arith) h r ∙ rw (more-stop (suc v) r f, add-zero)
 
 -- what more passes belongs to a number
 abbrev Passed : ℕ → List ℕ → Res ℕ → Type 0
@@ -127,7 +127,7 @@ more-good w (b ∷ t) h l =
     on p q x g =
         let d = isDigit-true b p in
         let back : 48 + (b - 48) ≡ b = omega arith in
-        let e : decimal (w * 10 + (b - 48)) ≡ decimal w ++ (b ∷ []) = decimal-step w (b - 48) h (omega arith) q ∙ rw back in
+        let e : decimal (w * 10 + (b - 48)) ≡ decimal w ++ (b ∷ []) = decimal-step w (b - 48) h (omega arith) (omega (arith, q)) ∙ rw back in
         on′ e x g
       where
         on′ : decimal (w * 10 + (b - 48)) ≡ decimal w ++ (b ∷ []) → (x : Res ℕ) → Passed (w * 10 + (b - 48)) t x → Passed w (b ∷ t) (next x)

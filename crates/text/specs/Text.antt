@@ -31,13 +31,14 @@ abbrev pub bytes : String → List ℕ
 bytes Str.[] = []
 bytes (Str._∷_ c s) = code c ∷ bytes s
 
--- "A number is 0 or starts with 1 to 9": the decimal digits of n, highest first, at most k of them; ten are enough for a number of 32 bits.
+-- "A number is 0 or starts with 1 to 9": the decimal digits of n, highest first, at most k of them; twenty are enough for a number of 64
+-- bits, and so for every number that a text or an answer has.
 unfoldable pub digits : ℕ → ℕ → List ℕ
 digits zero n = []
 digits (suc k) n = cond (ltb n 10) ((48 + n) ∷ []) (digits k (n / 10) ++ ((48 + n % 10) ∷ []))
 
 unfoldable pub decimal : ℕ → List ℕ
-decimal n = digits 10 n
+decimal n = digits 20 n
 
 -- What each item of a list gives, one after the other.
 abbrev pub joined : {A : Type 0} → (A → List ℕ) → List A → List ℕ

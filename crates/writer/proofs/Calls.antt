@@ -17,7 +17,9 @@ use Rattle.taskset.proofs.Checks.{no-word-fault, accepts-join, refuses-front, r
 use Rattle.taskset.proofs.Whole.{IsWhole, whole-of}
 use Rattle.text.specs.Text.{scriptText, scriptOf}
 use Rattle.text.specs.Calls.{WriterGives}
-use Rattle.writer.specs.Puts.{placed, Put, Given, whole}
+use Rattle.text.proofs.Writing.{placed}
+use Rattle.printer.specs.Puts.{Put}
+use Rattle.writer.specs.Lines.{Given, whole}
 use Rattle.writer.proofs.Rows.{whole-is}
 
 module _ (s d : List ℕ) where

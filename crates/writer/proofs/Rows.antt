@@ -1,6 +1,6 @@
 -- Items in a row: grown by one at the end, and how long their text is.
 -- Assumes nothing.
-use Prim.Native.Nat.{ℕ, zero, suc, _+_, _-_, _*_, _/_, _%_, _^_, _≤_, _<_}
+use Prim.Native.Nat.{ℕ, zero, suc, _+_, _-_, _*_, _≤_, _<_}
 use mathlib.Core.Path.{_≡_, refl, sym, ap, _∙_}
 use mathlib.Core.List.{List, [], _∷_, _++_, append-assoc, append-nil}
 use native.Mathlib.Nat.{zero-add, add-zero, suc-mul, mul-le-mul}
@@ -9,9 +9,8 @@ use native.Mathlib.Omega.{arith}
 use lib.ListN.{length, length-append}
 use Rattle.taskset.specs.Words.{word, listHead, listExtra, slack, rateCount, taskCount, periodPlace, rate, energy}
 use Rattle.text.specs.Text.{decimal, joined, spaced, taskText, scriptText, each, lineOf, scriptOf}
-use Rattle.text.proofs.Numerals.{decimal-step, decimal-one}
 use Rattle.text.proofs.Sizes.{decimal-length}
-use Rattle.writer.specs.Puts.{row, line, lines, whole}
+use Rattle.writer.specs.Lines.{row, line, lines, whole}
 
 each-last : {A : Type 0} (f : ℕ → A) (i n : ℕ) → each f i (suc n) ≡ each f i n ++ (f (i + n) ∷ [])
 each-last {A} f i zero = ap (λ (k : ℕ). f k ∷ []) (sym (add-zero i))
@@ -61,18 +60,6 @@ each-same {A} f g a b (suc n) h =
     ap f p ∙ h (suc i) ∙ ap g (sym q)) in
     cc
 
--- ---- the digits of a number
-pub decimal-split : (v : ℕ) → 10 ≤ v → v < 2 ^ 32 → decimal v ≡ decimal (v / 10) ++ ((48 + v % 10) ∷ [])
-decimal-split v h l =
-    let back : v / 10 * 10 + v % 10 ≡ v = omega arith in
-    ap decimal (sym back) ∙ decimal-step (v / 10) (v % 10) (omega arith) (omega arith) (omega arith)
-
-pub length-small : (v : ℕ) → v < 10 → length (decimal v) ≡ 1
-length-small v h = rw (decimal-one v h)
-
-pub length-large : (v : ℕ) → 10 ≤ v → v < 2 ^ 32 → length (decimal v) ≡ length (decimal (v / 10)) + 1
-length-large v h l = rw (decimal-split v h l, length-append)
-
 -- ---- numbers in a row
 module _ (w : List ℕ) (k : ℕ) where
   pub row-none : row w k 0 ≡ []
@@ -91,9 +78,9 @@ module _ (w : List ℕ) (k : ℕ) where
   unfolding row
   row-grows i n h = grows spaced (λ j. word w (k + j)) i n h
 
-  pub row-short : (n : ℕ) → length (row w k n) ≤ n * 11
+  pub row-short : (n : ℕ) → length (row w k n) ≤ n * 21
   unfolding row
-  row-short n = short spaced (λ j. word w (k + j)) 11 (λ i. omega (arith, decimal-length (word w (k + i)))) n
+  row-short n = short spaced (λ j. word w (k + j)) 21 (λ i. omega (arith, decimal-length (word w (k + i)))) n
 
 -- ---- a task's line, and lines
 module _ (w : List ℕ) (k m : ℕ) where
@@ -101,7 +88,7 @@ module _ (w : List ℕ) (k m : ℕ) where
   unfolding line row
   line-length = simp length-append (omega arith)
 
-  pub line-short : m ≤ 8 → length (line w k m) ≤ 144
+  pub line-short : m ≤ 8 → length (line w k m) ≤ 244
   line-short h =
       omega (arith, line-length, decimal-length (word w k), decimal-length (word w (k + 1)), row-short w (k + 2) m)
 
@@ -131,9 +118,9 @@ module _ (w : List ℕ) (m : ℕ) where
   unfolding lines
   lines-grow i n h = grows at (λ (i : ℕ). i) i n h
 
-  pub lines-short : m ≤ 8 → (n : ℕ) → length (lines w m n) ≤ n * 144
+  pub lines-short : m ≤ 8 → (n : ℕ) → length (lines w m n) ≤ n * 244
   unfolding lines
-  lines-short h n = short at (λ (i : ℕ). i) 144 (λ i. line-short w (periodPlace listHead listExtra m i) m h) n
+  lines-short h n = short at (λ (i : ℕ). i) 244 (λ i. line-short w (periodPlace listHead listExtra m i) m h) n
 
   pub whole-length : (n : ℕ) → length (whole w m n) ≡ 17 + length (decimal (slack w)) + length (row w 2 m) + length (lines w m n)
   unfolding whole

@@ -3,27 +3,15 @@
 ghost use mathlib.Core.Path.{_≡_};
 ghost use Prim.Native.Nat.{_+_, _≤_};
 ghost use lib.ListN.{length};
-ghost use Rattle.text.specs.Text.{decimal, spaced};
+ghost use Rattle.text.specs.Text.{spaced};
 ghost use Rattle.text.specs.Calls.{WriterGives};
-ghost use Rattle.writer.specs.Puts.{Put, Added, Given, row, line, lines, whole};
+ghost use Rattle.printer.specs.Puts.{Put, Added};
+ghost use Rattle.writer.specs.Lines.{Given, row, line, lines, whole};
 use taskset::CopyAnswer;
 use taskset::LIST_EXTRA;
 use taskset::LIST_HEAD;
 use taskset::Refusal;
 use taskset::Shape;
-
-// How many digits a number has.
-fn count_number(v: u32) -> usize
-    ensures { λ r. ⌜ r ≡ length (decimal v) ⌝ }
-{
-    let mut x = v;
-    let mut c: usize = 1;
-    while 10 <= x {
-        x /= 10;
-        c += 1;
-    }
-    c
-}
 
 // The bytes of the n words from place k on, each behind a space.
 fn count_numbers(w: &[u32], k: usize, n: usize) -> usize
@@ -33,7 +21,7 @@ fn count_numbers(w: &[u32], k: usize, n: usize) -> usize
     let mut c: usize = 0;
     let mut i: usize = 0;
     while i < n {
-        c += 1 + count_number(w[k + i]);
+        c += 1 + printer::count_number(w[k + i] as u64);
         i += 1;
     }
     c
@@ -44,9 +32,9 @@ fn count_task(w: &[u32], k: usize, m: usize) -> usize
     requires { ⌜ (m ≤ 8) × (k + 2 + m ≤ length (now w)) ⌝ }
     ensures { λ r. ⌜ r ≡ length (line (now (w .entry)) k m) ⌝ }
 {
-    let period = count_number(w[k]);
-    let cycles = count_number(w[k + 1]);
-    let energies = count_numbers(w, k + 2, m);
+    let period = printer::count_number(w[k] as u64);
+    let cycles = printer::count_number(w[k + 1] as u64);
+    let energies = count_numbers(w, k + (2 + LIST_EXTRA), m);
     36 + period + cycles + energies
 }
 
@@ -56,11 +44,11 @@ fn count_tasks(w: &[u32], m: usize, n: usize) -> usize
     ensures { λ r. ⌜ r ≡ length (lines (now (w .entry)) m n) ⌝ }
 {
     let mut c: usize = 0;
-    let mut k = 3 + m;
+    let mut k = LIST_HEAD + 2 + m;
     let mut t: usize = 0;
     while t < n {
         c += count_task(w, k, m);
-        k += 2 + m;
+        k += 2 + LIST_EXTRA + m;
         t += 1;
     }
     c
@@ -71,53 +59,10 @@ fn count_text(w: &[u32], m: usize, n: usize) -> usize
     requires { ⌜ Given (now w) m n ⌝ }
     ensures { λ r. ⌜ r ≡ length (whole (now (w .entry)) m n) ⌝ }
 {
-    let slack = count_number(w[0]);
-    let rates = count_numbers(w, 2, m);
+    let slack = printer::count_number(w[0] as u64);
+    let rates = count_numbers(w, LIST_HEAD + 1, m);
     let tasks = count_tasks(w, m, n);
     17 + slack + rates + tasks
-}
-
-// Copies a fixed string to the front of a buffer.
-fn put_bytes(buf: &mut [u8], l: &[u8]) -> usize
-    requires { ⌜ length (now l) ≤ length (now buf) ⌝ }
-    ensures { λ r. ⌜ Put (now (l .entry)) (now (buf .entry)) (now (buf .exit)) r ⌝ }
-{
-    let mut i = 0;
-    while i < l.len() {
-        buf[i] = l[i];
-        i += 1;
-    }
-    i
-}
-
-// The decimal digits of a number, to the front of a buffer.
-fn put_number(buf: &mut [u8], v: u32) -> usize
-    requires { ⌜ length (decimal v) ≤ length (now buf) ⌝ }
-    ensures { λ r. ⌜ Put (decimal v) (now (buf .entry)) (now (buf .exit)) r ⌝ }
-{
-    if v < 10 {
-        buf[0] = 48 + v as u8;
-        1
-    } else {
-        let n = put_number(buf, v / 10);
-        buf[n] = 48 + (v % 10) as u8;
-        n + 1
-    }
-}
-
-// The same to the rest of a buffer, from a place on: the rest is lent to the writer. The place after it.
-fn add_bytes(buf: &mut [u8], at: usize, l: &[u8]) -> usize
-    requires { ⌜ at + length (now l) ≤ length (now buf) ⌝ }
-    ensures { λ r. ⌜ Added at (now (l .entry)) (now (buf .entry)) (now (buf .exit)) r ⌝ }
-{
-    at + put_bytes(&mut buf[at..], l)
-}
-
-fn add_number(buf: &mut [u8], at: usize, v: u32) -> usize
-    requires { ⌜ at + length (decimal v) ≤ length (now buf) ⌝ }
-    ensures { λ r. ⌜ Added at (decimal v) (now (buf .entry)) (now (buf .exit)) r ⌝ }
-{
-    at + put_number(&mut buf[at..], v)
 }
 
 // A space and a number. (A function of its own: a byte string in a loop would be part of the loop's invariant.)
@@ -125,8 +70,7 @@ fn add_spaced(buf: &mut [u8], at: usize, v: u32) -> usize
     requires { ⌜ at + length (spaced v) ≤ length (now buf) ⌝ }
     ensures { λ r. ⌜ Added at (spaced v) (now (buf .entry)) (now (buf .exit)) r ⌝ }
 {
-    let a = add_bytes(buf, at, b" ");
-    add_number(buf, a, v)
+    printer::add_field(buf, at, b" ", v as u64)
 }
 
 // The n words from place k on, each behind a space.
@@ -148,13 +92,11 @@ fn put_task(buf: &mut [u8], w: &[u32], k: usize, m: usize) -> usize
     requires { ⌜ (k + 2 + m ≤ length (now w)) × (length (line (now w) k m) ≤ length (now buf)) ⌝ }
     ensures { λ r. ⌜ Put (line (now (w .entry)) k m) (now (buf .entry)) (now (buf .exit)) r ⌝ }
 {
-    let a = add_bytes(buf, 0, b"(task (period ");
-    let b = add_number(buf, a, w[k]);
-    let c = add_bytes(buf, b, b") (cycles ");
-    let d = add_number(buf, c, w[k + 1]);
-    let e = add_bytes(buf, d, b") (energy");
-    let f = add_numbers(buf, e, w, k + 2, m);
-    add_bytes(buf, f, b"))\n")
+    let a = printer::add_field(buf, 0, b"(task (period ", w[k] as u64);
+    let b = printer::add_field(buf, a, b") (cycles ", w[k + 1] as u64);
+    let c = printer::add_bytes(buf, b, b") (energy");
+    let d = add_numbers(buf, c, w, k + (2 + LIST_EXTRA), m);
+    printer::add_bytes(buf, d, b"))\n")
 }
 
 // The lines of n tasks: the rest of the buffer is lent for each.
@@ -163,11 +105,11 @@ fn put_tasks(buf: &mut [u8], w: &[u32], m: usize, n: usize) -> usize
     ensures { λ r. ⌜ Put (lines (now (w .entry)) m n) (now (buf .entry)) (now (buf .exit)) r ⌝ }
 {
     let mut p: usize = 0;
-    let mut k = 3 + m;
+    let mut k = LIST_HEAD + 2 + m;
     let mut t: usize = 0;
     while t < n {
         p += put_task(&mut buf[p..], w, k, m);
-        k += 2 + m;
+        k += 2 + LIST_EXTRA + m;
         t += 1;
     }
     p
@@ -178,12 +120,11 @@ fn put_text(buf: &mut [u8], w: &[u32], m: usize, n: usize) -> usize
     requires { ⌜ Given (now w) m n × (length (whole (now w) m n) ≤ length (now buf)) ⌝ }
     ensures { λ r. ⌜ Put (whole (now (w .entry)) m n) (now (buf .entry)) (now (buf .exit)) r ⌝ }
 {
-    let a = add_bytes(buf, 0, b"(slack ");
-    let b = add_number(buf, a, w[0]);
-    let c = add_bytes(buf, b, b")\n(rates");
-    let d = add_numbers(buf, c, w, 2, m);
-    let e = add_bytes(buf, d, b")\n");
-    e + put_tasks(&mut buf[e..], w, m, n)
+    let a = printer::add_field(buf, 0, b"(slack ", w[0] as u64);
+    let b = printer::add_bytes(buf, a, b")\n(rates");
+    let c = add_numbers(buf, b, w, LIST_HEAD + 1, m);
+    let d = printer::add_bytes(buf, c, b")\n");
+    d + put_tasks(&mut buf[d..], w, m, n)
 }
 
 // The text of a set of words that passes checks 2 and 3; how many bytes, or a refusal that leaves the buffer as it was.

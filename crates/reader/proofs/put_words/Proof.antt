@@ -8,8 +8,7 @@ use native.Mathlib.Numerals.{add-one}
 use denote.Ref.{now}
 use lib.ListN.{length, getD, set, take, length-set}
 use lib.Seq.{length-take-le, take-suc, take-length}
-use Rattle.reader.specs.Steps.{placed}
-use Rattle.reader.proofs.Writing.{placed-one}
+use Rattle.text.proofs.Writing.{placed, placed-none, placed-one}
 use Rattle.reader.proofs.put_words.Statement.{statement}
 use Rattle.reader.proofs.put_words.Tie as tie
 use Rattle.reader.proofs.put_words.Reads as reads
@@ -22,7 +21,7 @@ abbrev μ-loop : tie.MeasureT-loop
 μ-loop out₀ l i₀ out i = length l - i
 
 loop-holds : tie.Need-loop-holds Inv-loop μ-loop
-loop-holds c = (omega arith, refl, refl)
+loop-holds c = (omega arith, refl, placed-none (now (c .args .out)))
 
 mul-out : tie.Need-mul-out Inv-loop μ-loop
 mul-out c = omega arith

@@ -8,7 +8,7 @@ use lib.ListN.{length, length-append}
 use Rattle.text.proofs.Reading.{got, numbers, readAt}
 use Rattle.reader.specs.Steps.{ofPlace, ofCount, plain, unit}
 use Rattle.text.proofs.Grammar.{so-many}
-use Rattle.reader.proofs.Writing.{extend}
+use Rattle.text.proofs.Writing.{extend}
 use Rattle.reader.proofs.Lists.{Took, took, lost, many-split}
 use borrow.Author.Needs.{needs}
 use Rattle.reader.proofs.rates.Statement.{statement}

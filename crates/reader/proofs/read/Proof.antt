@@ -6,7 +6,8 @@ use mathlib.Core.List.{List}
 use native.Mathlib.Omega.{arith}
 use denote.Ref.{now}
 use lib.ListN.{length, replicate}
-use Rattle.reader.specs.Steps.{placed, ofCount, wordCount}
+use Rattle.text.proofs.Writing.{placed}
+use Rattle.reader.specs.Steps.{ofCount, wordCount}
 use Rattle.text.proofs.Reading.{readScript, readAt}
 use Rattle.text.specs.Text.{words}
 use Rattle.reader.proofs.Lists.{Took, took, lost}

@@ -7,7 +7,8 @@ use native.Mathlib.Omega.{arith}
 use denote.Ref.{now}
 use lib.ListN.{length, set, length-set}
 use Rattle.text.specs.Text.{bytes}
-use Rattle.reader.specs.Steps.{written, slackLine, ofPlace, ofValue, ofCount, plain, allWords}
+use Rattle.text.proofs.Writing.{written}
+use Rattle.reader.specs.Steps.{slackLine, ofPlace, ofValue, ofCount, plain, allWords}
 use Rattle.text.proofs.Reading.{got, literal, numbers, readTasks, readAt}
 use Rattle.reader.proofs.Places.{seq-at}
 use Rattle.text.proofs.Grammar.{dom-of, so-many, tasks-piece}

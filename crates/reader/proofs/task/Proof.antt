@@ -7,7 +7,8 @@ use native.Mathlib.Omega.{arith}
 use denote.Ref.{now}
 use lib.ListN.{set, length-set}
 use Rattle.text.specs.Text.{bytes, taskWords}
-use Rattle.reader.specs.Steps.{written, ofPlace, ofValue, plain, unit, Wrote}
+use Rattle.text.proofs.Writing.{written}
+use Rattle.reader.specs.Steps.{ofPlace, ofValue, plain, unit, Wrote}
 use Rattle.text.proofs.Reading.{Res, got, bad, mapRes, literal, field, numbers, mkTask, both, readAt}
 use Rattle.reader.proofs.Places.{seq-at}
 use Rattle.reader.proofs.Lists.{Took, took, lost, two-then}

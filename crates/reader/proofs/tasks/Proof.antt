@@ -10,7 +10,7 @@ use Rattle.text.specs.Text.{taskWords}
 use Rattle.reader.specs.Steps.{ofPlace, ofCount, unit, allWords}
 use Rattle.text.proofs.Grammar.{dom-of, more-tasks-piece}
 use Rattle.reader.proofs.Places.{seq-at}
-use Rattle.reader.proofs.Writing.{extend}
+use Rattle.text.proofs.Writing.{extend}
 use Rattle.reader.proofs.Lists.{Took, took, lost, must}
 use Rattle.reader.proofs.TaskLists.{task-words}
 use borrow.Author.Needs.{needs}

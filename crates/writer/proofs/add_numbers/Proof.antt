@@ -5,9 +5,10 @@ use mathlib.Core.Path.{_≡_, refl, _∙_}
 use native.Mathlib.Omega.{arith}
 use denote.Ref.{now}
 use lib.ListN.{length}
-use Rattle.writer.specs.Puts.{Added, row}
+use Rattle.printer.specs.Puts.{Added}
+use Rattle.writer.specs.Lines.{row}
 use Rattle.writer.proofs.Rows.{row-none, row-more, row-longer, row-grows}
-use Rattle.writer.proofs.Puts.{none-added, then}
+use Rattle.printer.proofs.Puts.{none-added, then}
 use Rattle.writer.proofs.add_numbers.Statement.{statement}
 use Rattle.writer.proofs.add_numbers.Tie as tie
 
@@ -71,16 +72,4 @@ returns c =
 pub add-numbers-spec : {M : Type 1} → statement M
 add-numbers-spec =
     tie.close
-    (tie.spec
-    Inv-loop
-    μ-loop
-    loop-holds
-    add-add-spaced
-    mul-add-spaced
-    shared-slice-read-add-spaced
-    add-spaced-requires
-    add-i
-    loop-less
-    loop-again
-    same-length
-    returns)
+    (tie.spec Inv-loop μ-loop loop-holds add-add-spaced mul-add-spaced shared-slice-read-add-spaced add-spaced-requires add-i loop-less loop-again same-length returns)

@@ -7,7 +7,7 @@ use denote.Ref.{now}
 use lib.ListN.{length}
 use Rattle.taskset.specs.Words.{word}
 use Rattle.text.proofs.Sizes.{decimal-length}
-use Rattle.writer.specs.Puts.{row}
+use Rattle.writer.specs.Lines.{row}
 use Rattle.writer.proofs.Rows.{row-none, row-longer, row-short}
 use borrow.Author.Needs.{needs}
 use Rattle.writer.proofs.count_numbers.Statement.{statement}
@@ -67,20 +67,10 @@ returns c =
     let e : q .loop .i ≡ q .before .before .args .n = omega arith in
     rw (← e) (q .loop .inv .1)
 
+cast-count-number : tie.Need-cast-count-number Inv-loop μ-loop
+cast-count-number c = omega (arith, c .shared-slice-known2 .given (c .before .before .before .before .args .k + c .before .before .loop .i))
+
 pub count-numbers-spec : {M : Type 1} → statement M
 count-numbers-spec =
     tie.close
-    (tie.spec
-    Inv-loop
-    μ-loop
-    loop-holds
-    add-count-number
-    mul-count-number
-    shared-slice-read-count-number
-    count-number-requires
-    add-c
-    add-c-2
-    add-i
-    loop-less
-    loop-again
-    returns)
+    (tie.spec Inv-loop μ-loop loop-holds add-count-number mul-count-number shared-slice-read-count-number cast-count-number count-number-requires add-c add-c-2 add-i loop-less loop-again returns)

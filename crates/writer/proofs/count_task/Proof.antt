@@ -61,20 +61,16 @@ returns c =
     let w = now (a .w) in
     omega (arith, c .count-numbers .ensures, c .before .count-number2 .ensures, c .before .before .before .count-number .ensures, line-length w (a .k) (a .m))
 
+cast-count-number : tie.Need-cast-count-number
+cast-count-number c = omega (arith, c .shared-slice-known2 .given (c .before .before .args .k))
+
+cast-count-number-2 : tie.Need-cast-count-number-2
+cast-count-number-2 c = omega (arith, c .shared-slice-known3 .given (c .before .before .before .before .args .k + 1))
+
+add-count-numbers-2 : tie.Need-add-count-numbers-2
+add-count-numbers-2 c = search needs
+
 pub count-task-spec : {M : Type 1} → statement M
 count-task-spec =
     tie.close
-    (tie.spec
-    mul-count-number
-    shared-slice-read-count-number
-    count-number-requires
-    add-count-number
-    mul-count-number-2
-    shared-slice-read-count-number-2
-    count-number-requires-2
-    add-count-numbers
-    count-numbers-requires
-    add-result
-    add-result-2
-    add-result-3
-    returns)
+    (tie.spec mul-count-number shared-slice-read-count-number cast-count-number count-number-requires add-count-number mul-count-number-2 shared-slice-read-count-number-2 cast-count-number-2 count-number-requires-2 add-count-numbers add-count-numbers-2 count-numbers-requires add-result add-result-2 add-result-3 returns)

@@ -5,8 +5,9 @@ use mathlib.Core.Path.{_≡_, sym, ap}
 use native.Mathlib.Omega.{arith}
 use denote.Ref.{now}
 use lib.ListN.{length}
+use borrow.Author.Needs.{needs}
 use Rattle.taskset.specs.Words.{listHead, listExtra, periodPlace}
-use Rattle.writer.specs.Puts.{line, lines}
+use Rattle.writer.specs.Lines.{line, lines}
 use Rattle.writer.proofs.Rows.{place-next, place-in, line-short, lines-none, lines-longer, lines-short}
 use Rattle.writer.proofs.count_tasks.Statement.{statement}
 use Rattle.writer.proofs.count_tasks.Tie as tie
@@ -41,8 +42,8 @@ add-c c =
     let t = q .loop .t in
     omega (arith, q .loop .inv .2, c .count-task .ensures, a .pre .tasks, line-short w (q .loop .k) m (a .pre .rates), lines-short w m (a .pre .rates) t)
 
-add-k-2 : tie.Need-add-k-2 Inv-loop μ-loop
-add-k-2 c =
+add-k-4 : tie.Need-add-k-4 Inv-loop μ-loop
+add-k-4 c =
     let q = c .before .before in
     let a = q .before .before in
     let w = now (a .args .w) in
@@ -50,8 +51,8 @@ add-k-2 c =
     let t = q .loop .t in
     omega (arith, a .pre .rates)
 
-add-k-3 : tie.Need-add-k-3 Inv-loop μ-loop
-add-k-3 c =
+add-k-5 : tie.Need-add-k-5 Inv-loop μ-loop
+add-k-5 c =
     let q = c .before .before in
     let a = q .before .before in
     let w = now (a .args .w) in
@@ -83,19 +84,13 @@ returns c =
     let e : q .loop .t ≡ q .before .before .args .n = omega arith in
     rw (← e) (q .loop .inv .2)
 
+add-k-2 : tie.Need-add-k-2 Inv-loop μ-loop
+add-k-2 c = search needs
+
+add-k-3 : tie.Need-add-k-3 Inv-loop μ-loop
+add-k-3 c = search needs
+
 pub count-tasks-spec : {M : Type 1} → statement M
 count-tasks-spec =
     tie.close
-    (tie.spec
-    Inv-loop
-    μ-loop
-    add-k
-    loop-holds
-    count-task-requires
-    add-c
-    add-k-2
-    add-k-3
-    add-t
-    loop-less
-    loop-again
-    returns)
+    (tie.spec Inv-loop μ-loop add-k add-k-2 loop-holds count-task-requires add-c add-k-3 add-k-4 add-k-5 add-t loop-less loop-again returns)

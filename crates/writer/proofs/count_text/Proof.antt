@@ -51,15 +51,13 @@ returns c =
     let w = now (a .w) in
     omega (arith, s .pre .rates, s .pre .tasks, c .count-tasks .ensures, c .before .count-numbers .ensures, c .before .before .count-number .ensures, whole-length w (a .m) (a .n))
 
+cast-count-number : tie.Need-cast-count-number
+cast-count-number c = omega (arith, c .shared-slice-known2 .given 0)
+
+add-count-numbers : tie.Need-add-count-numbers
+add-count-numbers c = search needs
+
 pub count-text-spec : {M : Type 1} → statement M
 count-text-spec =
     tie.close
-    (tie.spec
-    shared-slice-read-count-number
-    count-number-requires
-    count-numbers-requires
-    count-tasks-requires
-    add-result
-    add-result-2
-    add-result-3
-    returns)
+    (tie.spec shared-slice-read-count-number cast-count-number count-number-requires add-count-numbers count-numbers-requires count-tasks-requires add-result add-result-2 add-result-3 returns)

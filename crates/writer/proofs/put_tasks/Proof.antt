@@ -6,10 +6,11 @@ use native.Mathlib.Omega.{arith}
 use denote.Ref.{now}
 use lib.ListN.{length}
 use Rattle.taskset.specs.Words.{listHead, listExtra, periodPlace}
-use Rattle.writer.specs.Puts.{Added, line, lines}
+use Rattle.printer.specs.Puts.{Added}
+use Rattle.writer.specs.Lines.{line, lines}
 use lib.ListN.{length-take, length-drop}
 use Rattle.writer.proofs.Rows.{place-next, place-in, lines-none, lines-more, lines-longer, lines-grow}
-use Rattle.writer.proofs.Puts.{none-added, then, front, lent, added-length}
+use Rattle.printer.proofs.Puts.{none-added, then, front, lent, added-length}
 use borrow.Author.Needs.{needs}
 use Rattle.writer.proofs.put_tasks.Statement.{statement}
 use Rattle.writer.proofs.put_tasks.Tie as tie
@@ -67,8 +68,8 @@ add-p c =
     let t = q .loop .t in
     omega (arith, c .before .before .put-task .ensures .size, q .loop .inv .2, q .loop .inv .3 .size, a .pre .1, ap (λ (x : ℕ). length (line w x m)) (q .loop .inv .1), lines-longer w m t, lines-grow w m (t + 1) (a .args .n) (omega arith))
 
-add-k-2 : tie.Need-add-k-2 Inv-loop μ-loop
-add-k-2 c =
+add-k-4 : tie.Need-add-k-4 Inv-loop μ-loop
+add-k-4 c =
     let q = c .before .before .before .before .before in
     let a = q .before .before .before in
     let w = now (a .args .w) in
@@ -76,8 +77,8 @@ add-k-2 c =
     let t = q .loop .t in
     omega (arith, a .pre .0 .rates)
 
-add-k-3 : tie.Need-add-k-3 Inv-loop μ-loop
-add-k-3 c =
+add-k-5 : tie.Need-add-k-5 Inv-loop μ-loop
+add-k-5 c =
     let q = c .before .before .before .before .before in
     let a = q .before .before .before in
     let w = now (a .args .w) in
@@ -115,23 +116,13 @@ returns c =
     let e : q .loop .t ≡ q .before .before .before .args .n = omega arith in
     rw (← e) (front (q .loop .inv .3))
 
+add-k-2 : tie.Need-add-k-2 Inv-loop μ-loop
+add-k-2 c = search needs
+
+add-k-3 : tie.Need-add-k-3 Inv-loop μ-loop
+add-k-3 c = search needs
+
 pub put-tasks-spec : {M : Type 1} → statement M
 put-tasks-spec =
     tie.close
-    (tie.spec
-    Inv-loop
-    μ-loop
-    add-k
-    loop-holds
-    sub-put-task
-    part-put-task-start
-    part-put-task-end
-    put-task-requires
-    add-p
-    add-k-2
-    add-k-3
-    add-t
-    loop-less
-    loop-again
-    same-length
-    returns)
+    (tie.spec Inv-loop μ-loop add-k add-k-2 loop-holds sub-put-task part-put-task-start part-put-task-end put-task-requires add-p add-k-3 add-k-4 add-k-5 add-t loop-less loop-again same-length returns)

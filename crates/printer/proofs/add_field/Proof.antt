@@ -1,13 +1,10 @@
--- A space, and the number behind it.
+-- The string, and the number behind it.
 -- Assumes nothing.
 use native.Mathlib.Omega.{arith}
-use Rattle.writer.proofs.Puts.{then}
+use Rattle.printer.proofs.Puts.{then}
 use borrow.Author.Needs.{needs}
-use Rattle.writer.proofs.add_spaced.Statement.{statement}
-use Rattle.writer.proofs.add_spaced.Tie as tie
-
-slice-aggregate-add-bytes : tie.Need-slice-aggregate-add-bytes
-slice-aggregate-add-bytes c = search needs
+use Rattle.printer.proofs.add_field.Statement.{statement}
+use Rattle.printer.proofs.add_field.Tie as tie
 
 add-bytes-requires : tie.Need-add-bytes-requires
 add-bytes-requires c κs = search needs
@@ -25,7 +22,7 @@ returns c =
     let a = b .before .before .before .before in
     then (omega (arith, a .pre)) (b .add-bytes .ensures) (n .add-number .ensures)
 
-pub add-spaced-spec : {M : Type 1} → statement M
-add-spaced-spec =
+pub add-field-spec : {M : Type 1} → statement M
+add-field-spec =
     tie.close
-    (tie.spec slice-aggregate-add-bytes add-bytes-requires add-number-requires same-length returns)
+    (tie.spec add-bytes-requires add-number-requires same-length returns)

@@ -3,10 +3,10 @@
 use native.Mathlib.Omega.{arith}
 use denote.Ref.{now}
 use Rattle.text.specs.Text.{decimal}
-use Rattle.writer.proofs.Puts.{lent}
+use Rattle.printer.proofs.Puts.{lent}
 use borrow.Author.Needs.{needs}
-use Rattle.writer.proofs.add_number.Statement.{statement}
-use Rattle.writer.proofs.add_number.Tie as tie
+use Rattle.printer.proofs.add_number.Statement.{statement}
+use Rattle.printer.proofs.add_number.Tie as tie
 
 sub-put-number : tie.Need-sub-put-number
 sub-put-number c = search needs

@@ -4,16 +4,16 @@ use native.Mathlib.Omega.{arith}
 use borrow.Author.Needs.{needs}
 use denote.Ref.{now}
 use lib.ListN.{length, length-set}
-use Rattle.writer.proofs.Rows.{length-small, length-large}
-use Rattle.writer.proofs.Puts.{put-small, put-large}
+use Rattle.printer.proofs.Puts.{length-small, length-large}
+use Rattle.printer.proofs.Puts.{put-small, put-large}
 use Prim.Native.Nat.{ℕ, _<_}
 use borrow.Fn.Kinds.{In}
 use borrow.Fn.PlainCycle.{Measures, is, falls, and}
-use Rattle.writer.proofs.put_number.Reads as put-number
-use Rattle.writer.proofs.put_number.Kinds as put-number-kinds
-use Rattle.writer.proofs.+put_number.Lts-put_number as put-number-lts
-use Rattle.writer.proofs.+put_number.{statement}
-use Rattle.writer.proofs.+put_number.Tie.{close}
+use Rattle.printer.proofs.put_number.Reads as put-number
+use Rattle.printer.proofs.put_number.Kinds as put-number-kinds
+use Rattle.printer.proofs.+put_number.Lts-put_number as put-number-lts
+use Rattle.printer.proofs.+put_number.{statement}
+use Rattle.printer.proofs.+put_number.Tie.{close}
 
 abbrev μ-put-number : Measures 1 put-number-kinds.ps ℕ
 μ-put-number κs a = a .1 .0

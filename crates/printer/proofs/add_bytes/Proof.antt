@@ -2,10 +2,10 @@
 -- Assumes nothing.
 use native.Mathlib.Omega.{arith}
 use denote.Ref.{now}
-use Rattle.writer.proofs.Puts.{lent}
+use Rattle.printer.proofs.Puts.{lent}
 use borrow.Author.Needs.{needs}
-use Rattle.writer.proofs.add_bytes.Statement.{statement}
-use Rattle.writer.proofs.add_bytes.Tie as tie
+use Rattle.printer.proofs.add_bytes.Statement.{statement}
+use Rattle.printer.proofs.add_bytes.Tie as tie
 
 sub-put-bytes : tie.Need-sub-put-bytes
 sub-put-bytes c = search needs

@@ -1,27 +1,9 @@
 -- What the functions below the writer's call take and give. Not part of what a reader must believe: the call's own contract names none of it.
 use Prim.Native.Nat.{ℕ, _+_, _≤_}
-use mathlib.Core.Path.{_≡_}
 use mathlib.Core.List.{List, _++_}
-use lib.ListN.{length, take, drop}
+use lib.ListN.{length}
 use Rattle.taskset.specs.Words.{word, listHead, listExtra, slack, periodPlace}
 use Rattle.text.specs.Text.{TaskLine, bytes, decimal, joined, spaced, taskText, each}
-
--- xs at the front of d, and the rest of d as it was.
-unfoldable pub placed : List ℕ → List ℕ → List ℕ
-placed xs d = xs ++ drop (length xs) d
-
--- xs from a place of d on, and all else as it was.
-unfoldable pub written : ℕ → List ℕ → List ℕ → List ℕ
-written at xs d = take at d ++ placed xs (drop at d)
-
--- d is the buffer as lent, d′ as given back, n the number returned: how many bytes, or the place after them.
-pub record Put (xs d d′ : List ℕ) (n : ℕ) : Type 0 where
-  pub size : n ≡ length xs
-  pub is : d′ ≡ placed xs d
-
-pub record Added (at : ℕ) (xs d d′ : List ℕ) (n : ℕ) : Type 0 where
-  pub size : n ≡ at + length xs
-  pub is : d′ ≡ written at xs d
 
 -- The n words from place k on, each behind a space.
 unfoldable pub row : List ℕ → ℕ → ℕ → List ℕ
@@ -29,7 +11,7 @@ row w k n = joined spaced (each (λ i. word w (k + i)) 0 n)
 
 -- The line of the task whose words stand from place k on, with m energies.
 abbrev pub lineAt : List ℕ → ℕ → ℕ → TaskLine
-lineAt w k m = record { period = word w k; cycles = word w (k + 1); energies = each (λ i. word w (k + 2 + i)) 0 m }
+lineAt w k m = record { period = word w k; cycles = word w (k + 1); energies = each (λ i. word w (k + (2 + listExtra) + i)) 0 m }
 
 unfoldable pub line : List ℕ → ℕ → ℕ → List ℕ
 line w k m = taskText (lineAt w k m)
@@ -39,7 +21,7 @@ unfoldable pub lines : List ℕ → ℕ → ℕ → List ℕ
 lines w m n = joined (λ (t : ℕ). line w (periodPlace listHead listExtra m t) m) (each (λ (t : ℕ). t) 0 n)
 
 unfoldable pub whole : List ℕ → ℕ → ℕ → List ℕ
-whole w m n = bytes "(slack " ++ (decimal (slack w) ++ (bytes ")\n(rates" ++ (row w 2 m ++ (bytes ")\n" ++ lines w m n))))
+whole w m n = bytes "(slack " ++ (decimal (slack w) ++ (bytes ")\n(rates" ++ (row w (listHead + 1) m ++ (bytes ")\n" ++ lines w m n))))
 
 -- A list that has the words of m rates and n tasks.
 pub record Given (w : List ℕ) (m n : ℕ) : Type 0 where

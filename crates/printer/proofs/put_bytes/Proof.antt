@@ -8,10 +8,9 @@ use native.Mathlib.Numerals.{add-one}
 use denote.Ref.{now}
 use lib.ListN.{length, getD, set, take, length-set}
 use lib.Seq.{length-take-le, take-suc, take-length}
-use Rattle.writer.specs.Puts.{placed}
-use Rattle.writer.proofs.Puts.{placed-none, placed-one}
-use Rattle.writer.proofs.put_bytes.Statement.{statement}
-use Rattle.writer.proofs.put_bytes.Tie as tie
+use Rattle.text.proofs.Writing.{placed, placed-none, placed-one}
+use Rattle.printer.proofs.put_bytes.Statement.{statement}
+use Rattle.printer.proofs.put_bytes.Tie as tie
 
 abbrev Inv-loop : tie.InvT-loop
 Inv-loop buf₀ l i₀ buf i = (i ≤ length l) × (length buf ≡ length buf₀) × (buf ≡ placed (take i l) buf₀)

@@ -6,9 +6,9 @@ use native.Mathlib.Omega.{arith}
 use lib.ListN.{length}
 use Rattle.text.specs.Text.{decimal}
 use Rattle.text.proofs.Sizes.{decimal-length}
-use Rattle.writer.proofs.Rows.{length-small, length-large}
-use Rattle.writer.proofs.count_number.Statement.{statement}
-use Rattle.writer.proofs.count_number.Tie as tie
+use Rattle.printer.proofs.Puts.{length-small, length-large}
+use Rattle.printer.proofs.count_number.Statement.{statement}
+use Rattle.printer.proofs.count_number.Tie as tie
 
 abbrev Inv-loop : tie.InvT-loop
 Inv-loop v x₀ c₀ x c = (x ≤ v) × (1 ≤ c) × (c + length (decimal x) ≡ length (decimal v) + 1)
