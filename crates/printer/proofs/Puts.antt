@@ -65,13 +65,14 @@ added-length {xs} {d} {e} {at} {n} h a = ap length (a .is) ∙ length-written xs
 pub front : {xs d e : List ℕ} {n : ℕ} → Added 0 xs d e n → Put xs d e n
 front {xs} {d} a = record { size = omega (arith, a .size); is = a .is ∙ written-front xs d }
 
--- The text so far at the front of a buffer that is as long as it was.
-pub record Part (xs d e : List ℕ) (n : ℕ) : Type 0 where
-  pub added : Added 0 xs d e n
+-- The text so far, from a place of a buffer on that is as long as it was.
+pub record Part (at : ℕ) (xs d e : List ℕ) (n : ℕ) : Type 0 where
+  pub inside : at ≤ length d
+  pub added : Added at xs d e n
   pub same : length e ≡ length d
 
-pub begin : {xs d e : List ℕ} {n : ℕ} → Added 0 xs d e n → length e ≡ length d → Part xs d e n
-begin a s = record { added = a; same = s }
+pub begin : {xs d e : List ℕ} {at n : ℕ} → at ≤ length d → Added at xs d e n → length e ≡ length d → Part at xs d e n
+begin h a s = record { inside = h; added = a; same = s }
 
-pub go-on : {xs ys d e f : List ℕ} {n r : ℕ} → Part xs d e n → Added n ys e f r → length f ≡ length e → Part (xs ++ ys) d f r
-go-on p a s = record { added = then (omega arith) (p .added) a; same = s ∙ p .same }
+pub go-on : {xs ys d e f : List ℕ} {at n r : ℕ} → Part at xs d e n → Added n ys e f r → length f ≡ length e → Part at (xs ++ ys) d f r
+go-on p a s = record { inside = p .inside; added = then (p .inside) (p .added) a; same = s ∙ p .same }

@@ -22,8 +22,8 @@ s1 c = c .before .before .before .before .before .before
 abbrev x1 : tie.After-add-field → List ℕ
 x1 c = bytes "(slack " ++ decimal (slack (now (s1 c .args .w)))
 
-p1 : (c : tie.After-add-field) → Part (x1 c) (now (s1 c .args .buf)) (c .add-field .last .0) (c .add-field .result)
-p1 c = begin (c .add-field .ensures) (c .add-field .kept .0)
+p1 : (c : tie.After-add-field) → Part 0 (x1 c) (now (s1 c .args .buf)) (c .add-field .last .0) (c .add-field .result)
+p1 c = begin (omega arith) (c .add-field .ensures) (c .add-field .kept .0)
 
 abbrev s2 : tie.After-add-bytes → tie.Start
 s2 c = s1 (c .before .before .before .before .before)
@@ -31,7 +31,7 @@ s2 c = s1 (c .before .before .before .before .before)
 abbrev x2 : tie.After-add-bytes → List ℕ
 x2 c = x1 (c .before .before .before .before .before) ++ (bytes ")\n(rates")
 
-p2 : (c : tie.After-add-bytes) → Part (x2 c) (now (s2 c .args .buf)) (c .add-bytes .last .0) (c .add-bytes .result)
+p2 : (c : tie.After-add-bytes) → Part 0 (x2 c) (now (s2 c .args .buf)) (c .add-bytes .last .0) (c .add-bytes .result)
 p2 c = go-on (p1 (c .before .before .before .before .before)) (c .add-bytes .ensures) (c .add-bytes .kept .0)
 
 abbrev s3 : tie.After-add-numbers → tie.Start
@@ -40,7 +40,7 @@ s3 c = s2 (c .before .before .before .before)
 abbrev x3 : tie.After-add-numbers → List ℕ
 x3 c = x2 (c .before .before .before .before) ++ (row (now (s3 c .args .w)) 2 (s3 c .args .m))
 
-p3 : (c : tie.After-add-numbers) → Part (x3 c) (now (s3 c .args .buf)) (c .add-numbers .last .0) (c .add-numbers .result)
+p3 : (c : tie.After-add-numbers) → Part 0 (x3 c) (now (s3 c .args .buf)) (c .add-numbers .last .0) (c .add-numbers .result)
 p3 c = go-on (p2 (c .before .before .before .before)) (c .add-numbers .ensures) (c .add-numbers .kept .0)
 
 abbrev s4 : tie.After-add-bytes2 → tie.Start
@@ -49,7 +49,7 @@ s4 c = s3 (c .before .before .before .before .before)
 abbrev x4 : tie.After-add-bytes2 → List ℕ
 x4 c = x3 (c .before .before .before .before .before) ++ (bytes ")\n")
 
-p4 : (c : tie.After-add-bytes2) → Part (x4 c) (now (s4 c .args .buf)) (c .add-bytes2 .last .0) (c .add-bytes2 .result)
+p4 : (c : tie.After-add-bytes2) → Part 0 (x4 c) (now (s4 c .args .buf)) (c .add-bytes2 .last .0) (c .add-bytes2 .result)
 p4 c = go-on (p3 (c .before .before .before .before .before)) (c .add-bytes2 .ensures) (c .add-bytes2 .kept .0)
 
 is-whole : (c : tie.After-add-bytes2) → x4 c ++ lines (now (s4 c .args .w)) (s4 c .args .m) (s4 c .args .n) ≡ whole (now (s4 c .args .w)) (s4 c .args .m) (s4 c .args .n)
