@@ -3,14 +3,14 @@
 -- exactly when no plan keeps every deadline for ever. All of it is judged by the endless walk.
 -- Assumes nothing.
 use Prim.Native.Nat.{ℕ, _+_, _≤_, _<_}
-use mathlib.Core.Path.{_≡_, refl, subst}
-use mathlib.Core.Bool.{true, false}
+use mathlib.Core.Path.{_≡_, refl, sym, subst, _∙_}
+use mathlib.Core.Bool.{true, false, true≢false}
 use mathlib.Core.List.{List, [], _∷_, _++_}
 use mathlib.Core.Logic.{inl, inr, ⊎-elim, _↔_}
 use native.Mathlib.Omega.{arith}
 use lib.ListN.{length, getD}
 use Rattle.numbers.specs.Numbers.{between}
-use Rattle.numbers.proofs.Tests.{bool-cases, lt-or-le, between-true}
+use Rattle.numbers.proofs.Tests.{bool-cases, lt-or-le, between-true, true-between}
 use Rattle.schedule.specs.Walk.{KeepsForEver}
 use Rattle.schedule.specs.Counted.{Outcome, IsKept, walk, kept, missed}
 use Rattle.schedule.proofs.Finite.{kept-iff-keeps, kept-counts}
@@ -114,7 +114,7 @@ module _ (s plan work : List ℕ) where
 
 -- ---- the walk's answer
 -- An outcome is known by its values.
-outcome-kept : (o : Outcome) (b i p : ℕ) → 1 ∷ b ∷ i ∷ p ∷ [] ≡ outcomeValues o → o ≡ kept b i p
+pub outcome-kept : (o : Outcome) (b i p : ℕ) → 1 ∷ b ∷ i ∷ p ∷ [] ≡ outcomeValues o → o ≡ kept b i p
 outcome-kept (kept b′ i′ p′) b i p e = cc
 outcome-kept (missed t k) b i p e = let z : _≡_ {A = ℕ} 1 0 = cc in absurd (omega arith)
 
@@ -151,6 +151,17 @@ plan-of s P pass =
         (λ (e : between 1 (rateCount listHead s) (getD P t 0) ≡ true). between-true 1 (rateCount listHead s) (getD P t 0) e)
         (λ (e : between 1 (rateCount listHead s) (getD P t 0) ≡ false). absurd (none t (inl (omega (arith, size), e))))
         (bool-cases (between 1 (rateCount listHead s) (getD P t 0)))
+
+-- And such a plan has no fault.
+pub sound-plan : (s P : List ℕ) → IsPlan (problem s) P → (k : ℕ) → IsBadPlan (rateCount listHead s) (taskCount listHead s) P k → ⊥
+sound-plan s P p k bad =
+    ⊎-elim
+    (λ (x : (k < length P) × (between 1 (rateCount listHead s) (getD P k 0) ≡ false)).
+    true≢false (sym (true-between 1 (rateCount listHead s) (getD P k 0) (p .above k (omega (arith, x .0, p .size))) (p .below k (omega (arith, x .0, p .size)))) ∙ x .1))
+    (⊎-elim
+    (λ (x : (k ≡ length P) × (length P < taskCount listHead s)). omega (arith, x .1, p .size))
+    (λ (x : (k ≡ taskCount listHead s) × (taskCount listHead s < length P)). omega (arith, x .1, p .size)))
+    (bad .here)
 
 -- Whatever meets the walk's definition keeps what the walk owes.
 pub walk-owes : (s P : List ℕ) (a : WalkAnswer) → WalkAnswers s P a → WalkOwes s P a

@@ -91,7 +91,7 @@ pub record SameGiven (a b : PlannerAnswer) (plan₁ work₁ plan₂ work₂ : Li
   pub plan : plan₁ ≡ plan₂
   pub work : work₁ ≡ work₂
 
-selected-unique : (s P Q v w : List ℕ) → Selected s P v → Selected s Q w → (P ≡ Q) × (v ≡ w)
+pub selected-unique : (s P Q v w : List ℕ) → Selected s P v → Selected s Q w → (P ≡ Q) × (v ≡ w)
 selected-unique s P Q v w x y =
     let same = planned-unique (Fitting (problem s)) (problem s) (λ R f. f .plan .size) (slack s) (x .exponent) (y .exponent) P Q (x .planned) (y .planned) in
     (same .1, x .values-are ∙ cc (same .0, same .1) ∙ sym (y .values-are))

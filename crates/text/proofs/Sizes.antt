@@ -1,16 +1,16 @@
 -- How long a text can be: every well-formed text is under 5,000 bytes.
 -- Assumes nothing.
 use Prim.Native.Nat.{ℕ, zero, suc, _*_, _/_, _%_, _^_, _+_, _≤_, _<_}
-use mathlib.Core.Path.{subst}
+use mathlib.Core.Path.{_≡_, subst}
 use mathlib.Core.List.{List, [], _∷_, _++_}
 use mathlib.Core.Bool.{Bool, true, false, cond}
-use native.Mathlib.Nat.{suc-mul, pow-suc}
+use native.Mathlib.Nat.{suc-mul, pow-suc, mul-le-mul}
 use native.Mathlib.Omega.{arith}
 use lib.ListN.{length, length-append}
 use lib.Dec.{ltb}
 use borrow.Author.Tests.{lt-ltb}
 use Rattle.numbers.specs.Numbers.{All}
-use Rattle.text.specs.Text.{TaskLine, Script, digits, decimal, joined, spaced, taskText, scriptText, Word, TaskLineOk, ScriptOk, IsTextOf}
+use Rattle.text.specs.Text.{TaskLine, Script, digits, decimal, joined, spaced, taskText, scriptText, taskWords, words, Word, TaskLineOk, ScriptOk, IsTextOf}
 
 digits-length : (k n : ℕ) → length (digits k n) ≤ k
 unfolding digits
@@ -65,6 +65,20 @@ script-length s k =
     let t = joined-length taskText (TaskLineOk (length (s .rates))) 144 (λ x. task-length (length (s .rates)) x (k .rates .most)) (s .tasks) (k .tasks .each) in
     let n = k .tasks .most in
     simp length-append (omega arith)
+
+-- A set's list has at most 331 words: that is the reader's own list.
+words-of-tasks : (m : ℕ) (ts : List TaskLine) → All (TaskLineOk m) ts → length (joined taskWords ts) ≡ length ts * (2 + m)
+words-of-tasks m [] a = omega arith
+words-of-tasks m (t ∷ ts) a =
+    let e = a .0 .energies in
+    rw length-append (omega (arith, e .least, e .most, words-of-tasks m ts (a .1), suc-mul (length ts) (2 + m)))
+
+pub words-length : (s : Script) → ScriptOk s → length (words s) ≤ 331
+unfolding words
+words-length s k =
+    let n = words-of-tasks (length (s .rates)) (s .tasks) (k .tasks .each) in
+    let small = mul-le-mul {n₁ = length (s .tasks)} {m₁ = 2 + length (s .rates)} {n₂ = 32} {m₂ = 10} (k .tasks .most) (omega (arith, k .rates .most)) in
+    rw length-append (omega (arith, n, small, k .rates .most))
 
 pub text-length : (s : Script) (t : List ℕ) → IsTextOf s t → length t < 5000
 text-length s t h = subst (λ (u : List ℕ). length u < 5000) (h .text) (script-length s (h .script))
