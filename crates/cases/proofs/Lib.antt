@@ -1,3 +1,4 @@
 pub mod Digits
 pub mod Parts
 pub mod Texts
+pub mod Copies

@@ -1,14 +1,15 @@
 -- Texts put into a buffer one behind the other, and how long they are.
 -- Assumes nothing.
-use Prim.Native.Nat.{ℕ, _+_, _*_, _≤_, _<_}
-use mathlib.Core.Path.{sym, _∙_}
+use Prim.Native.Nat.{ℕ, suc, _+_, _*_, _≤_, _<_}
+use mathlib.Core.Path.{_≡_, refl, sym, ap, _∙_}
+use mathlib.Core.Bool.{Bool, false, true}
 use mathlib.Core.List.{List, [], _∷_, _++_, append-assoc, append-nil}
 use native.Mathlib.Omega.{arith}
 use native.Mathlib.Numerals.{add-one}
 use lib.ListN.{length, getD, take, length-append}
 use lib.Seq.{take-suc}
 use Rattle.cases.specs.Decimal.{decimal, spaced}
-use Rattle.cases.specs.Answers.{bytes, Put, refusedText, checkedText, walkedText, plannedText}
+use Rattle.cases.specs.Answers.{bytes, Put, swapped, swappedAll, refusedText, checkedText, walkedText, plannedText, readText, wroteText, stayedText}
 use Rattle.cases.proofs.Digits.{decimal-short}
 use Rattle.cases.proofs.Parts.{spaced-more}
 use Rattle.taskset.specs.Refusals.{number, second}
@@ -19,6 +20,8 @@ use Rattle.taskset.specs.declared.WalkAnswer.{WalkAnswer}
 use Rattle.taskset.specs.declared.WalkAnswer.the-variants.{Kept, Missed, Refused as NotWalked}
 use Rattle.taskset.specs.declared.PlannerAnswer.{PlannerAnswer}
 use Rattle.taskset.specs.declared.PlannerAnswer.the-variants.{Planned, Refused as NotPlanned}
+use Rattle.taskset.specs.declared.CopyAnswer.{CopyAnswer}
+use Rattle.taskset.specs.declared.CopyAnswer.the-variants.{Wrote, Refused as NotCopied}
 
 -- A text behind another, and none at all.
 pub put-then : {t u : List ℕ} {at m r : ℕ} {old mid new : List ℕ} → Put t at old m mid → Put u m mid r new → Put (t ++ u) at old r new
@@ -29,6 +32,19 @@ put-then {t} {u} {at} {m} {r} {old} {mid} {new} p q = record {
 
 pub put-none : (at : ℕ) (d : List ℕ) → Put [] at d at d
 put-none at d = record { ends = omega arith; is = sym (append-nil (take at d)) }
+
+-- Bytes with one byte put for another: as many as before, and one more of them.
+pub swapped-length : (from to : ℕ) (xs : List ℕ) → length (swappedAll from to xs) ≡ length xs
+swapped-length from to [] = refl
+swapped-length from to (x ∷ xs) = ap suc (swapped-length from to xs)
+
+swapped-behind : (from to : ℕ) (xs ys : List ℕ) → swappedAll from to (xs ++ ys) ≡ swappedAll from to xs ++ swappedAll from to ys
+swapped-behind from to [] ys = refl
+swapped-behind from to (x ∷ xs) ys = ap (λ (l : List ℕ). swapped from to x ∷ l) (swapped-behind from to xs ys)
+
+pub swapped-more : (from to : ℕ) (xs : List ℕ) (i : ℕ) → i < length xs
+    → swappedAll from to (take (suc i) xs) ≡ swappedAll from to (take i xs) ++ (swapped from to (getD xs i 0) ∷ [])
+swapped-more from to xs i h = rw (take-suc xs i 0 h) (swapped-behind from to (take i xs) (getD xs i 0 ∷ []))
 
 -- One number more of several.
 pub put-more : {at n r : ℕ} {old mid new : List ℕ} (xs : List ℕ) (i : ℕ) → i < length xs → Put (spaced (take i xs)) at old n mid
@@ -57,3 +73,21 @@ planned-short (Planned unit load hyper energy) rates =
     let said = unit ∷ load ∷ hyper ∷ energy ∷ [] in
     rw (length-append (bytes " planned" ++ spaced said) (spaced rates)) (omega (arith, spaced-short said, spaced-short rates))
 planned-short (NotPlanned f) rates = omega (arith, refused-short f)
+
+pub read-short : (a : CopyAnswer) (words : List ℕ) → length (readText a words) ≤ 71 + 21 * length words
+read-short (Wrote n) words =
+    let said = n ∷ [] in
+    rw (length-append (bytes " read" ++ spaced said) (spaced words)) (omega (arith, spaced-short said, spaced-short words))
+read-short (NotCopied f) words = omega (arith, refused-short f)
+
+pub wrote-short : (a : CopyAnswer) (text : List ℕ) → length (wroteText a text) ≤ 71 + length text
+wrote-short (Wrote n) text =
+    let said = n ∷ [] in
+    let front = (bytes " wrote" ++ spaced said) ++ bytes " " in
+    rw (length-append front (swappedAll 10 47 text))
+    (omega (arith, length-append (bytes " wrote" ++ spaced said) (bytes " "), spaced-short said, swapped-length 10 47 text))
+wrote-short (NotCopied f) text = omega (arith, refused-short f)
+
+pub stayed-short : (b : Bool) → length (stayedText b) ≤ 8
+stayed-short true = omega arith
+stayed-short false = omega arith

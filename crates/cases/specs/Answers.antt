@@ -4,7 +4,9 @@ use Prim.Native.Char.{code}
 use Prim.Native.String as Str
 use Prim.Native.String.{String}
 use mathlib.Core.Path.{_≡_}
+use mathlib.Core.Bool.{Bool, false, true, cond}
 use mathlib.Core.List.{List, [], _∷_, _++_}
+use lib.Dec.{eqb}
 use lib.ListN.{length, take}
 use Rattle.cases.specs.Decimal.{spaced}
 use Rattle.cases.specs.declared.Said.{Said}
@@ -17,6 +19,8 @@ use Rattle.taskset.specs.declared.WalkAnswer.{WalkAnswer}
 use Rattle.taskset.specs.declared.WalkAnswer.the-variants.{Kept, Missed, Refused as NotWalked}
 use Rattle.taskset.specs.declared.PlannerAnswer.{PlannerAnswer}
 use Rattle.taskset.specs.declared.PlannerAnswer.the-variants.{Planned, Refused as NotPlanned}
+use Rattle.taskset.specs.declared.CopyAnswer.{CopyAnswer}
+use Rattle.taskset.specs.declared.CopyAnswer.the-variants.{Wrote, Refused as NotCopied}
 
 -- The bytes of a text of ASCII characters.
 abbrev pub bytes : String → List ℕ
@@ -39,6 +43,33 @@ walkedText (NotWalked f) = refusedText f
 abbrev pub plannedText : PlannerAnswer → List ℕ → List ℕ
 plannedText (Planned unit load hyper energy) rates = (bytes " planned" ++ spaced (unit ∷ load ∷ hyper ∷ energy ∷ [])) ++ spaced rates
 plannedText (NotPlanned f) rates = refusedText f
+
+-- A byte, with one byte put for another; and the bytes of a text.
+abbrev pub swapped : ℕ → ℕ → ℕ → ℕ
+swapped from to b = cond (eqb b from) to b
+
+abbrev pub swappedAll : ℕ → ℕ → List ℕ → List ℕ
+swappedAll from to [] = []
+swappedAll from to (b ∷ bs) = swapped from to b ∷ swappedAll from to bs
+
+-- How many words or bytes the reader or the writer wrote.
+abbrev pub count : CopyAnswer → ℕ
+count (Wrote n) = n
+count (NotCopied f) = 0
+
+abbrev pub readText : CopyAnswer → List ℕ → List ℕ
+readText (Wrote n) words = (bytes " read" ++ spaced (n ∷ [])) ++ spaced words
+readText (NotCopied f) words = refusedText f
+
+-- `/`, byte 47, stands for byte 10.
+abbrev pub wroteText : CopyAnswer → List ℕ → List ℕ
+wroteText (Wrote n) text = ((bytes " wrote" ++ spaced (n ∷ [])) ++ bytes " ") ++ swappedAll 10 47 text
+wroteText (NotCopied f) text = refusedText f
+
+-- What stands behind either answer.
+abbrev pub stayedText : Bool → List ℕ
+stayedText true = []
+stayedText false = bytes " changed"
 
 -- The text stands in the buffer `new` from `at` to r, and before it is what the buffer `old` has there.
 pub record Put (text : List ℕ) (at : ℕ) (old : List ℕ) (r : ℕ) (new : List ℕ) : Type 0 where

@@ -2,9 +2,10 @@
 use Prim.Native.Nat.{ℕ, _+_, _≤_, _<_}
 use mathlib.Core.Path.{_≡_}
 use mathlib.Core.List.{List, _∷_, _++_}
-use lib.ListN.{length, getD, take}
+use lib.ListN.{length, getD, take, drop}
 use lib.Seq.{slice}
 use Rattle.cases.specs.Decimal.{decimal, spaced}
+use Rattle.cases.specs.Answers.{swappedAll}
 use Rattle.cases.specs.declared.items.Value.{Value}
 use Rattle.cases.specs.declared.items.Value.the-variants.{Is, No}
 use Rattle.cases.specs.declared.items.Counted.{Counted}
@@ -48,3 +49,8 @@ NumbersAt s at k d NotCounted = Unit {0}
 abbrev pub ListAt : List ℕ → ℕ → ℕ → List ℕ → Counted → Type 0
 ListAt s at most d (Of n next) = (n ≤ most) × (n ≤ length d) × Stands s at next (spaced (n ∷ take n d))
 ListAt s at most d NotCounted = Unit {0}
+
+-- A space and a text, which is all the rest: the first n bytes of the list d, with byte 10 for each `/`, byte 47.
+abbrev pub TextAt : List ℕ → ℕ → List ℕ → Counted → Type 0
+TextAt s at d (Of n next) = (getD s at 0 ≡ 32) × (next ≡ length s) × (n ≤ length d) × (take n d ≡ swappedAll 47 10 (drop (at + 1) s))
+TextAt s at d NotCounted = Unit {0}

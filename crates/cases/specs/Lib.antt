@@ -1,4 +1,4 @@
 pub mod Decimal
+pub mod Answers
 pub mod Items
 pub mod Lines
-pub mod Answers

@@ -1,8 +1,9 @@
-// The items of a record: a name, numbers, and lists of numbers. A number is read with the one space in front of it, so that no place
+// The items of a record: a name, numbers, lists of numbers, and a text. A number is read with the one space in front of it, so that no place
 // needs a test for what separates items.
+use crate::print;
 ghost use Prim.Native.Nat.{_≤_, _<_};
 ghost use lib.ListN.{length};
-ghost use Rattle.cases.specs.Items.{ItemEnd, DigitAt, MoreAt, NumberAt, NumbersAt, ListAt};
+ghost use Rattle.cases.specs.Items.{ItemEnd, DigitAt, MoreAt, NumberAt, NumbersAt, ListAt, TextAt};
 
 // A number and the place after it.
 pub(crate) enum Value {
@@ -120,4 +121,22 @@ pub(crate) fn list(s: &[u8], at: usize, most: usize, out: &mut [u32; 400]) -> Co
         return Counted::No;
     }
     numbers(s, next, count, out)
+}
+
+// A space and a text, to the front of a list: all that is left of the record, with byte 10 for each `/`.
+pub(crate) fn text(s: &[u8], at: usize, out: &mut [u8; 8192]) -> Counted
+    ensures { λ r. ⌜ TextAt (now (s .entry)) at (now (out .exit)) r ⌝ }
+{
+    if s.len() <= at {
+        return Counted::No;
+    }
+    if s[at] != 32 {
+        return Counted::No;
+    }
+    let start = at + 1;
+    if s.len() - start > 8192 {
+        return Counted::No;
+    }
+    let n = print::put_swapped(out, 0, &s[start..], b'/', b'\n');
+    Counted::Of(n, s.len())
 }

@@ -4,28 +4,36 @@
 //     c NAME K w1 .. wK                 check_set on the K words
 //     w NAME K w1 .. wK J p1 .. pJ      the walk on the K words and the J words of a plan
 //     p NAME K w1 .. wK J A             the planner on the K words, with J words lent for the plan and A working words
+//     r NAME J TEXT                     the reader on the text, with J words lent
+//     t NAME K w1 .. wK J               the writer on the K words, with J bytes lent
 // Their lines:
 //     NAME good RATES TASKS HYPER       of check_set
 //     NAME kept BUSY IDLE PREEMPTED     of the walk
 //     NAME missed TICK TASK             of the walk
 //     NAME planned UNIT LOAD HYPER ENERGY r1 .. rN      of the planner
+//     NAME read N w1 .. wN              of the reader
+//     NAME wrote N TEXT                 of the writer
 //     NAME refused NUMBER SECOND        of each
 //
-// One space stands between items. A name has 1 to 40 bytes, K is at most 400, J at most 40 for the walk and 64 for the planner, and A
-// at most 16384. A line that is no such record gets `bad record`, and no further line is read. A further kind is a function like
-// check_record, and an arm of answer.
+// One space stands between items. A name has 1 to 40 bytes, K is at most 400, and A at most 16384. J is at most 40 for the walk, 64 for
+// the planner, 400 for the reader and 8192 for the writer. A text is all that stands behind its space, at most 8192 bytes, also none;
+// `/` stands for byte 10 in it, which no line can hold. A line of the reader or the writer ends with ` changed` where the call has
+// changed what it must leave as it was: what lies after the N-th word or byte, or anything, where it refused. A line that is no such
+// record gets `bad record`, and no further line is read. A further kind is a function like check_record, and an arm of answer.
 mod input;
 mod items;
 mod print;
 
+ghost use mathlib.Core.Path.{_≡_};
 ghost use Prim.Native.Nat.{_≤_};
 ghost use lib.ListN.{length};
-ghost use Rattle.cases.specs.Answers.{SaidFits};
+ghost use Rattle.cases.specs.Answers.{SaidFits, count};
 use input::Line;
 use input::Window;
 use items::Counted;
 use items::Value;
 use libc::STDOUT_FILENO;
+use taskset::CopyAnswer;
 use taskset::LIST_EXTRA;
 use taskset::LIST_HEAD;
 
@@ -119,6 +127,90 @@ fn plan_record(s: &[u8], at: usize, out: &mut [u8; 65536], n: usize) -> Said
     Said::Line(print::put_planned(out, n, p, &plan[..t]))
 }
 
+// How many words or bytes the reader or the writer says that it wrote.
+fn copied(a: CopyAnswer) -> usize
+    ensures { λ r. ⌜ r ≡ count a ⌝ }
+{
+    match a {
+        CopyAnswer::Wrote(n) => n,
+        CopyAnswer::Refused(_) => 0,
+    }
+}
+
+// Whether the words from a place on hold what they held before a call.
+fn words_stay(words: &[u32], from: usize) -> bool {
+    let mut i = from;
+    while i < words.len() {
+        if words[i] != 7 {
+            return false;
+        }
+        i += 1;
+    }
+    true
+}
+
+// The same of bytes.
+fn bytes_stay(text: &[u8], from: usize) -> bool {
+    let mut i = from;
+    while i < text.len() {
+        if text[i] != 7 {
+            return false;
+        }
+        i += 1;
+    }
+    true
+}
+
+// A record for the reader: how many words are lent, and a text. The words hold 7 before the call, also those that are not lent, so that
+// a word that the call must not write shows when it does.
+fn read_record(s: &[u8], at: usize, out: &mut [u8; 65536], n: usize) -> Said
+    requires { ⌜ n ≤ 40 ⌝ }
+    ensures { λ r. ⌜ SaidFits r ⌝ }
+{
+    let Value::Is(j, next) = items::number(s, at) else {
+        return Said::Bad;
+    };
+    if j > 400 {
+        return Said::Bad;
+    }
+    let mut text = [0u8; 8192];
+    let Counted::Of(m, _) = items::text(s, next, &mut text) else {
+        return Said::Bad;
+    };
+    let lent = j as usize;
+    let mut words = [7u32; 400];
+    let a = reader::read(&text[..m], &mut words[..lent]);
+    let t = copied(a);
+    let end = print::put_read(out, n, a, &words[..t]);
+    Said::Line(print::put_stayed(out, end, words_stay(&words, t)))
+}
+
+// A record for the writer: the list of a set, and how many bytes are lent. They hold 7 before the call, which no text has.
+fn write_record(s: &[u8], at: usize, out: &mut [u8; 65536], n: usize) -> Said
+    requires { ⌜ n ≤ 40 ⌝ }
+    ensures { λ r. ⌜ SaidFits r ⌝ }
+{
+    let mut words = [0u32; 400];
+    let Counted::Of(k, next) = items::list(s, at, 400, &mut words) else {
+        return Said::Bad;
+    };
+    let Value::Is(j, end) = items::number(s, next) else {
+        return Said::Bad;
+    };
+    if end < s.len() {
+        return Said::Bad;
+    }
+    if j > 8192 {
+        return Said::Bad;
+    }
+    let lent = j as usize;
+    let mut text = [7u8; 8192];
+    let a = writer::write(&words[..k], &mut text[..lent]);
+    let t = copied(a);
+    let behind = print::put_wrote(out, n, a, &text[..t]);
+    Said::Line(print::put_stayed(out, behind, bytes_stay(&text, t)))
+}
+
 // The line for a record: its name, and what its kind asks for.
 fn answer(s: &[u8], out: &mut [u8; 65536]) -> Said
     ensures { λ r. ⌜ SaidFits r ⌝ }
@@ -141,6 +233,8 @@ fn answer(s: &[u8], out: &mut [u8; 65536]) -> Said
         b'c' => check_record(s, end, out, n),
         b'w' => walk_record(s, end, out, n),
         b'p' => plan_record(s, end, out, n),
+        b'r' => read_record(s, end, out, n),
+        b't' => write_record(s, end, out, n),
         _ => Said::Bad,
     }
 }

@@ -2,6 +2,7 @@
 // the place after it. The buffer has room for far longer lines than those of the kinds below.
 use libc::STDOUT_FILENO;
 use taskset::Checked;
+use taskset::CopyAnswer;
 use taskset::PlannerAnswer;
 use taskset::Refusal;
 use taskset::WalkAnswer;
@@ -10,7 +11,7 @@ ghost use mathlib.Core.List.{_∷_, _++_};
 ghost use Prim.Native.Nat.{_+_, _*_, _≤_, _<_};
 ghost use lib.ListN.{length};
 ghost use Rattle.cases.specs.Decimal.{decimal, spaced};
-ghost use Rattle.cases.specs.Answers.{Put, refusedText, checkedText, walkedText, plannedText};
+ghost use Rattle.cases.specs.Answers.{Put, swapped, swappedAll, refusedText, checkedText, walkedText, plannedText, readText, wroteText, stayedText};
 ghost use Rattle.taskset.specs.Refusals.{number, second};
 
 // Copies a text.
@@ -21,6 +22,26 @@ pub(crate) fn put_text(out: &mut [u8], at: usize, text: &[u8]) -> usize
     let mut i = 0;
     while i < text.len() {
         out[at + i] = text[i];
+        i += 1;
+    }
+    at + i
+}
+
+// One byte put for another.
+fn swap(b: u8, from: u8, to: u8) -> u8
+    ensures { λ r. ⌜ r ≡ swapped from to b ⌝ }
+{
+    if b == from { to } else { b }
+}
+
+// Copies a text with one byte put for another: `/` stands for byte 10 in a record's line and in its answer's.
+pub(crate) fn put_swapped(out: &mut [u8], at: usize, text: &[u8], from: u8, to: u8) -> usize
+    requires { ⌜ at + length (now text) ≤ length (now out) ⌝ }
+    ensures { λ r. ⌜ Put (swappedAll from to (now (text .entry))) at (now (out .entry)) r (now (out .exit)) ⌝ }
+{
+    let mut i = 0;
+    while i < text.len() {
+        out[at + i] = swap(text[i], from, to);
         i += 1;
     }
     at + i
@@ -166,6 +187,47 @@ pub(crate) fn put_planned(
             put_words(out, n, rates)
         }
         PlannerAnswer::Refused(f) => put_refused(out, at, f),
+    }
+}
+
+// The answer of the reader, with the words that were read.
+pub(crate) fn put_read(out: &mut [u8; 65536], at: usize, a: CopyAnswer, words: &[u32]) -> usize
+    requires { ⌜ (at ≤ 40) × (length (now words) ≤ 400) ⌝ }
+    ensures { λ r. ⌜ Put (readText a (now (words .entry))) at (now (out .entry)) r (now (out .exit)) ⌝ }
+{
+    match a {
+        CopyAnswer::Wrote(n) => {
+            let m = put_said(out, at, b" read", &[n as u64]);
+            put_words(out, m, words)
+        }
+        CopyAnswer::Refused(f) => put_refused(out, at, f),
+    }
+}
+
+// The answer of the writer, with the text that was written.
+pub(crate) fn put_wrote(out: &mut [u8; 65536], at: usize, a: CopyAnswer, text: &[u8]) -> usize
+    requires { ⌜ (at ≤ 40) × (length (now text) ≤ 8192) ⌝ }
+    ensures { λ r. ⌜ Put (wroteText a (now (text .entry))) at (now (out .entry)) r (now (out .exit)) ⌝ }
+{
+    match a {
+        CopyAnswer::Wrote(n) => {
+            let m = put_said(out, at, b" wrote", &[n as u64]);
+            let k = put_text(out, m, b" ");
+            put_swapped(out, k, text, b'\n', b'/')
+        }
+        CopyAnswer::Refused(f) => put_refused(out, at, f),
+    }
+}
+
+// Says so, behind an answer, where a call has changed what it must leave as it was.
+pub(crate) fn put_stayed(out: &mut [u8; 65536], at: usize, stayed: bool) -> usize
+    requires { ⌜ at + 8 ≤ 65536 ⌝ }
+    ensures { λ r. ⌜ Put (stayedText stayed) at (now (out .entry)) r (now (out .exit)) ⌝ }
+{
+    if stayed {
+        at
+    } else {
+        put_text(out, at, b" changed")
     }
 }
 
