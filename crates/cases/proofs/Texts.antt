@@ -9,7 +9,8 @@ use native.Mathlib.Numerals.{add-one}
 use lib.ListN.{length, getD, take, length-append}
 use lib.Seq.{take-suc}
 use Rattle.cases.specs.Decimal.{decimal, spaced}
-use Rattle.cases.specs.Answers.{bytes, Put, swapped, swappedAll, refusedText, checkedText, walkedText, plannedText, readText, wroteText, stayedText}
+use Rattle.cases.specs.Answers.{bytes, Put, swapped, swappedAll}
+use Rattle.cases.specs.Answers.{refusedText, checkedText, walkedText, plannedText, readText, wroteText, stayedText}
 use Rattle.cases.proofs.Digits.{decimal-short}
 use Rattle.cases.proofs.Parts.{spaced-more}
 use Rattle.taskset.specs.Refusals.{number, second}
@@ -51,7 +52,8 @@ pub put-more : {at n r : ℕ} {old mid new : List ℕ} (xs : List ℕ) (i : ℕ)
     → Put (32 ∷ decimal (getD xs i 0)) n mid r new → Put (spaced (take (i + 1) xs)) at old r new
 put-more xs i h p q = rw (add-one i, take-suc xs i 0 h, spaced-more) (put-then p q)
 
--- A number takes at most 21 bytes with its space, an answer at most 71, and the planner's at most 92 before its rate numbers.
+-- A number takes at most 21 bytes with its space, an answer at most 71, and the planner's at most 92 before its rate numbers. The
+-- reader's and the writer's take at most 71 before words and text, and what may stand behind them 8.
 pub spaced-short : (xs : List ℕ) → length (spaced xs) ≤ 21 * length xs
 spaced-short [] = omega arith
 spaced-short (x ∷ xs) = rw (length-append (32 ∷ decimal x) (spaced xs)) (omega (arith, decimal-short x, spaced-short xs))

@@ -1,5 +1,5 @@
-// The items of a record: a name, numbers, lists of numbers, and a text. A number is read with the one space in front of it, so that no place
-// needs a test for what separates items.
+// The items of a record: a name, numbers, lists of numbers, and a text. A number is read with the one space in front of it, and so is a
+// text, so that no place needs a test for what separates items.
 use crate::print;
 ghost use Prim.Native.Nat.{_≤_, _<_};
 ghost use lib.ListN.{length};

@@ -137,7 +137,7 @@ fn copied(a: CopyAnswer) -> usize
     }
 }
 
-// Whether the words from a place on hold what they held before a call.
+// Whether the words from a place on hold 7, as they did before a call.
 fn words_stay(words: &[u32], from: usize) -> bool {
     let mut i = from;
     while i < words.len() {

@@ -11,7 +11,8 @@ ghost use mathlib.Core.List.{_∷_, _++_};
 ghost use Prim.Native.Nat.{_+_, _*_, _≤_, _<_};
 ghost use lib.ListN.{length};
 ghost use Rattle.cases.specs.Decimal.{decimal, spaced};
-ghost use Rattle.cases.specs.Answers.{Put, swapped, swappedAll, refusedText, checkedText, walkedText, plannedText, readText, wroteText, stayedText};
+ghost use Rattle.cases.specs.Answers.{Put, swapped, swappedAll};
+ghost use Rattle.cases.specs.Answers.{refusedText, checkedText, walkedText, plannedText, readText, wroteText, stayedText};
 ghost use Rattle.taskset.specs.Refusals.{number, second};
 
 // Copies a text.

@@ -42,8 +42,9 @@ read-fits c =
 abbrev words-read : tie.After-copied → List ℕ
 words-read c = take (c .copied .result) (left (c .before))
 
--- The name's bytes.
-named : (c : tie.After-known-told2) → let a = c .before .before .before .before .before .before in a .before .before .before .before .before .args .n ≤ 40
+-- The name has at most 40 bytes.
+named : (c : tie.After-known-told2) → let a = c .before .before .before .before .before .before in
+    a .before .before .before .before .before .args .n ≤ 40
 named c = let a = c .before .before .before .before .before .before in a .before .before .before .before .before .pre
 
 number-requires : tie.Need-number-requires
@@ -103,7 +104,10 @@ slice-aggregate-put-read c = sym (length-take-le _ _ (array-share-prefix-words (
 put-read-requires : tie.Need-put-read-requires
 put-read-requires c κs =
     let r = c .before .before in
-    (named (r .before .before .before .before .before), omega (arith, length-take-le (r .copied .result) (left (r .before)) (read-fits r), left-kept (r .before), read-fits r))
+    let h = read-fits r in (
+      named (r .before .before .before .before .before),
+      omega (arith, length-take-le (r .copied .result) (left (r .before)) h, left-kept (r .before)),
+    )
 
 -- Where the answer ends.
 answered : (c : tie.After-put-read) → c .put-read .result ≤ 8511

@@ -41,8 +41,9 @@ wrote-fits c =
 abbrev bytes-written : tie.After-copied → List ℕ
 bytes-written c = take (c .copied .result) (left (c .before))
 
--- The name's bytes.
-named : (c : tie.Else2) → let a = c .before .before .before .before .before .before in a .before .before .before .before .before .before .args .n ≤ 40
+-- The name has at most 40 bytes.
+named : (c : tie.Else2) → let a = c .before .before .before .before .before .before in
+    a .before .before .before .before .before .before .args .n ≤ 40
 named c = let a = c .before .before .before .before .before .before in a .before .before .before .before .before .before .pre
 
 list-requires : tie.Need-list-requires
@@ -105,7 +106,10 @@ slice-aggregate-put-wrote c = sym (length-take-le _ _ (array-share-prefix-text (
 put-wrote-requires : tie.Need-put-wrote-requires
 put-wrote-requires c κs =
     let r = c .before .before in
-    (named (r .before .before .before .before .before), omega (arith, length-take-le (r .copied .result) (left (r .before)) (wrote-fits r), left-kept (r .before), wrote-fits r))
+    let h = wrote-fits r in (
+      named (r .before .before .before .before .before),
+      omega (arith, length-take-le (r .copied .result) (left (r .before)) h, left-kept (r .before)),
+    )
 
 -- Where the answer ends.
 answered : (c : tie.After-put-wrote) → c .put-wrote .result ≤ 8303
