@@ -30,7 +30,8 @@ stands in the scope document, the answer is written here as well, and the
 reference must agree with it. A planner answer of a set with few plans is made
 in both of the reference's ways and judged by looking at every plan. Of every
 text a reader of the usual kind must say the same as the reference, which goes
-by the definition: which bytes begin some well-formed text.
+by the definition: which bytes begin some well-formed text. Words that were read
+or written are put into a text once more, in another way.
 
 The test program adds `changed` to an answer of the reader or the writer where
 the call left its memory other than it must. No answer here has it.
@@ -125,6 +126,7 @@ def read(name, text, lent=MOST_READ, want=None):
     departs = answer[2] if answer[:2] == ('refused', 1) else None
     assert plain_reader(text) == departs, name
     if answer[0] == 'read':
+        assert text_of(answer[1]) == text, name
         answer = was_read(answer[1])
     record('r', name, [], answer, want, (lent, on_a_line(text)))
 
@@ -133,6 +135,7 @@ def write(name, words, lent=MOST_WRITTEN, want=None):
     assert 0 <= lent <= MOST_WRITTEN, name
     answer = r.write_text(words, lent)
     if answer[0] == 'written':
+        assert text_of(words) == answer[1], name
         answer = wrote(answer[1])
     record('t', name, [words], answer, want, (lent,))
 
@@ -1951,13 +1954,15 @@ def random_lists():
         words = some_large(draw) if number % 25 == 0 else some_planned(draw)
         text = text_of(words)
         size, K = len(text), len(words)
-        lent = draw.one_of([size, size, size, size, size + 1, MOST_WRITTEN, size - 1, 0,
-                            draw.between(0, size)])
-        write('tl%04d' % number, words, lent,
-              wrote(text) if lent >= size else refused(6, size))
-        read('tl%04d-back' % number, text, draw.one_of([K, K, K + 1, MOST_READ]), was_read(words))
+        lent = draw.one_of([size, size, size + 1, MOST_WRITTEN])
+        name = 'tl%04d' % number
+        write(name, words, lent, wrote(text))
+        read(name + '-back', text, draw.one_of([K, K, K + 1, MOST_READ]), was_read(words))
         if number % 3 == 0:
-            write('tl%04d-damaged' % number, damaged(draw, words), lent)
+            write(name + '-damaged', damaged(draw, words), lent)
+        if number % 3 == 1:
+            short = draw.one_of([size - 1, 0, draw.between(0, size - 1)])
+            write(name + '-short', words, short, refused(6, size))
 
 
 # ---------------------------------------------------------- writing, comparing
