@@ -1,0 +1,977 @@
+/* Calls both entries of the archive many times and holds every answer, every lent word and what lies around the lists to
+   document 01, as reference.c reads it.
+
+       calls [SEED [RANDOM SETS]]
+
+   Prints how many calls of each kind there were. Ends with 0 if every call was as it should be and each kind came up often
+   enough, with 1 if not. The first call that departs is printed and ends the run.
+
+   The lists lie between guard bytes. What is lent as room is filled with something before the call, never the same twice, so that
+   a call that reads it, or that reads past a list, gives another answer than the reference.
+
+   Compiled with WITH_VALGRIND and run under it, the guards may not even be read, and the room counts as holding nothing. */
+
+#include <inttypes.h>
+#include <stdio.h>
+#include <stdlib.h>
+#include <string.h>
+
+#include "../../include/seedspell.h"
+#include "reference.h"
+#include "sets.h"
+
+#ifdef WITH_VALGRIND
+#include <valgrind/memcheck.h>
+#define FORBID(start, len) VALGRIND_MAKE_MEM_NOACCESS(start, len)
+#define ALLOW(start, len) VALGRIND_MAKE_MEM_DEFINED(start, len)
+#define HOLDS_NOTHING(start, len) VALGRIND_MAKE_MEM_UNDEFINED(start, len)
+#define MUST_HOLD(start, len) VALGRIND_CHECK_MEM_IS_DEFINED(start, len)
+#else
+#define FORBID(start, len) ((void)(start), (void)(len))
+#define ALLOW(start, len) ((void)(start), (void)(len))
+#define HOLDS_NOTHING(start, len) ((void)(start), (void)(len))
+#define MUST_HOLD(start, len) ((void)(start), (void)(len))
+#endif
+
+#define WORD sizeof(uint32_t)
+#define MOST_WORK (33 * 128001)         /* W of 32 tasks at slack 1 */
+#define GUARD 64                        /* bytes before and after a list, */
+#define SHIFT 16                        /* and up to so many more before it */
+#define LONG_CALLS 20                   /* at most so many with a hyper-period over SHORT_SPAN */
+
+enum entry { PLAN, WALK };
+
+struct call {
+    enum entry entry;
+    struct list set;                    /* set.len words lie in memory, */
+    size_t set_len;                     /* and so many of them are lent */
+    uint32_t plan[MOST_PLAN];           /* of the walk: its plan */
+    size_t plan_len, work_len, results_len;
+};
+
+/* ---- Counts */
+
+static struct {
+    uint64_t calls[2], refused[2][9], results_short[2];
+    uint64_t planned, kept, missed;
+    uint64_t unit_1, unit_above_1, highest_last, full_load, one_over, alike, both_ways, preempted, full_walk, missed_at_end;
+    uint64_t long_span;
+} count;
+
+struct row {
+    const char *name;
+    const uint64_t *count;
+    uint64_t least;                     /* fewer than this, and the run has tried too little to mean anything */
+};
+
+static const struct row rows[] = {
+    {"calls of seedspell_plan", &count.calls[PLAN], 80000},
+    {"  refused 2: bad word", &count.refused[PLAN][2], 10000},
+    {"  refused 3: rate not above", &count.refused[PLAN][3], 1000},
+    {"  refused 4: hyper-period", &count.refused[PLAN][4], 1000},
+    {"  refused 5: working list", &count.refused[PLAN][5], 1000},
+    {"  refused 6: receiving list", &count.refused[PLAN][6], 1000},
+    {"    of these the results", &count.results_short[PLAN], 500},
+    {"  refused 7: no plan fits", &count.refused[PLAN][7], 5000},
+    {"    of these load L + 1", &count.one_over, 500},
+    {"  plans", &count.planned, 20000},
+    {"    of load L", &count.full_load, 2000},
+    {"    unit 1", &count.unit_1, 1000},
+    {"    unit above 1", &count.unit_above_1, 1000},
+    {"    last task at highest rate", &count.highest_last, 2000},
+    {"    decided by rate numbers", &count.alike, 1000},
+    {"    reference asked both ways", &count.both_ways, 1000},
+    {"calls of seedspell_walk", &count.calls[WALK], 80000},
+    {"  refused 2: bad word", &count.refused[WALK][2], 10000},
+    {"  refused 3: rate not above", &count.refused[WALK][3], 1000},
+    {"  refused 4: hyper-period", &count.refused[WALK][4], 1000},
+    {"  refused 6: results", &count.refused[WALK][6], 1000},
+    {"  refused 8: bad plan", &count.refused[WALK][8], 5000},
+    {"  kept", &count.kept, 20000},
+    {"    with preemptions", &count.preempted, 2000},
+    {"    without idle ticks", &count.full_walk, 2000},
+    {"  missed", &count.missed, 20000},
+    {"    at the last tick", &count.missed_at_end, 1000},
+    {"hyper-period over 2,000", &count.long_span, 10},
+};
+#define ROWS (sizeof rows / sizeof *rows)
+
+static void count_call(const struct call *c, const struct answer *want)
+{
+    uint64_t refused = want->code >> 32;
+
+    count.calls[c->entry]++;
+    count.refused[c->entry][refused]++;
+    count.long_span += want->span > SHORT_SPAN;
+    count.results_short[c->entry] += want->code == ((uint64_t)6 << 32) + RESULT_BYTES && c->results_len < RESULT_BYTES;
+    if (c->entry == PLAN) {
+        count.one_over += refused == 7 && want->least_load == want->span + 1;
+        if (refused != 0)
+            return;
+        count.planned++;
+        count.full_load += want->value[1] == want->span;
+        count.unit_1 += want->value[0] == 1;
+        count.unit_above_1 += want->value[0] > 1;
+        count.highest_last += want->plan[want->plan_words - 1] == c->set.word[1];
+        count.alike += want->alike > 1;
+    } else if (refused == 0) {
+        count.kept += want->value[0] == 1;
+        count.preempted += want->value[0] == 1 && want->value[3] > 0;
+        count.full_walk += want->value[0] == 1 && want->value[2] == 0;
+        count.missed += want->value[0] == 0;
+        count.missed_at_end += want->value[0] == 0 && want->value[1] == want->span;
+    }
+}
+
+/* Prints every count; 1 if none is too low and no more calls than agreed were long ones. */
+static int enough(void)
+{
+    int good = 1;
+
+    for (size_t i = 0; i < ROWS; i++) {
+        int low = *rows[i].count < rows[i].least;
+        printf("%-32s %8" PRIu64 "%s\n", rows[i].name, *rows[i].count, low ? "  TOO FEW" : "");
+        good = good && !low;
+    }
+    if (count.long_span > LONG_CALLS) {
+        printf("more than %d calls have a hyper-period over %d\n", LONG_CALLS, SHORT_SPAN);
+        good = 0;
+    }
+    return good;
+}
+
+/* ---- Lists and what lies around them */
+
+/* Guard bytes, a list, guard bytes; and the same as it must be after the call. */
+struct area {
+    const char *name;
+    size_t size, room;                  /* bytes of an element; elements that the area can hold */
+    uint8_t *is, *must;
+    size_t start, len, total;           /* in bytes; start and len are the list's */
+};
+
+static struct area areas[] = {
+    {"set", WORD, MOST_WORDS, NULL, NULL, 0, 0, 0},
+    {"plan list", WORD, MOST_PLAN, NULL, NULL, 0, 0, 0},
+    {"working list", WORD, MOST_WORK + 8, NULL, NULL, 0, 0, 0},
+    {"results", 1, 64, NULL, NULL, 0, 0, 0},
+};
+enum { SET, PLAN_LIST, WORK, RESULTS, AREAS };
+
+static void make_areas(void)
+{
+    for (size_t a = 0; a < AREAS; a++) {
+        size_t bytes = 2 * GUARD + SHIFT + areas[a].room * areas[a].size;
+        areas[a].is = malloc(bytes);
+        areas[a].must = malloc(bytes);
+        if (areas[a].is == NULL || areas[a].must == NULL) {
+            fprintf(stderr, "calls: no memory\n");
+            exit(2);
+        }
+    }
+}
+
+/* What room holds before a call makes no difference, so it holds all sorts. */
+static void fill_room(uint8_t *start, size_t len)
+{
+    uint8_t first = (uint8_t)draw(0, 255), add = (uint8_t)(2 * draw(0, 127) + 1);
+
+    switch (draw(0, 5)) {
+    case 0: memset(start, 0, len); break;
+    case 1: memset(start, 255, len); break;
+    case 2:                             /* like rate numbers and small loads */
+        for (size_t i = 0; i < len; i++)
+            start[i] = (uint8_t)(i % WORD == 0 ? 1 + i / WORD % 8 : 0);
+        break;
+    default:
+        for (size_t i = 0; i < len; i++)
+            start[i] = (uint8_t)(first + add * (uint8_t)i);
+    }
+}
+
+/* Lays out a list of `stored` elements of which `lent` are lent; `from` is what they hold, or NULL for room. */
+static void lay_out(struct area *area, const void *from, size_t lent, size_t stored)
+{
+    uint8_t first = (uint8_t)draw(1, 255);
+
+    area->start = GUARD + draw(0, SHIFT / area->size - 1) * area->size;
+    area->len = lent * area->size;
+    area->total = area->start + stored * area->size + GUARD;
+    for (size_t i = 0; i < area->start; i++)
+        area->is[i] = (uint8_t)(first + i);
+    for (size_t i = area->total - GUARD; i < area->total; i++)
+        area->is[i] = (uint8_t)(first + i);
+    if (from != NULL)
+        memcpy(area->is + area->start, from, stored * area->size);
+    else
+        fill_room(area->is + area->start, area->len);
+    memcpy(area->must, area->is, area->total);
+}
+
+static void forbid_guards(struct area *area, int is_room)
+{
+    FORBID(area->is, area->start);
+    FORBID(area->is + area->start + area->len, area->total - area->start - area->len);
+    if (is_room)
+        HOLDS_NOTHING(area->is + area->start, area->len);
+}
+
+/* What the call must have left, where it has left anything: it does not come from what the room held. */
+static void must_leave(struct area *area, const void *what, size_t elements)
+{
+    size_t bytes = elements * area->size;
+
+    MUST_HOLD(area->is + area->start, bytes);
+    if (what != NULL)
+        memcpy(area->must + area->start, what, bytes);
+    else
+        memset(area->must + area->start, 0, bytes);
+}
+
+/* The first byte that is not as it must be; `total` where there is none. */
+static size_t departure(const struct area *area)
+{
+    size_t i = 0;
+
+    if (memcmp(area->is, area->must, area->total) == 0)
+        return area->total;
+    while (area->is[i] == area->must[i])
+        i++;
+    return i;
+}
+
+static uint32_t *words(struct area *area)
+{
+    return (uint32_t *)(void *)(area->is + area->start);
+}
+
+/* ---- One call */
+
+static void lend(const struct call *c)
+{
+    int plans = c->entry == PLAN;
+
+    lay_out(&areas[SET], c->set.word, c->set_len, c->set.len);
+    lay_out(&areas[PLAN_LIST], plans ? NULL : c->plan, c->plan_len, c->plan_len);
+    lay_out(&areas[WORK], NULL, plans ? c->work_len : 0, plans ? c->work_len : 0);
+    lay_out(&areas[RESULTS], NULL, c->results_len, c->results_len);
+    forbid_guards(&areas[SET], 0);
+    forbid_guards(&areas[PLAN_LIST], plans);
+    forbid_guards(&areas[WORK], 1);
+    forbid_guards(&areas[RESULTS], 1);
+}
+
+static uint64_t make(const struct call *c)
+{
+    uint32_t *set = words(&areas[SET]), *plan = words(&areas[PLAN_LIST]), *work = words(&areas[WORK]);
+    uint8_t *results = areas[RESULTS].is + areas[RESULTS].start;
+
+    if (c->entry == PLAN)
+        return seedspell_plan(set, c->set_len, plan, c->plan_len, work, c->work_len, results, c->results_len);
+    return seedspell_walk(set, c->set_len, plan, c->plan_len, results, c->results_len);
+}
+
+static void expect(const struct call *c, enum way way, struct answer *want)
+{
+    if (c->entry == PLAN)
+        expect_plan(way, c->set.word, c->set_len, c->plan_len, c->work_len, c->results_len, want);
+    else
+        expect_walk(c->set.word, c->set_len, c->plan, c->plan_len, c->results_len, want);
+}
+
+/* Turns an expected answer into what the lists must hold. */
+static void expect_lists(const struct answer *want)
+{
+    uint8_t bytes[RESULT_BYTES];
+
+    if (want->code != 0)
+        return;
+    for (int i = 0; i < RESULT_BYTES; i++)
+        bytes[i] = (uint8_t)(want->value[i / 8] >> (8 * (i % 8)));
+    must_leave(&areas[RESULTS], bytes, RESULT_BYTES);
+    must_leave(&areas[PLAN_LIST], want->plan, want->plan_words);
+    must_leave(&areas[WORK], NULL, want->work_words);
+}
+
+static void print_code(const char *who, uint64_t code)
+{
+    printf("%s: ", who);
+    if (code == 0)
+        printf("returned 0");
+    else
+        printf("returned %" PRIu64 ", refusal %" PRIu64 " with %" PRIu64, code, code >> 32, code & UINT32_MAX);
+}
+
+static void print_expected(const struct answer *want)
+{
+    print_code("expected", want->code);
+    if (want->code == 0)
+        printf("; results %" PRIu64 " %" PRIu64 " %" PRIu64 " %" PRIu64, want->value[0], want->value[1], want->value[2], want->value[3]);
+    for (size_t t = 0; t < want->plan_words; t++)
+        printf("%s %" PRIu32, t == 0 ? "; plan" : "", want->plan[t]);
+    printf("\n");
+}
+
+static void print_received(const struct call *c, uint64_t code, size_t tasks)
+{
+    const uint8_t *results = areas[RESULTS].is + areas[RESULTS].start;
+
+    print_code("received", code);
+    if (code == 0 && c->results_len >= RESULT_BYTES) {
+        printf("; results");
+        for (int k = 0; k < 4; k++) {
+            uint64_t value = 0;
+            for (int i = 7; i >= 0; i--)
+                value = value << 8 | results[8 * k + i];
+            printf(" %" PRIu64, value);
+        }
+    }
+    for (size_t t = 0; c->entry == PLAN && code == 0 && t < tasks && t < c->plan_len; t++)
+        printf("%s %" PRIu32, t == 0 ? "; plan" : "", words(&areas[PLAN_LIST])[t]);
+    printf("\n");
+}
+
+static void print_departures(void)
+{
+    for (size_t a = 0; a < AREAS; a++) {
+        size_t i = departure(&areas[a]);
+        if (i < areas[a].total)
+            printf("the %s departs at place %" PRIdMAX ", byte %zu of it: expected %u, received %u\n", areas[a].name,
+                   ((intmax_t)i - (intmax_t)areas[a].start) / (intmax_t)areas[a].size, i % areas[a].size, areas[a].must[i],
+                   areas[a].is[i]);
+    }
+}
+
+static void print_lent(const struct call *c)
+{
+    printf("lent: set %zu", c->set_len);
+    if (c->entry == PLAN) {
+        printf(", plan %zu, work %zu, results %zu\n", c->plan_len, c->work_len, c->results_len);
+        return;
+    }
+    printf(", plan %zu, results %zu\nwalk's plan:", c->plan_len, c->results_len);
+    for (size_t i = 0; i < c->plan_len; i++)
+        printf(" %" PRIu32, c->plan[i]);
+    printf("\n");
+}
+
+/* The call as it can be pasted elsewhere: the set as a text where it is one, and as numbers. */
+static void print_call(const struct call *c)
+{
+    printf("call %" PRIu64 " of %s departs\n", count.calls[c->entry], c->entry == PLAN ? "seedspell_plan" : "seedspell_walk");
+    print_set(c->set.word, c->set_len);
+    print_lent(c);
+}
+
+static int as_expected(const struct call *c, const struct answer *want, uint64_t code)
+{
+    int same = code == want->code;
+
+    for (size_t a = 0; a < AREAS; a++)
+        same = same && departure(&areas[a]) == areas[a].total;
+    if (same)
+        return 1;
+    print_call(c);
+    print_expected(want);
+    print_received(c, code, want->plan_words);
+    print_departures();
+    return 0;
+}
+
+/* The reference's two ways to a plan, against each other. */
+static void ask_both_ways(const struct call *c, const struct answer *want)
+{
+    struct answer other;
+
+    expect(c, TASK_BY_TASK, &other);
+    other.alike = want->alike;
+    if (memcmp(&other, want, sizeof other) != 0) {
+        print_call(c);
+        printf("the reference disagrees with itself\n");
+        print_expected(want);
+        print_expected(&other);
+        exit(1);
+    }
+    count.both_ways++;
+}
+
+/* Makes a call and leaves what was expected of it; ends the run if the call departs from that. */
+static void try_call(const struct call *c, struct answer *want)
+{
+    uint64_t code;
+
+    expect(c, BY_SIZE, want);
+    if (want->alike > 0 && count.calls[PLAN] % 8 == 0)
+        ask_both_ways(c, want);
+    count_call(c, want);
+    lend(c);
+    code = make(c);
+    MUST_HOLD(&code, sizeof code);
+    expect_lists(want);
+    for (size_t a = 0; a < AREAS; a++)
+        ALLOW(areas[a].is, areas[a].total);
+    if (!as_expected(c, want, code))
+        exit(1);
+}
+
+/* ---- Calls of a set */
+
+static int is_long(const struct call *c)
+{
+    struct answer answer;
+
+    expect_walk(c->set.word, c->set_len, c->plan, 0, 0, &answer);
+    return answer.span > SHORT_SPAN;
+}
+
+static size_t words_needed(const struct list *set)
+{
+    uint64_t tasks = set->word[2 + set->word[1]];
+
+    return (tasks + 1) * (4000 * tasks / set->word[0] + 1);
+}
+
+/* A call of a list, or of its first words, that lends just as much as it needs, and somewhat where it is no set. */
+static void start_call(struct call *c, enum entry entry, const struct list *set, size_t set_len)
+{
+    int is_set = can_be_written(set->word, set_len);
+
+    c->entry = entry;
+    c->set = *set;
+    c->set_len = set_len;
+    c->plan_len = is_set ? set->word[2 + set->word[1]] : MOST_TASKS;
+    c->work_len = entry == WALK ? 0 : is_set ? words_needed(set) : 3000;
+    c->results_len = RESULT_BYTES;
+    for (size_t i = 0; i < MOST_PLAN; i++)
+        c->plan[i] = 1;
+}
+
+/* Both calls of a list that may be no set; a hyper-period that would take long is left out. */
+static void try_both(const struct list *set, size_t set_len)
+{
+    struct call c;
+    struct answer want;
+
+    start_call(&c, WALK, set, set_len);
+    if (is_long(&c))
+        return;
+    try_call(&c, &want);
+    start_call(&c, PLAN, set, set_len);
+    c.plan_len += draw(0, 4);
+    c.work_len += draw(0, 4);
+    c.results_len += draw(0, 4);
+    try_call(&c, &want);
+}
+
+static void walk_under(const struct list *set, const uint32_t *plan, size_t plan_len, struct answer *want)
+{
+    struct call c;
+
+    start_call(&c, WALK, set, set->len);
+    memcpy(c.plan, plan, plan_len * sizeof *plan);
+    c.plan_len = plan_len;
+    try_call(&c, want);
+}
+
+/* ---- Document 01's own cases, by value */
+
+#define COUNT(list) (sizeof(list) / sizeof *(list))
+
+static void demand(int holds, const char *what)
+{
+    if (!holds) {
+        printf("the reference departs from document 01: %s\n", what);
+        exit(1);
+    }
+}
+
+static struct list list_of(const uint32_t *word, size_t len)
+{
+    struct list list = {{0}, len};
+
+    memcpy(list.word, word, len * sizeof *word);
+    return list;
+}
+
+static int has_values(const struct answer *answer, uint64_t a, uint64_t b, uint64_t c, uint64_t d)
+{
+    return answer->code == 0 && answer->value[0] == a && answer->value[1] == b && answer->value[2] == c && answer->value[3] == d;
+}
+
+static int is_refusal(const struct answer *answer, uint64_t number, uint64_t second)
+{
+    return answer->code == (number << 32) + second;
+}
+
+static void plan_lending(const struct list *set, size_t plan_len, size_t work_len, struct answer *want)
+{
+    struct call c;
+
+    start_call(&c, PLAN, set, set->len);
+    c.plan_len = plan_len;
+    c.work_len = work_len;
+    try_call(&c, want);
+}
+
+static void cases_of_s(void)
+{
+    static const uint32_t s[] = {100, 3, 2, 4, 8, 2, 10, 12, 4, 9, 20, 15, 20, 7, 15, 30};
+    struct list set = list_of(s, COUNT(s));
+    struct answer want;
+
+    plan_lending(&set, 2, 243, &want);
+    demand(has_values(&want, 1, 29, 30, 41) && want.plan[0] == 2 && want.plan[1] == 1, "S");
+    plan_lending(&set, 2, 242, &want);
+    demand(is_refusal(&want, 5, 243), "S with 242 working words");
+    walk_under(&set, (const uint32_t[]){1, 1}, 2, &want);
+    demand(has_values(&want, 0, 15, 2, 0), "walk of 1 1");
+    walk_under(&set, (const uint32_t[]){2, 1}, 2, &want);
+    demand(has_values(&want, 1, 29, 1, 1), "walk of 2 1");
+    walk_under(&set, (const uint32_t[]){1, 3}, 2, &want);
+    demand(want.code == 0 && want.value[0] == 1 && want.value[1] == 24, "load of 1 3");
+    walk_under(&set, (const uint32_t[]){1, 4}, 2, &want);
+    demand(is_refusal(&want, 8, 1), "walk of 1 4");
+    set.word[0] = 1000;
+    plan_lending(&set, 2, 27, &want);
+    demand(has_values(&want, 8, 28, 30, 42) && want.plan[0] == 1 && want.plan[1] == 2, "S with slack 1,000");
+    plan_lending(&set, 2, 26, &want);
+    demand(is_refusal(&want, 5, 27), "S with slack 1,000 and 26 working words");
+    set.word[0] = 0;
+    plan_lending(&set, 2, 243, &want);
+    demand(is_refusal(&want, 2, 0), "slack of 0");
+}
+
+static void cases_of_others(void)
+{
+    struct list set = list_of((const uint32_t[]){100, 2, 1, 2, 1, 30, 60, 1, 2}, 9);
+    struct list rates = list_of((const uint32_t[]){100, 2, 4, 4, 1, 30, 60, 1, 2}, 9);
+    struct list energy = list_of((const uint32_t[]){1000, 2, 1, 2, 1, 30, 30, 33, 33}, 9);
+    struct list periods = list_of((const uint32_t[]){100, 2, 1, 2, 2, 9999999, 1, 1, 1, 10000000, 1, 1, 1}, 13);
+    struct list period = list_of((const uint32_t[]){100, 2, 1, 2, 1, 10000000, 1, 1, 1}, 9);
+    struct list empty = {{0}, 0};
+    struct answer want;
+
+    plan_lending(&set, 1, 82, &want);
+    demand(want.code == 0 && want.value[1] == 30 && want.value[2] == 30 && want.plan[0] == 2, "60 cycles");
+    set.word[6] = 61;
+    plan_lending(&set, 1, 82, &want);
+    demand(is_refusal(&want, 7, 0), "61 cycles");
+    plan_lending(&energy, 1, 10, &want);
+    demand(want.code == 0 && want.value[0] == 32, "one task energy of 33");
+    plan_lending(&rates, 1, 82, &want);
+    demand(is_refusal(&want, 3, 3), "rates 4 4");
+    plan_lending(&empty, 1, 82, &want);
+    demand(is_refusal(&want, 2, 0), "empty list");
+    plan_lending(&periods, 2, 243, &want);
+    demand(is_refusal(&want, 4, 9), "periods 9,999,999 and 10,000,000");
+    plan_lending(&period, 1, 82, &want);
+    demand(want.code == 0 && want.value[2] == 10000000, "period of 10,000,000");
+    walk_under(&periods, (const uint32_t[]){1, 1}, 2, &want);
+    demand(is_refusal(&want, 4, 9), "walk of periods 9,999,999 and 10,000,000");
+    walk_under(&rates, (const uint32_t[]){1}, 1, &want);
+    demand(is_refusal(&want, 3, 3), "walk of rates 4 4");
+    walk_under(&empty, (const uint32_t[]){1}, 1, &want);
+    demand(is_refusal(&want, 2, 0), "walk of the empty list");
+}
+
+/* Two lists that are only read may be one: here the plan is the first task's energies. */
+static void case_of_one_list(void)
+{
+    static const uint32_t s[] = {100, 2, 2, 4, 2, 10, 12, 2, 1, 15, 20, 7, 15};
+    uint8_t results[RESULT_BYTES], must[RESULT_BYTES] = {1};
+    uint64_t code = seedspell_walk(s, COUNT(s), s + 7, 2, results, sizeof results);
+
+    must[8] = 29;
+    must[16] = 1;
+    must[24] = 1;
+    if (code != 0 || memcmp(results, must, sizeof must) != 0) {
+        printf("the walk departs where its plan lies in its set\n");
+        exit(1);
+    }
+}
+
+/* ---- Edges, one after the other */
+
+/* Every word of a set at every end of a range. */
+static void edge_words(uint32_t rates, uint32_t tasks)
+{
+    static const uint32_t ends[] = {0, 1, 2, 3, 7, 8, 9, 31, 32, 33, 999, 1000, 1001, 999999, 1000000, 1000001, 9999999, 10000000,
+                                    10000001, 3999999999u, 4000000000u, 4000000001u, 2147483647u, 2147483648u, 4294967295u};
+    struct shape shape;
+    struct list set;
+
+    plain_shape(&shape, rates, tasks);
+    flatten(&shape, &set);
+    for (size_t at = 0; at < set.len; at++) {
+        uint32_t word = set.word[at];
+        for (size_t i = 0; i < COUNT(ends); i++) {
+            set.word[at] = ends[i];
+            try_both(&set, set.len);
+        }
+        set.word[at] = word;
+    }
+}
+
+/* Every length of a set's list, from 0 to 2 more: the words that are not lent still lie there. */
+static void edge_lengths(uint32_t rates, uint32_t tasks)
+{
+    struct shape shape;
+    struct list set;
+
+    plain_shape(&shape, rates, tasks);
+    flatten(&shape, &set);
+    set.word[set.len] = 40;
+    set.word[set.len + 1] = 10;
+    set.len += 2;
+    for (size_t len = 0; len <= set.len; len++)
+        try_both(&set, len);
+}
+
+/* One rate or task more than allowed, with all their words, and none or one fewer. */
+static void edge_counts(void)
+{
+    struct shape shape;
+    struct list set;
+
+    for (uint32_t rates = 1; rates <= 9; rates++)
+        for (uint32_t tasks = 0; tasks <= 33; tasks++) {
+            plain_shape(&shape, rates, tasks);
+            flatten(&shape, &set);
+            try_both(&set, set.len);
+        }
+}
+
+/* Each rate as low as the one before it, or lower; also two of them, and with a word out of range after them. */
+static void edge_rates(void)
+{
+    struct shape shape;
+    struct list set;
+
+    for (uint32_t rates = 2; rates <= 8; rates++)
+        for (uint32_t i = 1; i < rates; i++)
+            for (uint32_t j = 1; j < rates; j++)
+                for (uint32_t less = 0; less <= 2; less++) {
+                    plain_shape(&shape, rates, 2);
+                    shape.rate[i] = shape.rate[i - 1] - less / 2;
+                    shape.rate[j] = shape.rate[j - 1] - less % 2;
+                    flatten(&shape, &set);
+                    try_both(&set, set.len);
+                    set.word[set.len - 1] = 0;
+                    try_both(&set, set.len);
+                }
+}
+
+/* The running multiple at 10,000,000 and just over it, with the period that does it at each place. */
+static void edge_periods(void)
+{
+    struct shape shape;
+    struct list set;
+
+    for (uint32_t at = 1; at < 6; at++)
+        for (uint32_t first = 0; first < at; first++) {
+            plain_shape(&shape, 3, 6);
+            shape.period[first] = 909091;       /* 11 x 909,091 is 10,000,001 */
+            for (uint32_t t = 0; t < 6; t++)
+                if (t != first)
+                    shape.period[t] = 1;
+            shape.period[at] = 11;
+            flatten(&shape, &set);
+            try_both(&set, set.len);
+            shape.period[5] = 10000000;         /* passes it again, later */
+            flatten(&shape, &set);
+            try_both(&set, set.len);
+            set.word[2] = 20;                   /* a rate not above the one before it comes first */
+            try_both(&set, set.len);
+        }
+}
+
+/* Lists one short, just enough and one over, in all combinations, of sets that fit and sets that do not. */
+static void edge_lent(const struct list *set, uint32_t tasks)
+{
+    size_t needed = words_needed(set);
+    const size_t work[] = {0, 1, needed - 1, needed, needed + 1}, plan[] = {0, tasks - 1, tasks, tasks + 1},
+                 results[] = {0, 1, 31, 32, 33, 40};
+    struct call c;
+    struct answer want;
+
+    start_call(&c, PLAN, set, set->len);
+    for (size_t i = 0; i < COUNT(work); i++)
+        for (size_t j = 0; j < COUNT(plan); j++)
+            for (size_t k = 0; k < COUNT(results); k++) {
+                c.work_len = work[i];
+                c.plan_len = plan[j];
+                c.results_len = results[k];
+                try_call(&c, &want);
+            }
+}
+
+static void edge_lent_sets(void)
+{
+    struct shape shape;
+    struct list set;
+
+    for (uint32_t tasks = 1; tasks <= 8; tasks++)
+        for (int kind = 0; kind < 6; kind++) {
+            plain_shape(&shape, 2 + tasks % 3, tasks);
+            shape.slack = 1 + (uint32_t)draw(0, 999) / (kind == 1 ? 10 : 1);
+            if (kind == 2)
+                shape.cycles[0] = 4000000000u;          /* no plan fits */
+            if (kind == 3)
+                shape.rate[1] = shape.rate[0];
+            if (kind == 4)
+                shape.energy[tasks - 1][0] = 0;
+            if (kind == 5)
+                shape.period[tasks - 1] = 9999991;      /* with 40 too long */
+            flatten(&shape, &set);
+            if (kind < 5 || tasks > 1)
+                edge_lent(&set, tasks);
+        }
+}
+
+/* The walk's plan of every length, with bad words at every one and two places, and results of every size about 32. */
+static void edge_plans(uint32_t rates, uint32_t tasks)
+{
+    const uint32_t bad[] = {0, rates + 1, 4294967295u};
+    const size_t results[] = {0, 31, 32, 33};
+    struct shape shape;
+    struct list set;
+    struct call c;
+    struct answer want;
+
+    plain_shape(&shape, rates, tasks);
+    flatten(&shape, &set);
+    start_call(&c, WALK, &set, set.len);
+    for (c.plan_len = 0; c.plan_len <= tasks + 2; c.plan_len++)
+        for (size_t i = 0; i <= c.plan_len; i++)
+            for (size_t k = 0; k < 2 * COUNT(bad); k++) {
+                for (size_t t = 0; t < MOST_PLAN; t++)
+                    c.plan[t] = 1 + (uint32_t)draw(0, rates - 1);
+                if (i < c.plan_len)
+                    c.plan[i] = bad[k / 2];
+                if (k % 2 == 1 && c.plan_len > 0)
+                    c.plan[draw(0, c.plan_len - 1)] = bad[k / 2];
+                c.results_len = results[draw(0, 3)];
+                try_call(&c, &want);
+            }
+}
+
+/* One task at every load about L: it fits at L. */
+static void edge_load(void)
+{
+    struct shape shape;
+    struct list set;
+
+    for (uint32_t period = 1; period <= 40; period++)
+        for (uint32_t rate = 2; rate <= 9; rate += 7)
+            for (uint32_t more = 0; more <= 2; more++) {
+                plain_shape(&shape, 2, 1);
+                shape.rate[0] = rate - 1;
+                shape.rate[1] = rate;
+                shape.period[0] = period;
+                shape.cycles[0] = period * rate + more - 1;
+                flatten(&shape, &set);
+                try_both(&set, set.len);
+                walk_under(&set, (const uint32_t[]){2}, 1, &(struct answer){0});
+            }
+}
+
+/* ---- Long hyper-periods, few */
+
+static void plan_and_walk(const struct list *set)
+{
+    struct call c;
+    struct answer planned, want;
+
+    start_call(&c, PLAN, set, set->len);
+    try_call(&c, &planned);
+    if (planned.code == 0)
+        walk_under(set, planned.plan, planned.plan_words, &want);
+}
+
+/* Every word at the end of its range but the cycles: at the highest rate the tasks take `ticks` of 10,000,000 together. */
+static void limit_shape(struct shape *shape, uint32_t tasks, uint32_t slack, uint32_t ticks)
+{
+    plain_shape(shape, 8, tasks);
+    shape->slack = slack;
+    for (uint32_t r = 0; r < 8; r++)
+        shape->rate[r] = 999993 + r;
+    for (uint32_t t = 0; t < tasks; t++) {
+        uint64_t share = ticks / tasks + (t < ticks % tasks), cycles = share * 1000000;
+        shape->period[t] = 10000000;
+        shape->cycles[t] = cycles > 4000000000u ? 4000000000u : (uint32_t)cycles;
+        for (uint32_t r = 0; r < 8; r++)
+            shape->energy[t][r] = 1000000;
+    }
+}
+
+static void long_spans(void)
+{
+    struct shape shape;
+    struct list set;
+
+    /* All limits at once: 32 jobs of 4,000,000,000 cycles, 4,000 ticks each and more. */
+    limit_shape(&shape, 32, 1, 128000);
+    flatten(&shape, &set);
+    plan_and_walk(&set);
+    /* 10,000,000 as a multiple, with periods that are not alike. */
+    plain_shape(&shape, 3, 2);
+    shape.period[0] = 128;
+    shape.period[1] = 78125;
+    shape.cycles[0] = 2 * 128 * 10;
+    shape.cycles[1] = 26041 * 30;
+    flatten(&shape, &set);
+    plan_and_walk(&set);
+    walk_under(&set, (const uint32_t[]){3, 2}, 2, &(struct answer){0});
+    /* A load of L, and of L + 1: missed at the very end. The rates are low, so that the cycles do not pass their range. */
+    for (uint32_t more = 0; more <= 1; more++) {
+        plain_shape(&shape, 2, 2);
+        shape.period[0] = 10000000;
+        shape.period[1] = 1000;
+        shape.cycles[0] = 9000000u * 20 + more;
+        shape.cycles[1] = 100 * 20;
+        flatten(&shape, &set);
+        plan_and_walk(&set);
+        walk_under(&set, (const uint32_t[]){2, 2}, 2, &(struct answer){0});
+    }
+    /* Energies of 1,000,000 for 10,000,000 jobs: the largest that a task can have. */
+    plain_shape(&shape, 2, 2);
+    shape.period[0] = 1;
+    shape.period[1] = 10000000;
+    shape.cycles[0] = 1;
+    shape.energy[0][0] = shape.energy[0][1] = 1000000;
+    flatten(&shape, &set);
+    plan_and_walk(&set);
+}
+
+/* The widest table: slack 1 and 32 tasks. */
+static void widest(void)
+{
+    struct shape shape;
+    struct list set;
+
+    plain_shape(&shape, 2, 32);
+    shape.slack = 1;
+    for (uint32_t t = 0; t < 32; t++) {
+        shape.period[t] = 100;
+        shape.cycles[t] = 20 + 20 * (t % 4);
+        shape.energy[t][0] = 1000 + 7 * t;
+        shape.energy[t][1] = 1700 + 31 * t;
+    }
+    flatten(&shape, &set);
+    plan_and_walk(&set);
+}
+
+/* ---- Random calls */
+
+static void random_plan(const struct list *set, uint32_t *plan, size_t tasks)
+{
+    for (size_t t = 0; t < tasks; t++)
+        plan[t] = (uint32_t)draw(1, set->word[1]);
+}
+
+/* Lengths that are one short at times, of any list. */
+static void unsettle(struct call *c, size_t tasks)
+{
+    switch (draw(0, 9)) {
+    case 0: c->work_len = c->work_len > 0 ? c->work_len - 1 : 0; break;
+    case 1: c->plan_len = tasks - 1; break;
+    case 2: c->results_len = draw(0, 31); break;
+    case 3: c->work_len /= 2; c->plan_len = 0; c->results_len = 0; break;
+    case 4: c->results_len = 32 + draw(0, 8); break;
+    case 5: c->plan_len = tasks + draw(0, 8); break;
+    case 6: c->work_len += draw(0, 8); break;
+    default: break;
+    }
+}
+
+static void random_set(void)
+{
+    struct shape shape;
+    struct list set;
+    struct call c;
+    struct answer planned, want;
+    size_t tasks;
+
+    draw_shape(&shape);
+    flatten(&shape, &set);
+    tasks = shape.tasks;
+    start_call(&c, PLAN, &set, set.len);
+    if (one_in(4))
+        unsettle(&c, tasks);
+    try_call(&c, &planned);
+    if (planned.code == 0)
+        walk_under(&set, planned.plan, tasks, &want);
+    start_call(&c, WALK, &set, set.len);
+    random_plan(&set, c.plan, tasks);
+    if (one_in(4))
+        unsettle(&c, tasks);
+    if (one_in(8))
+        c.plan[draw(0, tasks - 1)] = one_in(2) ? shape.rates + 1 : draw_edge();
+    try_call(&c, &want);
+    if (one_in(3)) {                    /* all at the highest rate: kept or missed as there is a plan or not */
+        for (size_t t = 0; t < tasks; t++)
+            c.plan[t] = shape.rates;
+        walk_under(&set, c.plan, tasks, &want);
+    }
+    if (one_in(6)) {
+        damage(&set);
+        try_both(&set, set.len);
+    }
+}
+
+static void random_calls(uint64_t sets)
+{
+    struct list set;
+
+    for (uint64_t i = 0; i < sets; i++) {
+        random_set();
+        if (i % 8 == 0) {
+            draw_long(&set);
+            try_both(&set, set.len);
+        }
+        if (i % 16 == 0) {
+            draw_rubbish(&set);
+            try_both(&set, set.len);
+        }
+    }
+}
+
+static void edge_calls(void)
+{
+    cases_of_s();
+    cases_of_others();
+    case_of_one_list();
+    for (uint32_t rates = 2; rates <= 8; rates += 3) {
+        edge_words(rates, 1);
+        edge_words(rates, 3);
+        edge_lengths(rates, 1);
+        edge_lengths(rates, 32);
+        edge_plans(rates, 1);
+        edge_plans(rates, 4);
+        edge_plans(rates, 32);
+    }
+    edge_words(3, 32);
+    edge_counts();
+    edge_rates();
+    edge_periods();
+    edge_lent_sets();
+    edge_load();
+}
+
+int main(int argc, char **argv)
+{
+    uint64_t seed = argc > 1 ? strtoull(argv[1], NULL, 10) : 1, sets = argc > 2 ? strtoull(argv[2], NULL, 10) : 60000;
+
+    setvbuf(stdout, NULL, _IOLBF, 0);
+    printf("seed %" PRIu64 ", %" PRIu64 " random sets\n", seed, sets);
+    start_draws(seed);
+    make_areas();
+    edge_calls();
+    random_calls(sets);
+    long_spans();
+    widest();
+    if (!enough())
+        return 1;
+    printf("%" PRIu64 " calls, all as document 01 says\n", count.calls[PLAN] + count.calls[WALK]);
+    return 0;
+}

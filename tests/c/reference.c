@@ -1,0 +1,504 @@
+/* Document 01's checks, planner and walk, read as they stand there. Slow on purpose. */
+
+#include <stdio.h>
+#include <stdlib.h>
+#include <string.h>
+
+#include "reference.h"
+
+#define LONGEST 10000000u               /* the hyper-period is at most this */
+#define FEW_PLANS 700                   /* up to this many plans, the planner's choice goes through all */
+
+struct task {
+    uint64_t period, cycles;
+    uint64_t energy[MOST_RATES + 1];    /* at rate number 1 to M; nothing at 0 */
+};
+
+struct task_set {
+    uint64_t slack, rates, tasks;
+    uint64_t rate[MOST_RATES + 1];      /* by rate number; nothing at 0 */
+    struct task task[MOST_TASKS];
+    uint64_t span;                      /* the hyper-period */
+};
+
+static uint64_t refusal(uint64_t number, uint64_t second)
+{
+    return (number << 32) + second;
+}
+
+static uint64_t divided_up(uint64_t a, uint64_t b)
+{
+    return a / b + (a % b != 0);
+}
+
+/* ---- Checks of a set */
+
+/* A list that is read word by word and no further than its first fault. */
+struct source {
+    const uint32_t *word;
+    size_t len, at;
+    int at_fault;
+};
+
+static uint64_t next_word(struct source *from, uint64_t low, uint64_t high)
+{
+    if (from->at_fault || from->at == from->len || from->word[from->at] < low || from->word[from->at] > high) {
+        from->at_fault = 1;
+        return 0;
+    }
+    return from->word[from->at++];
+}
+
+/* 'Set word out of its range, missing or left over': in each case the fault is where the reading stopped. */
+static uint64_t check_2(const uint32_t *set, size_t set_len, struct task_set *s)
+{
+    struct source from = {set, set_len, 0, 0};
+
+    s->slack = next_word(&from, 1, 1000);
+    s->rates = next_word(&from, 2, 8);
+    for (uint64_t r = 1; r <= s->rates; r++)
+        s->rate[r] = next_word(&from, 1, 1000000);
+    s->tasks = next_word(&from, 1, 32);
+    for (uint64_t t = 0; t < s->tasks; t++) {
+        s->task[t].period = next_word(&from, 1, 10000000);
+        s->task[t].cycles = next_word(&from, 1, 4000000000u);
+        for (uint64_t r = 1; r <= s->rates; r++)
+            s->task[t].energy[r] = next_word(&from, 1, 1000000);
+    }
+    return from.at_fault || from.at < from.len ? refusal(2, from.at) : 0;
+}
+
+/* 'A rate not above the one before it' */
+static uint64_t check_3(const struct task_set *s)
+{
+    for (uint64_t r = 2; r <= s->rates; r++)
+        if (!(s->rate[r] > s->rate[r - 1]))
+            return refusal(3, 1 + r);
+    return 0;
+}
+
+/* The first multiple of the larger that the smaller divides; any number above LONGEST where there is none up to it. */
+static uint64_t common_multiple(uint64_t a, uint64_t b)
+{
+    uint64_t larger = a > b ? a : b, smaller = a > b ? b : a, multiple = larger;
+
+    while (multiple <= LONGEST && multiple % smaller != 0)
+        multiple += larger;
+    return multiple;
+}
+
+/* 'Hyper-period over 10,000,000', at 'the period at which the running multiple passes it' */
+static uint64_t check_4(struct task_set *s)
+{
+    uint64_t running = 1;
+
+    for (uint64_t t = 0; t < s->tasks; t++) {
+        running = common_multiple(running, s->task[t].period);
+        if (running > LONGEST)
+            return refusal(4, 3 + s->rates + t * (2 + s->rates));
+    }
+    s->span = running;
+    return 0;
+}
+
+static uint64_t check_set(const uint32_t *set, size_t set_len, struct task_set *s)
+{
+    uint64_t refused = check_2(set, set_len, s);
+
+    if (refused == 0)
+        refused = check_3(s);
+    if (refused == 0)
+        refused = check_4(s);
+    return refused;
+}
+
+int can_be_written(const uint32_t *set, size_t set_len)
+{
+    struct task_set s;
+
+    return check_2(set, set_len, &s) == 0 && check_3(&s) == 0;
+}
+
+/* ---- Loads and energies */
+
+static uint64_t job_time(const struct task_set *s, uint64_t t, uint64_t r)
+{
+    return divided_up(s->task[t].cycles, s->rate[r]);
+}
+
+static uint64_t task_load(const struct task_set *s, uint64_t t, uint64_t r)
+{
+    return s->span / s->task[t].period * job_time(s, t, r);
+}
+
+static uint64_t task_energy(const struct task_set *s, uint64_t t, uint64_t r)
+{
+    return s->span / s->task[t].period * s->task[t].energy[r];
+}
+
+static uint64_t rounded_energy(const struct task_set *s, uint64_t t, uint64_t r, uint64_t unit)
+{
+    return divided_up(task_energy(s, t, r), unit);
+}
+
+static int fits(const struct task_set *s, uint64_t load)
+{
+    return load <= s->span;
+}
+
+/* ---- Which plan */
+
+/* A plan of some tasks with its sums. The rate numbers stand last task first, so that comparing them from the front compares
+   'the lowest rate number for task N, then for task N - 1, and so on down to task 1'. */
+struct entry {
+    uint64_t rounded, load;
+    uint8_t back[MOST_TASKS];
+};
+
+static uint8_t *rate_of(struct entry *e, uint64_t t)
+{
+    return &e->back[MOST_TASKS - 1 - t];
+}
+
+static int compare(const void *a, const void *b)
+{
+    const struct entry *x = a, *y = b;
+
+    if (x->rounded != y->rounded)
+        return x->rounded < y->rounded ? -1 : 1;
+    if (x->load != y->load)
+        return x->load < y->load ? -1 : 1;
+    return memcmp(x->back, y->back, MOST_TASKS);
+}
+
+/* The next plan with task 1 changing fastest; 0 after the last. */
+static int next_plan(const struct task_set *s, struct entry *plan)
+{
+    for (uint64_t t = 0; t < s->tasks; t++) {
+        if (*rate_of(plan, t) < s->rates) {
+            ++*rate_of(plan, t);
+            return 1;
+        }
+        *rate_of(plan, t) = 1;
+    }
+    return 0;
+}
+
+static void sum(const struct task_set *s, uint64_t unit, struct entry *plan)
+{
+    plan->rounded = plan->load = 0;
+    for (uint64_t t = 0; t < s->tasks; t++) {
+        plan->rounded += rounded_energy(s, t, *rate_of(plan, t), unit);
+        plan->load += task_load(s, t, *rate_of(plan, t));
+    }
+}
+
+/* Of all plans that fit the first by rounded energy, load and rate numbers. Returns how many are alike but for these last; 0
+   where none fits. */
+static uint64_t choose_from_all(const struct task_set *s, uint64_t unit, struct entry *best)
+{
+    struct entry plan = {0};
+    uint64_t alike = 0;
+    int first;
+
+    for (uint64_t t = 0; t < s->tasks; t++)
+        *rate_of(&plan, t) = 1;
+    do {
+        sum(s, unit, &plan);
+        if (!fits(s, plan.load))
+            continue;
+        first = alike == 0 || compare(&plan, best) < 0;
+        if (alike > 0 && plan.rounded == best->rounded && plan.load == best->load)
+            alike++;
+        else if (first)
+            alike = 1;
+        if (first)
+            *best = plan;
+    } while (next_plan(s, &plan));
+    return alike;
+}
+
+struct entries {
+    struct entry *list;
+    size_t count, room;
+};
+
+static void add(struct entries *to, struct entry entry)
+{
+    if (to->count == to->room) {
+        to->room = 2 * to->room + 64;
+        to->list = realloc(to->list, to->room * sizeof *to->list);
+        if (to->list == NULL) {
+            fprintf(stderr, "reference: no memory\n");
+            exit(2);
+        }
+    }
+    to->list[to->count++] = entry;
+}
+
+/* Leaves out what cannot become the choice: where some other entry has no more rounded energy and no more load, and comes first.
+   Put in its place, that one gives a plan that fits and comes first too, whatever rates follow. */
+static void thin_out(struct entries *of)
+{
+    size_t kept = 0;
+
+    qsort(of->list, of->count, sizeof *of->list, compare);
+    for (size_t i = 0; i < of->count; i++)
+        if (kept == 0 || of->list[i].load < of->list[kept - 1].load)
+            of->list[kept++] = of->list[i];
+    of->count = kept;
+}
+
+/* The same choice, from plans of the first task, of the first two, and so on. Returns 0 where none fits. */
+static uint64_t choose_task_by_task(const struct task_set *s, uint64_t unit, struct entry *best)
+{
+    static struct entries now, next;
+
+    now.count = 0;
+    add(&now, (struct entry){0});
+    for (uint64_t t = 0; t < s->tasks; t++) {
+        struct entries swap;
+
+        next.count = 0;
+        for (uint64_t r = 1; r <= s->rates; r++) {
+            uint64_t load = task_load(s, t, r), rounded = rounded_energy(s, t, r, unit);
+            for (size_t i = 0; i < now.count; i++) {
+                struct entry e = now.list[i];
+                e.load += load;
+                e.rounded += rounded;
+                *rate_of(&e, t) = (uint8_t)r;
+                if (fits(s, e.load))
+                    add(&next, e);
+            }
+        }
+        thin_out(&next);
+        swap = now;
+        now = next;
+        next = swap;
+    }
+    if (now.count == 0)
+        return 0;
+    *best = now.list[0];
+    return 1;
+}
+
+static uint64_t choose(enum way way, const struct task_set *s, uint64_t unit, struct entry *best)
+{
+    uint64_t plans = 1;
+
+    for (uint64_t t = 0; t < s->tasks && plans <= FEW_PLANS; t++)
+        plans *= s->rates;
+    if (way == BY_SIZE)
+        way = plans <= FEW_PLANS ? ALL_PLANS : TASK_BY_TASK;
+    return way == ALL_PLANS ? choose_from_all(s, unit, best) : choose_task_by_task(s, unit, best);
+}
+
+/* 'The smallest power of two not below the energy of the plan with every task at rate M'; no energy is 0 here. */
+static uint64_t first_unit(const struct task_set *s)
+{
+    uint64_t energy = 0, unit = 1;
+
+    for (uint64_t t = 0; t < s->tasks; t++)
+        energy += task_energy(s, t, s->rates);
+    while (unit < energy)
+        unit *= 2;
+    return unit;
+}
+
+/* 'G x k(d) at least 2,000 x N' */
+static int qualifies(const struct task_set *s, uint64_t rounded)
+{
+    return s->slack * rounded >= 2000 * s->tasks;
+}
+
+/* 'W = (N + 1) x (F + 1), where F is 4,000 x N / G rounded down' */
+static uint64_t words_needed(const struct task_set *s)
+{
+    return (s->tasks + 1) * (4000 * s->tasks / s->slack + 1);
+}
+
+static uint64_t least_load(const struct task_set *s)
+{
+    uint64_t load = 0;
+
+    for (uint64_t t = 0; t < s->tasks; t++) {
+        uint64_t least = task_load(s, t, 1);
+        for (uint64_t r = 2; r <= s->rates; r++)
+            if (task_load(s, t, r) < least)
+                least = task_load(s, t, r);
+        load += least;
+    }
+    return load;
+}
+
+static uint64_t check_lent(const struct task_set *s, size_t plan_len, size_t work_len, size_t results_len)
+{
+    if (work_len < words_needed(s))
+        return refusal(5, words_needed(s));
+    if (plan_len < s->tasks)
+        return refusal(6, s->tasks);
+    if (results_len < RESULT_BYTES)
+        return refusal(6, RESULT_BYTES);
+    return 0;
+}
+
+static void give_plan(const struct task_set *s, uint64_t unit, struct entry *best, struct answer *answer)
+{
+    answer->value[0] = unit;
+    answer->value[2] = s->span;
+    for (uint64_t t = 0; t < s->tasks; t++) {
+        uint64_t r = *rate_of(best, t);
+        answer->plan[t] = (uint32_t)r;
+        answer->value[1] += task_load(s, t, r);
+        answer->value[3] += task_energy(s, t, r);
+    }
+    answer->plan_words = s->tasks;
+    answer->work_words = words_needed(s);
+}
+
+void expect_plan(enum way way, const uint32_t *set, size_t set_len, size_t plan_len, size_t work_len, size_t results_len,
+                 struct answer *answer)
+{
+    struct task_set s;
+    struct entry best = {0};
+    uint64_t unit;
+
+    *answer = (struct answer){0};
+    answer->code = check_set(set, set_len, &s);
+    if (answer->code != 0)
+        return;
+    answer->span = s.span;
+    answer->least_load = least_load(&s);
+    answer->code = check_lent(&s, plan_len, work_len, results_len);
+    if (answer->code != 0)
+        return;
+    for (unit = first_unit(&s);; unit /= 2) {
+        answer->alike = choose(way, &s, unit, &best);
+        if (answer->alike == 0) {
+            answer->code = refusal(7, 0);
+            return;
+        }
+        if (qualifies(&s, best.rounded) || unit == 1)
+            break;
+    }
+    give_plan(&s, unit, &best, answer);
+}
+
+/* ---- The walk */
+
+/* 'Walk's plan not N words, or a word not 1 to M', with the 'lowest of these that applies' */
+static uint64_t check_8(const struct task_set *s, const uint32_t *plan, size_t plan_len)
+{
+    uint64_t lowest = UINT64_MAX;
+
+    for (size_t i = plan_len; i-- > 0;)
+        if (plan[i] < 1 || plan[i] > s->rates)
+            lowest = i;
+    if (plan_len < s->tasks && plan_len < lowest)
+        lowest = plan_len;
+    if (plan_len > s->tasks && s->tasks < lowest)
+        lowest = s->tasks;
+    return lowest == UINT64_MAX ? 0 : refusal(8, lowest);
+}
+
+/* One job: of which task, the how-manieth, and what is left of it. */
+struct job {
+    uint64_t task, count, deadline, left;
+};
+
+static int is_due(const struct task_set *s, uint64_t t, uint64_t tick)
+{
+    return (uint32_t)tick % (uint32_t)s->task[t].period == 0;
+}
+
+/* The task that misses at a tick, the lowest-numbered; 0 for none. */
+static uint64_t missing(const struct task_set *s, const struct job *job, uint64_t tick)
+{
+    for (uint64_t t = 0; t < s->tasks; t++)
+        if (job[t].left != 0 && is_due(s, t, tick))
+            return t + 1;
+    return 0;
+}
+
+static void release(const struct task_set *s, const uint32_t *plan, uint64_t tick, struct job *job)
+{
+    for (uint64_t t = 0; t < s->tasks; t++)
+        if (is_due(s, t, tick)) {
+            job[t].count++;
+            job[t].deadline = tick + s->task[t].period;
+            job[t].left = job_time(s, t, plan[t]);
+        }
+}
+
+/* 'The released, unfinished job with the earliest deadline'; 'a tie goes to the lower task number' */
+static struct job *to_run(const struct task_set *s, struct job *job)
+{
+    struct job *earliest = NULL;
+
+    for (uint64_t t = 0; t < s->tasks; t++)
+        if (job[t].left > 0 && (earliest == NULL || job[t].deadline < earliest->deadline))
+            earliest = &job[t];
+    return earliest;
+}
+
+static int is_preempted(const struct job *before, const struct job *runs)
+{
+    int another = before->task != runs->task || before->count != runs->count;
+
+    return another && before->left > 0;
+}
+
+/* Goes tick by tick from 0 to L. */
+static void walk(const struct task_set *s, const uint32_t *plan, uint64_t *value)
+{
+    struct job job[MOST_TASKS] = {{0}}, before = {0};   /* before: as the tick before left it; nothing left where there was none */
+    uint64_t busy = 0, idle = 0, preemptions = 0;
+
+    for (uint64_t t = 0; t < s->tasks; t++)
+        job[t].task = t;
+    for (uint64_t tick = 0; tick <= s->span; tick++) {
+        uint64_t late = missing(s, job, tick);
+        struct job *runs;
+        if (late != 0) {
+            value[0] = 0;
+            value[1] = tick;
+            value[2] = late;
+            value[3] = 0;
+            return;
+        }
+        if (tick == s->span)
+            break;                      /* 'At L the check is made and nothing is released.' */
+        release(s, plan, tick, job);
+        runs = to_run(s, job);
+        if (runs == NULL) {
+            idle++;
+            before.left = 0;
+            continue;
+        }
+        preemptions += (uint64_t)is_preempted(&before, runs);
+        runs->left--;
+        busy++;
+        before = *runs;
+    }
+    value[0] = 1;
+    value[1] = busy;
+    value[2] = idle;
+    value[3] = preemptions;
+}
+
+void expect_walk(const uint32_t *set, size_t set_len, const uint32_t *plan, size_t plan_len, size_t results_len,
+                 struct answer *answer)
+{
+    struct task_set s;
+
+    *answer = (struct answer){0};
+    answer->code = check_set(set, set_len, &s);
+    if (answer->code != 0)
+        return;
+    answer->span = s.span;
+    answer->code = check_8(&s, plan, plan_len);
+    if (answer->code == 0 && results_len < RESULT_BYTES)
+        answer->code = refusal(6, RESULT_BYTES);
+    if (answer->code == 0)
+        walk(&s, plan, answer->value);
+}

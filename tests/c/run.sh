@@ -1,0 +1,20 @@
+#!/usr/bin/env bash
+# Builds the C test over the archive that `rt staticlib capi` writes, and runs it: bash tests/c/run.sh [SEED [RANDOM SETS]]
+# With VALGRIND=1 in the environment it runs under valgrind, where also reading outside the lent lists is seen; this takes minutes.
+set -eu
+cd "$(dirname "$0")/../.."
+
+archive=target/staticlib/libcapi.a
+if [ ! -f "$archive" ]; then
+    echo "tests/c: there is no $archive; rt staticlib capi writes it" >&2
+    exit 1
+fi
+out=target/tests/c
+mkdir -p "$out"
+
+if [ -n "${VALGRIND:-}" ]; then
+    cc -Wall -Wextra -O2 -g -DWITH_VALGRIND tests/c/calls.c tests/c/sets.c tests/c/reference.c "$archive" -o "$out/calls-valgrind"
+    exec valgrind --error-exitcode=1 "$out/calls-valgrind" "$@"
+fi
+cc -Wall -Wextra -O2 tests/c/calls.c tests/c/sets.c tests/c/reference.c "$archive" -o "$out/calls"
+exec "$out/calls" "$@"
