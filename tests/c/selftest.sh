@@ -1,0 +1,155 @@
+#!/usr/bin/env bash
+# Shows that the C test can fail: bash tests/c/selftest.sh
+# The reference takes the archive's place (standin.c), as it is and then with one error planted at a time; as it is no call may
+# depart, and with an error some call must.
+set -eu
+cd "$(dirname "$0")/../.."
+
+out=target/tests/planted
+mkdir -p "$out"
+cc -O2 -c tests/c/calls.c -o "$out/calls.o"
+cc -O2 -c tests/c/sets.c -o "$out/sets.o"
+cc -O2 -c tests/c/reference.c -o "$out/reference.o"
+
+# build FOLDER: the test with the stand-in of that folder, under names of its own so that the test's reference stays as it is.
+build() {
+    local renamed="-Dexpect_plan=standin_plan -Dexpect_walk=standin_walk -Dcan_be_written=standin_can_be_written"
+    # shellcheck disable=SC2086
+    cc -O1 -w $renamed -Itests/c "$1/reference.c" "$1/standin.c" "$out/calls.o" "$out/sets.o" "$out/reference.o" -o "$1/calls"
+}
+
+# lay_out NAME: a copy of the stand-in, in a folder that it prints.
+lay_out() {
+    local folder=$out/$1
+    mkdir -p "$folder"
+    cp tests/c/reference.c tests/c/reference.h "$folder"
+    sed 's|"\.\./\.\./include/|"|' tests/c/standin.c >"$folder/standin.c"
+    cp include/seedspell.h "$folder"
+    echo "$folder"
+}
+
+missed=0
+planted=0
+# plant NAME FILE OLD NEW: replaces the one place where FILE has OLD, and expects that a call departs, or that the error ends the run.
+plant() {
+    local folder text rest status=0 found
+    folder=$(lay_out "$1")
+    text=$(cat "$folder/$2")
+    rest=${text#*"$3"}
+    if [ "$rest" = "$text" ] || [ "${rest#*"$3"}" != "$rest" ]; then
+        echo "selftest: $1: there is not one place in $2 with: $3" >&2
+        exit 1
+    fi
+    printf '%s\n' "${text/"$3"/"$4"}" >"$folder/$2"
+    build "$folder"
+    { "$folder/calls" 1 4000 >"$folder/output" 2>&1; } 2>/dev/null || status=$?
+    planted=$((planted + 1))
+    found=$(grep -m 1 -E '^call [0-9]+ of .* departs$' "$folder/output") || true
+    if [ -z "$found" ] && [ "$status" -gt 128 ]; then
+        found="the run is ended by signal $((status - 128))"
+    fi
+    if [ -z "$found" ]; then
+        echo "selftest: $1: not found" >&2
+        missed=$((missed + 1))
+    else
+        printf '%-28s %s\n' "$1" "$found"
+    fi
+}
+
+folder=$(lay_out none)
+build "$folder"
+"$folder/calls" 1 4000 >"$folder/output" 2>&1 || true      # so few random sets are too few, which is no matter here
+if grep -q departs "$folder/output" || ! grep -q '^hyper-period over' "$folder/output"; then
+    echo "selftest: the stand-in without an error is turned down: see $folder/output" >&2
+    exit 1
+fi
+
+# Document 01's plausible errors
+plant rate-entry-one-late reference.c 's->task[t].cycles, s->rate[r])' 's->task[t].cycles, s->rate[r + 1])'
+plant energy-entry-one-early reference.c 's->task[t].period * s->task[t].energy[r]' 's->task[t].period * s->task[t].energy[r - 1]'
+plant rounded-to-nearest reference.c 'divided_up(task_energy(s, t, r), unit)' '(task_energy(s, t, r) + unit / 2) / unit'
+plant rounded-down reference.c 'divided_up(task_energy(s, t, r), unit)' 'task_energy(s, t, r) / unit'
+plant rounded-by-job reference.c 'divided_up(task_energy(s, t, r), unit)' 's->span / s->task[t].period * divided_up(s->task[t].energy[r], unit)'
+plant full-load-refused reference.c 'return load <= s->span;' 'return load < s->span;'
+plant load-one-over reference.c 'return load <= s->span;' 'return load <= s->span + 1;'
+plant ties-by-rate-first reference.c 'if (x->load != y->load)' 'if (0)'
+plant ties-by-first-task reference.c 'return &e->back[MOST_TASKS - 1 - t];' 'return &e->back[t];'
+plant ties-by-highest-rate reference.c 'return memcmp(x->back, y->back, MOST_TASKS);' 'return memcmp(y->back, x->back, MOST_TASKS);'
+plant miss-when-late-job-ends reference.c 'if (job[t].left != 0 && is_due(s, t, tick))' 'if (job[t].left == 1 && job[t].deadline < tick)'
+
+# The choice
+plant job-time-rounded-down reference.c 'return divided_up(s->task[t].cycles, s->rate[r]);' 'return s->task[t].cycles / s->rate[r];'
+plant first-unit-of-lowest-rate reference.c 'energy += task_energy(s, t, s->rates);' 'energy += task_energy(s, t, 1);'
+plant stops-only-above reference.c 'return s->slack * rounded >= 2000 * s->tasks;' 'return s->slack * rounded > 2000 * s->tasks;'
+plant stops-one-task-early reference.c 'return s->slack * rounded >= 2000 * s->tasks;' 'return s->slack * rounded >= 2000 * (s->tasks - 1);'
+plant smallest-unit-2 reference.c '|| unit == 1)' '|| unit <= 2)'
+plant every-set-refused reference.c 'if (answer->alike == 0) {' 'if (1) {'
+plant all-at-highest-rate reference.c 'uint64_t r = *rate_of(best, t);' 'uint64_t r = s->rates;'
+plant load-given-as-energy reference.c 'answer->value[3] += task_energy(s, t, r);' 'answer->value[3] += task_load(s, t, r);'
+
+# Checks and their order
+plant slack-to-1001 reference.c 'next_word(&from, 1, 1000);' 'next_word(&from, 1, 1001);'
+plant energy-from-0 reference.c 's->task[t].energy[r] = next_word(&from, 1, 1000000);' 's->task[t].energy[r] = next_word(&from, 0, 1000000);'
+plant rates-to-7 reference.c 'next_word(&from, 2, 8);' 'next_word(&from, 2, 7);'
+plant rates-from-1 reference.c 'next_word(&from, 2, 8);' 'next_word(&from, 1, 8);'
+plant tasks-to-31 reference.c 'next_word(&from, 1, 32);' 'next_word(&from, 1, 31);'
+plant period-below-end reference.c 'next_word(&from, 1, 10000000);' 'next_word(&from, 1, 9999999);'
+plant cycles-one-more reference.c 'next_word(&from, 1, 4000000000u);' 'next_word(&from, 1, 4000000001u);'
+plant energy-one-more reference.c 's->task[t].energy[r] = next_word(&from, 1, 1000000);' 's->task[t].energy[r] = next_word(&from, 1, 1000001);'
+plant left-over-allowed reference.c 'from.at_fault || from.at < from.len ?' 'from.at_fault ?'
+plant reads-past-the-set reference.c 'from->at == from->len ||' 'from->at == from->len + 1 ||'
+plant equal-rates-allowed reference.c 'if (!(s->rate[r] > s->rate[r - 1]))' 'if (!(s->rate[r] >= s->rate[r - 1]))'
+plant rate-number-for-place reference.c 'return refusal(3, 1 + r);' 'return refusal(3, r);'
+plant span-below-limit reference.c 'if (running > LONGEST)' 'if (running >= LONGEST)'
+plant span-one-over reference.c 'if (running > LONGEST)' 'if (running > LONGEST + 1)'
+plant place-of-cycles reference.c 'return refusal(4, 3 + s->rates' 'return refusal(4, 4 + s->rates'
+plant fewer-words-needed reference.c '(4000 * s->tasks / s->slack + 1)' '(4000 * s->tasks / s->slack)'
+plant words-rounded-up reference.c '(4000 * s->tasks / s->slack + 1)' '(divided_up(4000 * s->tasks, s->slack) + 1)'
+plant work-one-more-asked reference.c 'if (work_len < words_needed(s))' 'if (work_len <= words_needed(s))'
+plant plan-list-before-work reference.c 'if (work_len < words_needed(s))' 'if (plan_len >= s->tasks && work_len < words_needed(s))'
+plant plan-list-one-short reference.c 'if (plan_len < s->tasks)' 'if (plan_len + 1 < s->tasks)'
+plant results-31-allowed reference.c 'if (results_len < RESULT_BYTES)' 'if (results_len < RESULT_BYTES - 1)'
+plant results-before-7 reference.c 'answer->code = check_lent(&s, plan_len, work_len, results_len);' 'answer->code = least_load(&s) > s.span && work_len >= words_needed(&s) ? refusal(7, 0) : check_lent(&s, plan_len, work_len, results_len);'
+plant plan-word-m-plus-1 reference.c 'plan[i] > s->rates)' 'plan[i] > s->rates + 1)'
+plant plan-word-0 reference.c 'if (plan[i] < 1 ||' 'if (plan[i] < 0 ||'
+plant long-plan-by-length reference.c 'lowest = s->tasks;' 'lowest = plan_len;'
+plant last-bad-plan-word reference.c 'for (size_t i = plan_len; i-- > 0;)' 'for (size_t i = 0; i < plan_len; i++)'
+plant results-before-8 reference.c 'if (answer->code == 0 && results_len < RESULT_BYTES)' 'if (results_len < RESULT_BYTES)'
+
+# The walk
+plant ties-to-higher-task reference.c 'job[t].deadline < earliest->deadline))' 'job[t].deadline <= earliest->deadline))'
+plant highest-task-missed reference.c 'for (uint64_t t = 0; t < s->tasks; t++)
+        if (job[t].left != 0' 'for (uint64_t t = s->tasks; t-- > 0;)
+        if (job[t].left != 0'
+plant no-check-at-the-end reference.c 'if (late != 0) {' 'if (late != 0 && tick < s->span) {'
+plant finished-is-preempted reference.c 'return another && before->left > 0;' 'return another;'
+plant preempted-by-task reference.c 'is_preempted(&before, runs);' 'is_preempted(&job[before.task], runs);'
+plant idle-one-less reference.c 'value[2] = idle;' 'value[2] = idle - (idle > 0);'
+
+# What is written
+plant plan-word-past-n standin.c 'memcpy(plan, answer.plan, answer.plan_words * sizeof *plan);' 'memcpy(plan, answer.plan, (answer.plan_words + 1) * sizeof *plan);'
+plant plan-untouched standin.c 'memcpy(plan, answer.plan, answer.plan_words * sizeof *plan);' ''
+plant plan-from-0 standin.c 'memcpy(plan, answer.plan, answer.plan_words * sizeof *plan);' 'for (size_t t = 0; t < answer.plan_words; t++) plan[t] = answer.plan[t] - 1;'
+plant work-word-past-w standin.c 'memset(work, 0, answer.work_words * sizeof *work);' 'memset(work, 0, (answer.work_words + 1) * sizeof *work);'
+plant work-word-left standin.c 'memset(work, 0, answer.work_words * sizeof *work);' 'memset(work, 0, (answer.work_words - 1) * sizeof *work);'
+plant work-all-cleared standin.c 'memset(work, 0, answer.work_words * sizeof *work);' 'memset(work, 0, work_len * sizeof *work);'
+plant work-before-the-list standin.c 'memset(work, 0, answer.work_words * sizeof *work);' 'memset(work - 1, 0, (answer.work_words + 1) * sizeof *work);'
+plant writes-when-refusing-7 standin.c 'if (answer.code != 0)
+        return answer.code;' 'if (answer.code >> 32 == 7)
+        work[0] = 0;
+    if (answer.code != 0)
+        return answer.code;'
+plant results-when-refusing standin.c 'if (answer.code == 0)' 'if (answer.code == 0 || (results_len >= 32 && answer.code >> 32 == 8))'
+plant highest-byte-first standin.c '(uint8_t)(value[k] >> (8 * i))' '(uint8_t)(value[k] >> (8 * (7 - i)))'
+plant four-bytes-of-each standin.c 'for (int i = 0; i < 8; i++)' 'for (int i = 0; i < 4; i++)'
+plant byte-past-results standin.c 'for (int k = 0; k < 4; k++)' 'results[32] = 0;
+    for (int k = 0; k < 4; k++)'
+plant reads-its-room standin.c 'memset(work, 0, answer.work_words * sizeof *work);' 'answer.value[0] += work[0] == 1;
+    memset(work, 0, answer.work_words * sizeof *work);'
+plant set-changed standin.c 'memset(work, 0, answer.work_words * sizeof *work);' 'memset(work, 0, answer.work_words * sizeof *work);
+    ((uint32_t *)set)[set_len - 1] ^= 1;'
+plant walk-plan-changed standin.c 'expect_walk(set, set_len, plan, plan_len, results_len, &answer);' 'expect_walk(set, set_len, plan, plan_len, results_len, &answer);
+    ((uint32_t *)plan)[plan_len] = 0;'
+
+echo "$planted errors planted, $missed not found"
+[ "$missed" -eq 0 ]
