@@ -1,0 +1,289 @@
+/* A sheet builder: the boot table and the battery page of one recorder, from the word list of its task set.
+
+       sheet TICK <LIST
+
+   TICK is the length of a tick in microseconds, 1 to 1,000,000,000. LIST is the set's words as plain numbers with spaces or line
+   ends between them; include/seedspell.h says which words those are.
+
+   Ends with 0 where there is a plan, with 1 where the planner refuses the set (and the sheet says what to mend), with 2 where the
+   input cannot be used.
+
+   All arithmetic is in whole numbers. What is rounded is rounded up, so that no page promises more than the battery has. */
+
+#include <ctype.h>
+#include <inttypes.h>
+#include <stdio.h>
+#include <stdlib.h>
+
+#include "../../include/seedspell.h"
+
+#define MOST_TASKS 32
+#define MOST_WORDS (3 + 8 + MOST_TASKS * (2 + 8))       /* of a set with 8 rates and 32 tasks */
+#define WORK_WORDS 16384
+#define DAY UINT64_C(86400000000)                       /* in microseconds */
+#define LONGEST_TICK 1000000000
+
+/* One word more than the longest set: a longer list is refused by the words up to there, whatever follows. */
+static uint32_t set[MOST_WORDS + 1];
+static size_t set_len;
+static uint32_t plan[MOST_TASKS], work[WORK_WORDS];
+
+static uint32_t rates(void)
+{
+    return set[1];
+}
+
+static uint32_t tasks(void)
+{
+    return set[2 + rates()];
+}
+
+/* ---- Input */
+
+static _Noreturn void unusable(const char *what)
+{
+    fprintf(stderr, "sheet: %s\n", what);
+    exit(2);
+}
+
+/* The next number of standard input; returns 0 at its end. */
+static int read_number(uint32_t *number)
+{
+    uint64_t value = 0;
+    int c = getchar();
+
+    while (c != EOF && isspace(c))
+        c = getchar();
+    if (c == EOF)
+        return 0;
+    for (; c != EOF && !isspace(c); c = getchar()) {
+        if (!isdigit(c))
+            unusable("standard input has something other than numbers with spaces or line ends between them");
+        value = 10 * value + (uint64_t)(c - '0');
+        if (value > UINT32_MAX)
+            unusable("standard input has a number that is no 32-bit word");
+    }
+    *number = (uint32_t)value;
+    return 1;
+}
+
+static void read_set(void)
+{
+    uint32_t word;
+
+    while (read_number(&word))
+        if (set_len <= MOST_WORDS)
+            set[set_len++] = word;
+    if (ferror(stdin))
+        unusable("standard input cannot be read");
+}
+
+static uint64_t read_tick(const char *text)
+{
+    char *end;
+    unsigned long long tick = strtoull(text, &end, 10);
+
+    if (!isdigit((unsigned char)*text) || *end != '\0' || tick < 1 || tick > LONGEST_TICK)
+        unusable("the tick is a number of microseconds, 1 to 1000000000");
+    return tick;
+}
+
+/* ---- Numbers */
+
+/* Results are four values of eight bytes each, lowest byte first, whatever the order on this machine. */
+static void read_results(const uint8_t *results, uint64_t *value)
+{
+    for (int k = 0; k < 4; k++) {
+        value[k] = 0;
+        for (int i = 7; i >= 0; i--)
+            value[k] = value[k] << 8 | results[8 * k + i];
+    }
+}
+
+/* a x b / c rounded up, for c up to 2^62 and an answer of at most 64 bits. The product may be longer than that (an energy of
+   3.2e14 times a day of 8.64e10 microseconds is), so it is made from the bits of b, and only quotient and remainder are kept. */
+static uint64_t scaled(uint64_t a, uint64_t b, uint64_t c)
+{
+    uint64_t quotient = 0, rest = 0;
+
+    for (int bit = 63; bit >= 0; bit--) {
+        quotient = 2 * quotient + 2 * rest / c;
+        rest = 2 * rest % c;
+        if (b >> bit & 1) {
+            quotient += a / c + (a % c + rest) / c;
+            rest = (a % c + rest) % c;
+        }
+    }
+    return quotient + (rest > 0);
+}
+
+/* ---- Where the set is refused */
+
+/* Prints what stands at a place of the set, in plain words. The words before it are in their ranges. */
+static void print_place(size_t at)
+{
+    size_t of_task, k;
+
+    if (at == 0) {
+        printf("the slack");
+    } else if (at == 1) {
+        printf("the number of rates");
+    } else if (at < 2 + (size_t)rates()) {
+        printf("rate number %zu", at - 1);
+    } else if (at == 2 + (size_t)rates()) {
+        printf("the number of tasks");
+    } else {
+        k = (at - 3 - rates()) / (2 + rates()) + 1;
+        of_task = (at - 3 - rates()) % (2 + rates());
+        if (k > tasks())
+            printf("a word after those of the last task");
+        else if (of_task == 0)
+            printf("the period of task %zu", k);
+        else if (of_task == 1)
+            printf("the cycles of task %zu", k);
+        else
+            printf("the energy of task %zu at rate number %zu", k, of_task - 1);
+    }
+}
+
+/* The range of the word at a place. */
+static const char *range_of(size_t at)
+{
+    size_t of_task;
+
+    if (at == 0)
+        return "1 to 1000 thousandths";
+    if (at == 1)
+        return "2 to 8";
+    if (at < 2 + (size_t)rates())
+        return "1 to 1000000 cycles a tick";
+    if (at == 2 + (size_t)rates())
+        return "1 to 32";
+    of_task = (at - 3 - rates()) % (2 + rates());
+    if (of_task == 0)
+        return "1 to 10000000 ticks";
+    return of_task == 1 ? "1 to 4000000000 cycles" : "1 to 1000000 microjoules";
+}
+
+static int is_left_over(size_t at)
+{
+    return at >= 2 && at > 2 + (size_t)rates() && (at - 3 - rates()) / (2 + rates()) >= tasks();
+}
+
+static void explain_word(size_t at)
+{
+    if (at == set_len) {
+        printf("The list ends after %zu words, and ", at);
+        print_place(at);
+        printf(" would be next.\nTo mend: give every word that the numbers of rates and tasks ask for.\n");
+    } else if (is_left_over(at)) {
+        printf("Place %zu holds %" PRIu32 ", and task %" PRIu32 ", the last, ends before it.\n", at, set[at], tasks());
+        printf("To mend: leave out what is over, or correct the number of tasks or of rates.\n");
+    } else {
+        printf("Place %zu, ", at);
+        print_place(at);
+        printf(", holds %" PRIu32 ".\nTo mend: give %s.\n", set[at], range_of(at));
+    }
+}
+
+static void explain(uint32_t number, uint32_t second)
+{
+    printf("NO PLAN: refusal %" PRIu32 " with %" PRIu32 "\n", number, second);
+    switch (number) {
+    case SEEDSPELL_BAD_WORD:
+        explain_word(second);
+        break;
+    case SEEDSPELL_NOT_ABOVE:
+        printf("Place %" PRIu32 ", ", second);
+        print_place(second);
+        printf(", holds %" PRIu32 ", and the rate before it is %" PRIu32 ".\n", set[second], set[second - 1]);
+        printf("To mend: put the rates in rising order, each once, and the energies of every task in the same order.\n");
+        break;
+    case SEEDSPELL_TOO_LONG:
+        printf("Place %" PRIu32 ", ", second);
+        print_place(second);
+        printf(", holds %" PRIu32 ": with it the least common multiple of the periods passes 10000000 ticks.\n", set[second]);
+        printf("To mend: choose periods that are multiples of one another, or nearly so.\n");
+        break;
+    case SEEDSPELL_WORK_SHORT:
+        printf("%" PRIu32 " tasks at a slack of %" PRIu32 " thousandths need %" PRIu32 " working words, and this host has %d.\n",
+               tasks(), set[0], second, WORK_WORDS);
+        printf("To mend: raise the slack, plan fewer tasks, or build the host with more words.\n");
+        break;
+    case SEEDSPELL_TOO_SHORT:
+        printf("A list for what the planner gives is too short: it takes %" PRIu32 " words or bytes.\n", second);
+        printf("To mend: this host lends enough for every set, so the host itself is at fault.\n");
+        break;
+    case SEEDSPELL_NO_PLAN:
+        printf("With every task at rate number %" PRIu32 ", the highest, the jobs still take more ticks than there are.\n", rates());
+        printf("To mend: fewer cycles a job, longer periods, fewer tasks, or a higher rate.\n");
+        break;
+    default:
+        printf("The planner has no such refusal: host and archive do not belong together.\n");
+    }
+}
+
+/* ---- The sheet */
+
+/* Rate numbers count from 1 and a C table from 0: of M settings rate number M is the last, at entry M - 1, and at entry M there is
+   none. This is the only place that turns a rate number into a setting. */
+static uint32_t clock_setting(const uint32_t *settings, uint32_t rate_number)
+{
+    return settings[rate_number - 1];
+}
+
+static void print_boot_table(void)
+{
+    const uint32_t *settings = set + 2;                 /* the set's own rates: M entries, 0 to M - 1 */
+
+    printf("BOOT TABLE\ntask  rate  clock setting (cycles a tick)\n");
+    for (uint32_t k = 1; k <= tasks(); k++)
+        printf("%4" PRIu32 "  %4" PRIu32 "  %" PRIu32 "\n", k, plan[k - 1], clock_setting(settings, plan[k - 1]));
+}
+
+/* A job takes a tick at least and 1,000,000 microjoules at most, and a day has at most 8.64e10 ticks: so a day's energy is at most
+   8.64e16 microjoules. */
+static void print_battery_page(const uint64_t *planned, const uint64_t *walked, uint64_t tick)
+{
+    uint64_t unit = planned[0], load = planned[1], span = planned[2], energy = planned[3];
+    uint64_t per_cent = scaled(load, 10000, span);      /* in hundredths */
+    uint64_t per_day = scaled(energy, DAY, span * tick);
+
+    printf("\nBATTERY PAGE\n");
+    printf("tick          %" PRIu64 " us\n", tick);
+    printf("hyper-period  ticks: %" PRIu64 ", busy: %" PRIu64 ", idle: %" PRIu64 ", preemptions: %" PRIu64 "\n", span, load, walked[2],
+           walked[3]);
+    printf("load          %" PRIu64 ".%02" PRIu64 " %% of the hyper-period\n", per_cent / 100, per_cent % 100);
+    printf("unit          %" PRIu64 " uJ\n", unit);
+    printf("energy        %" PRIu64 " uJ a hyper-period\n", energy);
+    printf("              %" PRIu64 ".%06" PRIu64 " J a day\n", per_day / 1000000, per_day % 1000000);
+    printf("              within %" PRIu32 ".%" PRIu32 " %% of the least\n", set[0] / 10, set[0] % 10);
+}
+
+int main(int argc, char **argv)
+{
+    uint8_t results[SEEDSPELL_RESULT_BYTES];
+    uint64_t tick, returned, planned[4], walked[4];
+
+    if (argc != 2)
+        unusable("give the length of a tick in microseconds, and the set's words on standard input");
+    tick = read_tick(argv[1]);
+    read_set();
+
+    returned = seedspell_plan(set, set_len, plan, MOST_TASKS, work, WORK_WORDS, results, sizeof results);
+    if (returned != 0) {
+        explain(SEEDSPELL_REFUSAL(returned), SEEDSPELL_SECOND(returned));
+        return 1;
+    }
+    read_results(results, planned);
+
+    /* The walk says the same again, tick by tick; a host that finds otherwise was linked with something else. */
+    returned = seedspell_walk(set, set_len, plan, tasks(), results, sizeof results);
+    read_results(results, walked);
+    if (returned != 0 || walked[0] != 1 || walked[1] != planned[1] || walked[1] + walked[2] != planned[2])
+        unusable("the walk does not bear out the plan: host and archive do not belong together");
+
+    print_boot_table();
+    print_battery_page(planned, walked, tick);
+    return 0;
+}
