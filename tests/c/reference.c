@@ -7,7 +7,6 @@
 #include "reference.h"
 
 #define LONGEST 10000000u               /* the hyper-period is at most this */
-#define FEW_PLANS 700                   /* up to this many plans, the planner's choice goes through all */
 
 struct task {
     uint64_t period, cycles;
@@ -282,14 +281,19 @@ static uint64_t choose_task_by_task(const struct task_set *s, uint64_t unit, str
     return 1;
 }
 
-static uint64_t choose(enum way way, const struct task_set *s, uint64_t unit, struct entry *best)
+static uint64_t number_of_plans(const struct task_set *s)
 {
     uint64_t plans = 1;
 
-    for (uint64_t t = 0; t < s->tasks && plans <= FEW_PLANS; t++)
-        plans *= s->rates;
+    for (uint64_t t = 0; t < s->tasks; t++)
+        plans = plans * s->rates > MANY_PLANS ? MANY_PLANS : plans * s->rates;
+    return plans;
+}
+
+static uint64_t choose(enum way way, const struct task_set *s, uint64_t unit, struct entry *best)
+{
     if (way == BY_SIZE)
-        way = plans <= FEW_PLANS ? ALL_PLANS : TASK_BY_TASK;
+        way = number_of_plans(s) <= FEW_PLANS ? ALL_PLANS : TASK_BY_TASK;
     return way == ALL_PLANS ? choose_from_all(s, unit, best) : choose_task_by_task(s, unit, best);
 }
 
@@ -369,6 +373,7 @@ void expect_plan(enum way way, const uint32_t *set, size_t set_len, size_t plan_
         return;
     answer->span = s.span;
     answer->least_load = least_load(&s);
+    answer->plans = number_of_plans(&s);
     answer->code = check_lent(&s, plan_len, work_len, results_len);
     if (answer->code != 0)
         return;

@@ -12,6 +12,8 @@
 #define MOST_TASKS 32
 #define MOST_RATES 8
 #define RESULT_BYTES 32
+#define FEW_PLANS 700                   /* up to this many plans, the planner's choice goes through all */
+#define MANY_PLANS 1000000
 
 struct answer {
     uint64_t code;                      /* what the call returns */
@@ -23,6 +25,7 @@ struct answer {
     /* Of which kind the call is: for the counts, and for whoever draws sets. */
     uint64_t span;                      /* the hyper-period L where the set passes checks 2, 3 and 4, else 0 */
     uint64_t least_load;                /* of the planner: the load with every task at its least */
+    uint64_t plans;                     /* of the planner: M to the power N, or MANY_PLANS where that is more */
     uint64_t alike;                     /* of the planner, where it went through all plans: how many of those that fit have the
                                            least rounded energy and the least load, so that rate numbers decide */
 };
