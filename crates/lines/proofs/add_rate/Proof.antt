@@ -6,10 +6,9 @@ use mathlib.Core.List.{List, _++_, append-assoc}
 use native.Mathlib.Omega.{arith}
 use denote.Ref.{now}
 use lib.ListN.{length-append}
-use Rattle.taskset.specs.Refusals.{number, second}
 use Rattle.text.specs.Text.{bytes, decimal}
 use Rattle.text.proofs.Sizes.{decimal-length}
-use Rattle.printer.proofs.Puts.{Part, begin, go-on, front}
+use Rattle.printer.proofs.Puts.{Part, begin, go-on}
 use Rattle.lines.specs.Lines.{rateLine}
 use borrow.Author.Needs.{needs}
 use Rattle.lines.proofs.add_rate.Statement.{statement}

@@ -1,6 +1,6 @@
 -- A line for each rate. The loop's invariant: those of the first `i` tasks are in place.
 -- Assumes nothing.
-use Prim.Native.Nat.{ℕ, _+_, _-_, _*_, _≤_}
+use Prim.Native.Nat.{_+_, _-_, _≤_}
 use mathlib.Core.Path.{_≡_, refl, _∙_}
 use native.Mathlib.Omega.{arith}
 use native.Mathlib.Numerals.{add-one}
@@ -10,7 +10,7 @@ use lib.Seq.{take-suc, take-length, length-take-le}
 use Rattle.printer.specs.Puts.{Added}
 use Rattle.printer.proofs.Puts.{none-added, then}
 use Rattle.lines.specs.Lines.{rateLines}
-use Rattle.lines.proofs.Lengths.{rate-short, rates-short, rates-more}
+use Rattle.lines.proofs.Lengths.{rates-short, rates-more}
 use borrow.Author.Needs.{needs}
 use Rattle.lines.proofs.add_rates.Statement.{statement}
 use Rattle.lines.proofs.add_rates.Tie as tie

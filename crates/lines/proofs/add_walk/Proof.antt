@@ -2,14 +2,13 @@
 -- Assumes nothing.
 use Prim.Native.Nat.{ℕ, _+_}
 use mathlib.Core.Path.{_≡_}
-use mathlib.Core.List.{List, _++_, append-assoc}
+use mathlib.Core.List.{List, _++_}
 use native.Mathlib.Omega.{arith}
 use denote.Ref.{now}
 use lib.ListN.{length-append}
-use Rattle.taskset.specs.Refusals.{number, second}
 use Rattle.text.specs.Text.{bytes, decimal}
 use Rattle.text.proofs.Sizes.{decimal-length}
-use Rattle.printer.proofs.Puts.{Part, begin, go-on, front}
+use Rattle.printer.proofs.Puts.{Part, begin, go-on}
 use Rattle.lines.specs.Lines.{walkLine}
 use Rattle.lines.proofs.Lengths.{three-fields}
 use borrow.Author.Needs.{needs}

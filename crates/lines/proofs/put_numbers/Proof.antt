@@ -6,7 +6,6 @@ use mathlib.Core.List.{List, _++_, append-assoc}
 use native.Mathlib.Omega.{arith}
 use denote.Ref.{now}
 use lib.ListN.{length-append}
-use Rattle.taskset.specs.Refusals.{number, second}
 use Rattle.text.specs.Text.{bytes, decimal}
 use Rattle.text.proofs.Sizes.{decimal-length}
 use Rattle.printer.proofs.Puts.{Part, begin, go-on, front}

@@ -1,10 +1,10 @@
 -- The lines of a plan: each goes behind those before it.
 -- Assumes nothing.
-use Prim.Native.Nat.{ℕ, _+_, _*_}
+use Prim.Native.Nat.{_+_}
 use mathlib.Core.List.{_++_, append-assoc}
 use native.Mathlib.Omega.{arith}
 use denote.Ref.{now}
-use lib.ListN.{length, length-append}
+use lib.ListN.{length-append}
 use Rattle.printer.proofs.Puts.{Part, begin, go-on, front}
 use Rattle.lines.specs.Lines.{planLine, rateLines, walkLine}
 use Rattle.lines.proofs.Lengths.{plan-short, rates-short}

@@ -1,9 +1,6 @@
 -- The line of a refusal, by its two numbers.
 -- Assumes nothing.
-use denote.Ref.{now}
-use Rattle.printer.specs.Puts.{Put}
 use borrow.Author.Needs.{needs}
-use Rattle.lines.specs.Lines.{refusedLine}
 use Rattle.lines.proofs.put_refused.Statement.{statement}
 use Rattle.lines.proofs.put_refused.Tie as tie
 

@@ -1,0 +1,154 @@
+-- From the functions below it to the call: what the reader, the planner and the walk give is what is printed.
+-- Assumes nothing.
+use Prim.Native.Nat.{ℕ, _+_, _*_, _≤_, _<_}
+use mathlib.Core.Path.{_≡_, refl, sym, ap, _∙_, subst}
+use mathlib.Core.List.{List, [], _∷_, _++_}
+use mathlib.Core.Logic.{inl, ⊎-elim}
+use native.Mathlib.Omega.{arith}
+use lib.ListN.{length, take, drop}
+use lib.Seq.{take-at}
+use Rattle.selection.specs.Plan.{Fitting}
+use Rattle.taskset.specs.Words.{listHead, taskCount}
+use Rattle.taskset.specs.Quantities.{problem}
+use Rattle.taskset.specs.Refusals.{number, second, NoneOk, check, Accepts, Refuses, readyChecks, plannerChecks, walkChecks}
+use Rattle.taskset.specs.declared.Refusal.{Refusal}
+use Rattle.taskset.specs.declared.Refusal.the-variants.{TooShort}
+use Rattle.taskset.specs.declared.Checked.the-variants.{Refused as NotGood}
+use Rattle.taskset.specs.declared.CopyAnswer.{CopyAnswer}
+use Rattle.taskset.specs.declared.CopyAnswer.the-variants.{Wrote, Refused as NotCopied}
+use Rattle.taskset.specs.declared.PlannerAnswer.the-variants.{Planned, Refused as NotPlanned}
+use Rattle.taskset.specs.declared.WalkAnswer.the-variants.{Kept, Missed, Refused as NotWalked}
+use Rattle.taskset.proofs.Checks.{refuses-front, not-both}
+use Rattle.taskset.proofs.DemandThree.{outcome-kept, sound-plan}
+use Rattle.text.specs.Text.{Script, IsTextOf, WellFormed, FirstBad, words}
+use Rattle.text.specs.Calls.{ReaderGives}
+use Rattle.text.proofs.Sizes.{words-length}
+use Rattle.text.proofs.Writing.{placed, length-placed}
+use Rattle.printer.specs.Puts.{Put}
+use Rattle.lines.specs.Lines.{planLine, rateLines, walkLine, refusedLine}
+use Rattle.planner.specs.Answers.{PlannerCall}
+use Rattle.planner.specs.Ready.{ReadyAnswers}
+use Rattle.walk.specs.Answers.{Walked}
+use Rattle.answer.specs.Answer.{workWords, planWords, Prints, departs, refused, planned, RespondGives, Responds}
+use Rattle.answer.specs.Steps as steps
+use Rattle.answer.specs.Steps.{PlanGiven, PrintsSet, PutSet, PutAnswer}
+use Rattle.answer.proofs.Outputs.{is-plan, plan-length, promise, seven-iff, output-short}
+
+-- ---- a plan and its walk
+module _ (s P : List ℕ) (unit load hyper energy : ℕ) (given : PlanGiven s P unit load hyper energy) where
+  pub plan-room : 210 + 49 * length P ≤ 2048
+  plan-room = omega (arith, plan-length s (given .accepts) P unit load hyper energy (given .selected))
+
+  pub plan-kept : (b i p : ℕ) (d d′ : List ℕ) (n : ℕ) → Walked s P (Kept b i p)
+      → Put (planLine unit load hyper energy ++ (rateLines 1 P ++ walkLine b i p)) d d′ n → PutSet s d d′ n
+  plan-kept b i p d d′ n w put = (
+    planLine unit load hyper energy ++ (rateLines 1 P ++ walkLine b i p),
+    steps.planned P unit load hyper energy b i p
+        (record { accepts = given .accepts; selected = given .selected; walked = outcome-kept _ b i p (w .answers .1); lines = refl }),
+    put,
+  )
+
+  -- The two other answers of the walk do not occur.
+  pub not-missed : (t k : ℕ) → Walked s P (Missed t k) → ⊥
+  not-missed t k w = w .owes (promise s (given .accepts) P unit load hyper energy (given .selected) .keeps .for-ever)
+
+  accepted : Accepts (walkChecks s P)
+  accepted =
+      let a = given .accepts in
+      (a .0, (a .1 .0, (a .1 .1 .0, (sound-plan s P (is-plan s a P unit load hyper energy (given .selected)), tt))))
+
+  pub not-refused : (r : Refusal) → Walked s P (NotWalked r) → ⊥
+  not-refused r w = not-both (walkChecks s P) (number r) (second r) accepted (w .answers)
+
+-- ---- a set
+pub set-refused : (s d d′ : List ℕ) (n : ℕ) (r : Refusal) → Refuses (plannerChecks s planWords workWords) (number r) (second r)
+    → Put (refusedLine (number r) (second r)) d d′ n → PutSet s d d′ n
+set-refused s d d′ n r h put = (refusedLine (number r) (second r), steps.refused (number r) (second r) h refl, put)
+
+pub ready-refused : (s : List ℕ) (r : Refusal) → ReadyAnswers s planWords workWords (NotGood r) → Refuses (plannerChecks s planWords workWords) (number r) (second r)
+ready-refused s r h = refuses-front (readyChecks s planWords workWords) (check 7 (NoneOk (Fitting (problem s))) ∷ []) (number r) (second r) h
+
+-- The plan list and the working list as the call lent them.
+module _ (s plan work plan′ work′ : List ℕ) (lp : length plan ≡ planWords) (lw : length work ≡ workWords) where
+  pub call-refused : (r : Refusal) → PlannerCall s plan work plan′ work′ (NotPlanned r) → Refuses (plannerChecks s planWords workWords) (number r) (second r)
+  call-refused r c = rw (lp, lw) at (c .gives .0)
+
+  pub call-planned : (n u l h e : ℕ) → n ≡ taskCount listHead s → PlannerCall s plan work plan′ work′ (Planned u l h e) → PlanGiven s (take n plan′) u l h e
+  call-planned n u l h e count c =
+      let g = c .gives .1 in
+      let is : take n plan′ ≡ g .0 = ap (λ (k : ℕ). take k plan′) count ∙ g .2 .front in
+      record { accepts = rw (lp, lw) at (c .gives .0); selected = rw is (g .1) }
+
+-- ---- a text
+module _ (t set set′ : List ℕ) (lent : length set ≡ 331) where
+  -- A script's words are few enough for the list.
+  fits : (s : Script) → IsTextOf s t → length (words s) ≤ 331
+  fits s h = words-length s (h .script)
+
+  pub read-fits : (n : ℕ) → ReaderGives t set set′ (Wrote n) → n ≤ 331
+  read-fits n g = omega (arith, g .1 .2, fits (g .1 .0) (g .1 .1))
+
+  pub read-set : (n : ℕ) (d d′ : List ℕ) (k : ℕ) → ReaderGives t set set′ (Wrote n) → PutSet (take n set′) d d′ k → PutAnswer t d d′ k
+  read-set n d d′ k g p =
+      let s = g .1 .0 in
+      let is : take n set′ ≡ words s = ap (take n) (g .1 .3) ∙ take-at (words s) (drop n set) n (sym (g .1 .2)) in
+      (p .0, go s (g .1 .1) (p .0) (subst (λ (w : List ℕ). PrintsSet w (p .0)) is (p .1)), p .2)
+    where
+      go : (s : Script) → IsTextOf s t → (out : List ℕ) → PrintsSet (words s) out → Prints t out
+      go s h out (steps.refused n k r e) = refused s n k h r e
+      go s h out (steps.planned P u l hh e b i p x) = planned s P u l hh e b i p h x
+
+  -- The reader's refusal is 1: its list is long enough for every script.
+  pub text-refused : (r : Refusal) (d d′ : List ℕ) (k : ℕ) → ReaderGives t set set′ (NotCopied r)
+      → Put (refusedLine (number r) (second r)) d d′ k → PutAnswer t d d′ k
+  text-refused r d d′ k g put = (
+    refusedLine (number r) (second r),
+    ⊎-elim
+        (λ (x : (number r ≡ 1) × FirstBad WellFormed t (second r)). departs (second r) (x .1) (ap (λ (n : ℕ). refusedLine n (second r)) (x .0)))
+        (λ x.
+        ⊎-elim
+        (λ y. absurd (omega (arith, y .1 .2 .0, fits (y .1 .0) (y .1 .1))))
+        (λ y. absurd (y .1))
+        (x .1))
+        (g .0),
+    put,
+  )
+
+-- ---- the call
+module _ (t d : List ℕ) where
+  -- Demand 3 of whatever is printed.
+  responds : (d′ : List ℕ) (a : CopyAnswer) → RespondGives t d d′ a → Responds t d d′ a
+  responds d′ a g = record {
+    gives = g;
+    promise = λ s P out u l h e b i p is x. promise (words s) (x .accepts) P u l h e (x .selected);
+    seven-iff = λ s is. seven-iff (words s);
+  }
+
+  module _ (text text′ : List ℕ) (n : ℕ) (answer : PutAnswer t text text′ n) where
+    -- The lines lie inside the call's own buffer.
+    pub answer-fits : length text ≡ 2048 → n ≤ length text′
+    answer-fits h =
+        let short = output-short t (answer .0) (answer .1) in
+        omega (arith, answer .2 .size, short, h, ap length (answer .2 .is) ∙ length-placed (answer .0) text (omega arith))
+
+    answer-is : take n text′ ≡ answer .0
+    unfolding placed
+    answer-is = ap (take n) (answer .2 .is) ∙ take-at (answer .0) (drop (length (answer .0)) text) n (sym (answer .2 .size))
+
+    pub too-short : length d < n → Responds t d d (NotCopied (TooShort n))
+    too-short h =
+        let e = answer .2 .size in
+        responds d (NotCopied (TooShort n)) (answer .0, answer .1, inl (refl, (omega (arith, e), e)), refl)
+
+    pub wrote : (d′ : List ℕ) (k : ℕ) → n ≤ length d → Put (take n text′) d d′ k → Responds t d d′ (Wrote k)
+    unfolding placed
+    wrote d′ k h put =
+        let e = answer .2 .size in
+        let size : k ≡ length (answer .0) = put .size ∙ ap length answer-is in
+        responds d′ (Wrote k) (
+          answer .0,
+          answer .1,
+          ((λ j x. omega (arith, e, x .0)), tt),
+          size,
+          put .is ∙ ap (λ (l : List ℕ). l ++ drop (length l) d) answer-is ∙ ap (λ (j : ℕ). answer .0 ++ drop j d) (sym size),
+        )

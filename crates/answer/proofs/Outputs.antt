@@ -1,0 +1,211 @@
+-- What the program prints: one output for an input, at most 2,048 bytes of it; after a plan the walk is kept; and what is printed keeps demand 3.
+-- Assumes nothing.
+use Prim.Native.Nat.{ℕ, suc, _+_, _≤_, _<_}
+use mathlib.Core.Path.{_≡_, refl, sym, ap, _∙_, subst}
+use mathlib.Core.List.{List, [], _∷_, _++_}
+use mathlib.Core.Logic.{_↔_, _⊎_, ⊎-elim}
+use native.Mathlib.Omega.{arith}
+use lib.ListN.{length, take, length-append}
+use lib.Seq.{take-take, length-take-le, take-all}
+use Rattle.numbers.proofs.Tests.{lt-or-le}
+use Rattle.schedule.specs.Counted.{IsKept, kept, walk}
+use Rattle.selection.specs.Plan.{IsPlan}
+use Rattle.taskset.specs.Words.{listHead, listExtra, taskCount}
+use Rattle.taskset.specs.Quantities.{hyperPeriod, problem, tasks}
+use Rattle.taskset.specs.Refusals.{number, second, Accepts, Refuses, setChecks, lengthChecks, readyChecks, plannerChecks}
+use Rattle.taskset.specs.Calls.{Selected}
+use Rattle.taskset.specs.DemandThree.{PlanPromise, NoneKeeps}
+use Rattle.taskset.specs.declared.CopyAnswer.{CopyAnswer}
+use Rattle.taskset.specs.declared.CopyAnswer.the-variants.{Wrote, Refused as NotCopied}
+use Rattle.taskset.proofs.Checks.{Without, refuses-unique, not-both}
+use Rattle.taskset.proofs.Whole.{whole-of}
+use Rattle.taskset.proofs.Checks.{no-word-fault}
+use Rattle.taskset.proofs.Unique.{planner-single, selected-unique, short-single, refusal-unique}
+use Rattle.taskset.proofs.DemandThree.{plan-given, walk-decides, refused-7-iff}
+use Rattle.text.specs.Text.{Script, WellFormed, FirstBad, words}
+use Rattle.text.proofs.Sizes.{text-length}
+use Rattle.text.proofs.Pieces.{first-bad-one, no-first-bad}
+use Rattle.text.proofs.Copies.{SameCopied, one-script}
+use Rattle.lines.specs.Lines.{planLine, rateLines, walkLine, refusedLine}
+use Rattle.lines.proofs.Lengths.{plan-short, rates-short, walk-short, refused-short}
+use Rattle.answer.specs.Answer.{workWords, planWords, PrintsPlan, Prints, departs, refused, planned, roomCheck, RespondGives, Responds}
+
+-- ---- of a set that the planner takes
+module _ (s : List ℕ) (accepts : Accepts (plannerChecks s planWords workWords)) where
+  pub passes : Accepts (setChecks listHead listExtra s)
+  passes = (accepts .0, (accepts .1 .0, (accepts .1 .1 .0, tt)))
+
+  pub tasks-few : taskCount listHead s ≤ 32
+  tasks-few = whole-of listHead listExtra s (no-word-fault listHead listExtra s (accepts .0)) .tasks-range .1
+
+  module _ (P : List ℕ) (unit load hyper energy : ℕ) (selected : Selected s P (unit ∷ load ∷ hyper ∷ energy ∷ [])) where
+    pub is-plan : IsPlan (problem s) P
+    is-plan = selected .planned .chosen .ok .plan
+
+    pub plan-length : length P ≤ 32
+    plan-length = omega (arith, is-plan .size, tasks-few)
+
+    -- Demand 3.
+    pub promise : PlanPromise s P energy
+    promise = plan-given s passes P unit load hyper energy selected
+
+    -- After a plan the walk is kept: there is no other line.
+    pub walk-kept : IsKept (walk (tasks s P) (hyperPeriod listHead listExtra s))
+    walk-kept = walk-decides s passes P .1 (promise .keeps .for-ever)
+
+not-7 : (s : List ℕ) → Without 7 (lengthChecks s planWords workWords)
+not-7 s = ((λ e. omega arith), ((λ e. omega arith), tt))
+
+pub seven-iff : (s : List ℕ) → Refuses (plannerChecks s planWords workWords) 7 0 ↔ (Accepts (readyChecks s planWords workWords) × NoneKeeps s)
+seven-iff s = refused-7-iff s (lengthChecks s planWords workWords) (not-7 s)
+
+-- ---- how long
+plan-lines : (s P out : List ℕ) (u l h e b i p : ℕ) → PrintsPlan s P out u l h e b i p → length out ≤ 2048
+plan-lines s P out u l h e b i p x =
+    let size = ap length (x .lines) ∙ length-append (planLine u l h e) (rateLines 1 P ++ walkLine b i p) in
+    let few = plan-length s (x .accepts) P u l h e (x .selected) in
+    omega (arith, size, length-append (rateLines 1 P) (walkLine b i p), plan-short u l h e, rates-short 1 P, walk-short b i p, few)
+
+-- The most bytes that can be needed.
+pub output-short : (t out : List ℕ) → Prints t out → length out ≤ 2048
+output-short t out (departs o f e) = omega (arith, ap length e, refused-short 1 o)
+output-short t out (refused s n k h r e) = omega (arith, ap length e, refused-short n k)
+output-short t out (planned s P u l h e b i p x y) = plan-lines (words s) P out u l h e b i p y
+
+-- ---- one output
+kept-same : (b i p c j q : ℕ) → kept b i p ≡ kept c j q → (b ≡ c) × (i ≡ j) × (p ≡ q)
+kept-same b i p c j q e = (cc, cc, cc)
+
+plans-same : (s P Q o₁ o₂ : List ℕ) (u l h e b i p v m k f c j q : ℕ)
+    → PrintsPlan s P o₁ u l h e b i p → PrintsPlan s Q o₂ v m k f c j q → o₁ ≡ o₂
+plans-same s P Q o₁ o₂ u l h e b i p v m k f c j q x y =
+    let same = selected-unique s P Q _ _ (x .selected) (y .selected) in
+    let values = same .1 in
+    let plan = same .0 in
+    let one : walk (tasks s P) (hyperPeriod listHead listExtra s) ≡ walk (tasks s Q) (hyperPeriod listHead listExtra s) =
+    ap (λ (R : List ℕ). walk (tasks s R) (hyperPeriod listHead listExtra s)) plan in
+    let counts = kept-same b i p c j q (sym (x .walked) ∙ one ∙ y .walked) in
+    x .lines ∙ cc (values, plan, counts .0, counts .1, counts .2) ∙ sym (y .lines)
+
+-- Two outputs for one input are equal.
+pub one-output : (t o₁ o₂ : List ℕ) → Prints t o₁ → Prints t o₂ → o₁ ≡ o₂
+one-output t o₁ o₂ (departs o f x) (departs q g y) = x ∙ ap (refusedLine 1) (first-bad-one WellFormed t o q f g) ∙ sym y
+one-output t o₁ o₂ (departs o f x) (refused s n k h r y) = absurd (no-first-bad WellFormed t o (s, h) f)
+one-output t o₁ o₂ (departs o f x) (planned s P u l h e b i p is y) = absurd (no-first-bad WellFormed t o (s, is) f)
+one-output t o₁ o₂ (refused s n k h r x) (departs o f y) = absurd (no-first-bad WellFormed t o (s, h) f)
+one-output t o₁ o₂ (refused s n k h r x) (refused s′ n′ k′ h′ r′ y) =
+    let r″ = subst (λ (z : Script). Refuses (plannerChecks (words z) planWords workWords) n′ k′) (one-script s′ s t h′ h) r′ in
+    let e = refuses-unique (plannerChecks (words s) planWords workWords) (planner-single (words s) planWords workWords) n k n′ k′ r r″ in
+    x ∙ cc (e .0, e .1) ∙ sym y
+one-output t o₁ o₂ (refused s n k h r x) (planned s′ P u l hh e b i p is y) =
+    absurd (not-both (plannerChecks (words s) planWords workWords) n k (subst (λ (z : Script). Accepts (plannerChecks (words z) planWords workWords)) (one-script s′ s t is h) (y .accepts)) r)
+one-output t o₁ o₂ (planned s P u l h e b i p is x) (departs o f y) = absurd (no-first-bad WellFormed t o (s, is) f)
+one-output t o₁ o₂ (planned s P u l hh e b i p is x) (refused s′ n k h r y) =
+    absurd (not-both (plannerChecks (words s′) planWords workWords) n k (subst (λ (z : Script). Accepts (plannerChecks (words z) planWords workWords)) (one-script s s′ t is h) (x .accepts)) r)
+one-output t o₁ o₂ (planned s P u l h e b i p is x) (planned s′ Q v m k f c j q is′ y) =
+    plans-same (words s) P Q o₁ o₂ u l h e b i p v m k f c j q x
+    (subst (λ (z : Script). PrintsPlan (words z) Q o₂ v m k f c j q) (one-script s′ s t is′ is) y)
+
+-- ---- an input over 8,192 bytes
+-- A first bad offset lies below 5,000.
+bad-early : (t : List ℕ) (o : ℕ) → FirstBad WellFormed t o → o < 5000
+bad-early t o f =
+    let w = f .before .1 in
+    omega (arith, text-length (w .0) (take o t ++ f .before .0) (w .1), length-append (take o t) (f .before .0), length-take-le o t (f .within))
+
+long-bad : (t : List ℕ) → 8192 < length t → WellFormed t → ⊥
+long-bad t l w = omega (arith, text-length (w .0) t (w .1))
+
+module _ (t : List ℕ) (long : 8192 < length t) where
+  cut : length (take 8192 t) ≡ 8192
+  cut = length-take-le 8192 t (omega arith)
+
+  same-front : (o : ℕ) → o ≤ 8192 → take o (take 8192 t) ≡ take o t
+  same-front o h = take-take o 8192 t h
+
+  bad-cut : (o : ℕ) → FirstBad WellFormed t o → FirstBad WellFormed (take 8192 t) o
+  bad-cut o f =
+      let early = bad-early t o f in
+      record {
+        within = omega (arith, cut);
+        before = (f .before .0, rw (same-front o (omega arith)) (f .before .1));
+        departs = λ h r w. f .departs (omega arith) r (rw (same-front (suc o) (omega arith)) at w);
+        early = λ e w. omega (arith, cut);
+      }
+
+  bad-whole : (o : ℕ) → FirstBad WellFormed (take 8192 t) o → FirstBad WellFormed t o
+  bad-whole o f =
+      let early = bad-early (take 8192 t) o f in
+      record {
+        within = omega (arith, cut);
+        before = (f .before .0, rw (same-front o (omega arith)) at (f .before .1));
+        departs = λ h r w. f .departs (omega (arith, cut)) r (rw (same-front (suc o) (omega arith)) w);
+        early = λ e w. omega arith;
+      }
+
+  -- Its first 8,192 bytes have no well-formed text either.
+  cut-bad : WellFormed (take 8192 t) → ⊥
+  cut-bad w = omega (arith, text-length (w .0) (take 8192 t) (w .1), cut)
+
+  long-same : (out : List ℕ) → Prints (take 8192 t) out ↔ Prints t out
+  long-same out = (
+    there,
+    back,
+  )
+    where
+      there : Prints (take 8192 t) out → Prints t out
+      there (departs o f e) = departs o (bad-whole o f) e
+      there (refused s n k h r e) = absurd (cut-bad (s, h))
+      there (planned s P u l h e b i p is x) = absurd (cut-bad (s, is))
+
+      back : Prints t out → Prints (take 8192 t) out
+      back (departs o f e) = departs o (bad-cut o f) e
+      back (refused s n k h r e) = absurd (long-bad t long (s, h))
+      back (planned s P u l h e b i p is x) = absurd (long-bad t long (s, is))
+
+-- "reads at most 8,192 bytes": the answer to the first 8,192 bytes of an input is the answer to all of it.
+pub first-8192 : (t out : List ℕ) → Prints (take 8192 t) out ↔ Prints t out
+first-8192 t out =
+    ⊎-elim
+    (λ (l : 8192 < length t). long-same t l out)
+    (λ (l : length t ≤ 8192). subst (λ (u : List ℕ). Prints u out ↔ Prints t out) (sym (take-all 8192 t l)) ((λ x. x), (λ x. x)))
+    (lt-or-le 8192 (length t))
+
+-- ---- the call
+-- Of one input and lent buffer the call has one answer.
+pub respond-unique : (t d d₁ d₂ : List ℕ) (a b : CopyAnswer) → Responds t d d₁ a → Responds t d d₂ b → SameCopied a b d₁ d₂
+respond-unique t d d₁ d₂ a b x y = go a b (x .gives) (y .gives)
+  where
+    go : (a b : CopyAnswer) → RespondGives t d d₁ a → RespondGives t d d₂ b → SameCopied a b d₁ d₂
+    go (Wrote n) (Wrote k) x y =
+        let same = one-output t (x .0) (y .0) (x .1) (y .1) in
+        let count : n ≡ k = x .3 ∙ ap length same ∙ sym (y .3) in
+        record { answer = ap Wrote count; list = x .4 ∙ cc (same, count) ∙ sym (y .4) }
+    go (Wrote n) (NotCopied r) x y =
+        let same = one-output t (x .0) (y .0) (x .1) (y .1) in
+        absurd (not-both (roomCheck (length (y .0)) (length d)) (number r) (second r) (subst (λ (o : List ℕ). Accepts (roomCheck (length o) (length d))) same (x .2)) (y .2))
+    go (NotCopied r) (Wrote n) x y =
+        let same = one-output t (y .0) (x .0) (y .1) (x .1) in
+        absurd (not-both (roomCheck (length (x .0)) (length d)) (number r) (second r) (subst (λ (o : List ℕ). Accepts (roomCheck (length o) (length d))) same (y .2)) (x .2))
+    go (NotCopied q) (NotCopied r) x y =
+        let same = one-output t (y .0) (x .0) (y .1) (x .1) in
+        let z = subst (λ (o : List ℕ). Refuses (roomCheck (length o) (length d)) (number r) (second r)) same (y .2) in
+        record {
+          answer = ap NotCopied (refusal-unique (roomCheck (length (x .0)) (length d)) (short-single (length (x .0)) (length d), tt) q r (x .2) z);
+          list = x .3 ∙ sym (y .3);
+        }
+
+-- In a buffer of 2,048 bytes the answer has room: the program never runs short.
+pub never-short : (t d d′ : List ℕ) (r : _) → 2048 ≤ length d → Responds t d d′ (NotCopied r) → ⊥
+never-short t d d′ r room x =
+    ⊎-elim
+    (λ y. omega (arith, y .1 .0, output-short t (x .gives .0) (x .gives .1)))
+    (λ y. absurd (y .1))
+    (x .gives .2)
+
+pub wrote-within : (t d d′ : List ℕ) (n : ℕ) → Responds t d d′ (Wrote n) → n ≤ length d
+wrote-within t d d′ n x =
+    ⊎-elim
+    (λ (l : length d < length (x .gives .0)). absurd (x .gives .2 .0 (length (x .gives .0)) (l, refl)))
+    (λ (l : length (x .gives .0) ≤ length d). omega (arith, x .gives .3))
+    (lt-or-le (length d) (length (x .gives .0)))

@@ -1,0 +1,135 @@
+-- Checks 2 to 6, then the planner, then the lines of what it says.
+-- Assumes nothing.
+use Prim.Native.Nat.{ℕ, _≤_}
+use mathlib.Core.List.{List}
+use mathlib.Core.Path.{refl, sym, subst}
+use native.Mathlib.Omega.{arith}
+use denote.Ref.{now}
+use lib.ListN.{length, take, replicate}
+use lib.Seq.{length-take-le}
+use Rattle.taskset.specs.declared.Checked.the-variants.{Good}
+use Rattle.taskset.specs.declared.PlannerAnswer.the-variants.{Planned}
+use Rattle.planner.specs.Answers.{PlannerCall}
+use Rattle.planner.specs.Ready.{ReadyAnswers}
+use Rattle.answer.specs.Answer.{planWords, workWords}
+use Rattle.answer.specs.Steps.{PlanGiven}
+use Rattle.answer.proofs.Outputs.{tasks-few}
+use Rattle.answer.proofs.Calls.{set-refused, ready-refused, call-refused, call-planned}
+use borrow.Author.Needs.{needs}
+use Rattle.answer.proofs.answer_set.Statement.{statement}
+use Rattle.answer.proofs.answer_set.Tie as tie
+
+-- What checks 2 to 6 gave.
+ready : (c : tie.After-rates) → let x = c .before .before in let a = x .before .before .args in
+    ReadyAnswers (now (a .set)) planWords workWords (Good (c .rates .given .0 .0) (c .rates .given .0 .1 .0) (c .rates .given .0 .1 .1 .0))
+ready c =
+    let x = c .before .before in
+    subst (ReadyAnswers (now (x .before .before .args .set)) planWords workWords) (c .rates .given .1) (x .ready .ensures)
+
+-- What the planner gave.
+abbrev at-rates : tie.After-plan-checked → tie.After-rates
+at-rates p = p .before .before .before .before
+
+abbrev set-of : tie.After-plan-checked → List ℕ
+set-of p = now (at-rates p .before .before .before .before .args .set)
+
+given : (c : tie.After-unit) → let p = c .before .before .before .before in
+    PlannerCall (set-of p) (replicate 32 0) (replicate 16384 0) (p .plan-checked .last .1 .0) (p .plan-checked .last .1 .1 .0)
+    (Planned (c .unit .given .0 .0) (c .unit .given .0 .1 .0) (c .unit .given .0 .1 .1 .0) (c .unit .given .0 .1 .1 .1 .0))
+given c =
+    let p = c .before .before .before .before in
+    subst (PlannerCall (set-of p) (replicate 32 0) (replicate 16384 0) (p .plan-checked .last .1 .0) (p .plan-checked .last .1 .1 .0)) (c .unit .given .1) (p .plan-checked .ensures)
+
+plan-of : (c : tie.After-unit) → let p = c .before .before .before .before in
+    PlanGiven (set-of p) (take (at-rates p .rates .given .0 .1 .0) (p .plan-checked .last .1 .0))
+    (c .unit .given .0 .0) (c .unit .given .0 .1 .0) (c .unit .given .0 .1 .1 .0) (c .unit .given .0 .1 .1 .1 .0)
+plan-of c =
+    let p = c .before .before .before .before in
+    call-planned (set-of p) _ _ _ _ refl refl _ _ _ _ _ (ready (at-rates p) .2) (given c)
+
+fits : (c : tie.After-unit) → let p = c .before .before .before .before in at-rates p .rates .given .0 .1 .0 ≤ length (p .plan-checked .last .1 .0)
+fits c =
+    let p = c .before .before .before .before in
+    omega (arith, ready (at-rates p) .2, tasks-few (set-of p) (plan-of c .accepts), p .plan-checked .kept .1 .0)
+
+ready-requires : tie.Need-ready-requires
+ready-requires c κs = search needs
+
+enum-known-r : tie.Need-enum-known-r
+enum-known-r c = search needs
+
+put-refused-requires : tie.Need-put-refused-requires
+put-refused-requires c κs = search needs
+
+enum-known-rates : tie.Need-enum-known-rates
+enum-known-rates c = search needs
+
+slice-aggregate-plan-checked : tie.Need-slice-aggregate-plan-checked
+slice-aggregate-plan-checked c = search needs
+
+slice-aggregate-plan-checked-2 : tie.Need-slice-aggregate-plan-checked-2
+slice-aggregate-plan-checked-2 c = search needs
+
+plan-checked-requires : tie.Need-plan-checked-requires
+plan-checked-requires c κs = ready (c .before .before .before)
+
+enum-known-r-2 : tie.Need-enum-known-r-2
+enum-known-r-2 c = search needs
+
+put-refused-requires-2 : tie.Need-put-refused-requires-2
+put-refused-requires-2 c κs = search needs
+
+enum-known-unit : tie.Need-enum-known-unit
+enum-known-unit c = search needs
+
+array-share-prefix-plan : tie.Need-array-share-prefix-plan
+array-share-prefix-plan c = fits (c .before)
+
+slice-aggregate-answer-plan : tie.Need-slice-aggregate-answer-plan
+slice-aggregate-answer-plan c = sym (length-take-le _ _ (fits (c .before .before)))
+
+answer-plan-requires : tie.Need-answer-plan-requires
+answer-plan-requires c κs = plan-of (c .before .before .before)
+
+returns : tie.Need-returns
+returns c =
+    let r = c .before .before .before in
+    let x = r .before .before in
+    let s = now (x .before .before .args .set) in
+    set-refused s _ _ _ (r .r .given .0 .0)
+    (ready-refused s (r .r .given .0 .0) (subst (ReadyAnswers s planWords workWords) (r .r .given .1) (x .ready .ensures)))
+    (c .put-refused .ensures)
+
+returns-2 : tie.Need-returns-2
+returns-2 c =
+    let r = c .before .before .before in
+    let p = r .before .before .before .before in
+    let s = set-of p in
+    set-refused s _ _ _ (r .r2 .given .0 .0)
+    (call-refused s _ _ _ _ refl refl (r .r2 .given .0 .0)
+    (subst (PlannerCall s (replicate 32 0) (replicate 16384 0) (p .plan-checked .last .1 .0) (p .plan-checked .last .1 .1 .0)) (r .r2 .given .1) (p .plan-checked .ensures)))
+    (c .put-refused2 .ensures)
+
+returns-3 : tie.Need-returns-3
+returns-3 c = c .answer-plan .ensures
+
+pub answer-set-spec : {M : Type 1} → statement M
+answer-set-spec =
+    tie.close
+    (tie.spec
+    ready-requires
+    enum-known-r
+    put-refused-requires
+    enum-known-rates
+    slice-aggregate-plan-checked
+    slice-aggregate-plan-checked-2
+    plan-checked-requires
+    enum-known-r-2
+    put-refused-requires-2
+    enum-known-unit
+    array-share-prefix-plan
+    slice-aggregate-answer-plan
+    answer-plan-requires
+    returns
+    returns-2
+    returns-3)

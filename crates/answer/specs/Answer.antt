@@ -1,0 +1,59 @@
+-- What the program prints for an input, byte by byte (document 01, 'The bracketed text': "Input of the program, on standard input" and "All that it
+-- prints"), and the contract of the call that does it.
+use Prim.Native.Nat.{ℕ}
+use mathlib.Core.Path.{_≡_}
+use mathlib.Core.List.{List, [], _∷_, _++_}
+use mathlib.Core.Logic.{_↔_}
+use lib.ListN.{length, drop}
+use Rattle.schedule.specs.Counted.{walk, kept}
+use Rattle.taskset.specs.Words.{listHead, listExtra}
+use Rattle.taskset.specs.Quantities.{hyperPeriod, tasks}
+use Rattle.taskset.specs.Refusals.{number, second, IsShort, Check, check, Accepts, Refuses, readyChecks, plannerChecks}
+use Rattle.taskset.specs.Calls.{Selected}
+use Rattle.taskset.specs.DemandThree.{PlanPromise, NoneKeeps}
+use Rattle.taskset.specs.declared.CopyAnswer.{CopyAnswer}
+use Rattle.taskset.specs.declared.CopyAnswer.the-variants.{Wrote, Refused as NotCopied}
+use Rattle.text.specs.Text.{Script, IsTextOf, WellFormed, FirstBad, words}
+use Rattle.lines.specs.Lines.{planLine, rateLines, walkLine, refusedLine}
+
+-- "It has 16,384 working words": and a plan word for each of as many tasks as a set can have.
+abbrev pub workWords : ℕ
+workWords = 16384
+
+abbrev pub planWords : ℕ
+planWords = 32
+
+-- THE LINES OF A PLAN. For the set s: no check of the planner's holds; P is the plan that document 01 selects, with its unit, load, L and
+-- energy; the walk of P is kept with its counts; and out is their lines: the plan's, one a task from task number 1 on, the walk's.
+pub record PrintsPlan (s P out : List ℕ) (unit load hyper energy busy idle preempted : ℕ) : Type 0 where
+  pub accepts : Accepts (plannerChecks s planWords workWords)
+  pub selected : Selected s P (unit ∷ load ∷ hyper ∷ energy ∷ [])
+  pub walked : walk (tasks s P) (hyperPeriod listHead listExtra s) ≡ kept busy idle preempted
+  pub lines : out ≡ planLine unit load hyper energy ++ (rateLines 1 P ++ walkLine busy idle preempted)
+
+-- THE OUTPUT for an input t: "For a refusal it prints only `(refused 7 0)`, with that number and place": of the reader, or of the planner on the
+-- words of t's script; else a plan's lines.
+pub data Prints (t out : List ℕ) : Type 0 where
+  departs : (o : ℕ) → FirstBad WellFormed t o → out ≡ refusedLine 1 o → Prints t out
+  refused : (s : Script) (n k : ℕ) → IsTextOf s t → Refuses (plannerChecks (words s) planWords workWords) n k → out ≡ refusedLine n k → Prints t out
+  planned : (s : Script) (P : List ℕ) (unit load hyper energy busy idle preempted : ℕ)
+      → IsTextOf s t → PrintsPlan (words s) P out unit load hyper energy busy idle preempted → Prints t out
+
+-- THE CALL. Its one check is 6: "Receiving list or buffer too short", with the bytes needed. d is the buffer as lent, d′ as given back.
+abbrev pub roomCheck : ℕ → ℕ → List Check
+roomCheck needed lent = check 6 (IsShort needed lent) ∷ []
+
+abbrev pub RespondGives : (t d d′ : List ℕ) → CopyAnswer → Type 0
+RespondGives t d d′ (Wrote n) =
+    (out : List ℕ) × Prints t out × Accepts (roomCheck (length out) (length d)) × (n ≡ length out) × (d′ ≡ out ++ drop n d)
+RespondGives t d d′ (NotCopied r) =
+    (out : List ℕ) × Prints t out × Refuses (roomCheck (length out) (length d)) (number r) (second r) × (d′ ≡ d)
+
+-- The call's contract: the above; and demand 3 of whatever it prints: a plan keeps every deadline for ever, its energy is its own and within the
+-- slack of the least; and the planner's refusal is 7 exactly when checks 2 to 6 pass and no plan keeps every deadline for ever.
+pub record Responds (t d d′ : List ℕ) (a : CopyAnswer) : Type 0 where
+  pub gives : RespondGives t d d′ a
+  pub promise : (s : Script) (P out : List ℕ) (unit load hyper energy busy idle preempted : ℕ)
+      → IsTextOf s t → PrintsPlan (words s) P out unit load hyper energy busy idle preempted → PlanPromise (words s) P energy
+  pub seven-iff : (s : Script) → IsTextOf s t
+      → Refuses (plannerChecks (words s) planWords workWords) 7 0 ↔ (Accepts (readyChecks (words s) planWords workWords) × NoneKeeps (words s))

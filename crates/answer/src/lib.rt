@@ -1,0 +1,82 @@
+// The program's whole job as a call, text in, text out: it reads the set, plans it, walks the plan, and gives the lines, or the line of
+// the refusal. Standard input and output are left to the program.
+ghost use Rattle.answer.specs.Answer.{Responds};
+ghost use Rattle.answer.specs.Steps.{PutAnswer, PutSet, PlanGiven};
+use taskset::Checked;
+use taskset::CopyAnswer;
+use taskset::PlannerAnswer;
+use taskset::Refusal;
+use taskset::WalkAnswer;
+
+// The lines of a plan that was given, with those of its walk. A plan from the planner is always kept, so the other answers do not occur.
+fn answer_plan(
+    set: &[u32],
+    plan: &[u32],
+    unit: u64,
+    load: u64,
+    hyper: u64,
+    energy: u64,
+    text: &mut [u8; 2048],
+) -> usize
+    requires { ⌜ PlanGiven (now set) (now plan) unit load hyper energy ⌝ }
+    ensures { λ r. ⌜ PutSet (now (set .entry)) (now (text .entry)) (now (text .exit)) r ⌝ }
+{
+    match walk::walk(set, plan) {
+        WalkAnswer::Kept {
+            busy,
+            idle,
+            preempted,
+        } => { lines::put_plan(text, unit, load, hyper, energy, plan, busy, idle, preempted) }
+        WalkAnswer::Missed { tick: _, task: _ } => 0,
+        WalkAnswer::Refused(_) => 0,
+    }
+}
+
+// The lines for a set's words: of a plan, or of the planner's refusal.
+fn answer_set(set: &[u32], text: &mut [u8; 2048]) -> usize
+    ensures { λ r. ⌜ PutSet (now (set .entry)) (now (text .entry)) (now (text .exit)) r ⌝ }
+{
+    let mut plan = [0u32; 32];
+    let mut work = [0u32; 16384];
+    match planner::ready(set, 32, 16384) {
+        Checked::Refused(r) => lines::put_refused(text, r),
+        Checked::Good {
+            rates,
+            tasks,
+            hyper,
+        } => {
+            match planner::plan_checked(set, &mut plan, &mut work, rates, tasks, hyper) {
+                PlannerAnswer::Refused(r) => lines::put_refused(text, r),
+                PlannerAnswer::Planned {
+                    unit,
+                    load,
+                    hyper,
+                    energy,
+                } => answer_plan(set, &plan[..tasks], unit, load, hyper, energy, text),
+            }
+        }
+    }
+}
+
+// The lines for a text.
+fn answer_text(input: &[u8], text: &mut [u8; 2048]) -> usize
+    ensures { λ r. ⌜ PutAnswer (now (input .entry)) (now (text .entry)) (now (text .exit)) r ⌝ }
+{
+    let mut set = [0u32; 331];
+    match reader::read(input, &mut set) {
+        CopyAnswer::Wrote(n) => answer_set(&set[..n], text),
+        CopyAnswer::Refused(r) => lines::put_refused(text, r),
+    }
+}
+
+// What the program prints for an input, to the front of the buffer lent: how many bytes, or 6 with the bytes needed and nothing changed.
+pub fn respond(input: &[u8], output: &mut [u8]) -> CopyAnswer
+    ensures { λ a. ⌜ Responds (now (input .entry)) (now (output .entry)) (now (output .exit)) a ⌝ }
+{
+    let mut text = [0u8; 2048];
+    let n = answer_text(input, &mut text);
+    if output.len() < n {
+        return CopyAnswer::Refused(Refusal::TooShort(n));
+    }
+    CopyAnswer::Wrote(printer::put_bytes(output, &text[..n]))
+}
