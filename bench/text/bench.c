@@ -9,7 +9,7 @@
    nanoseconds a call of each, and the archive's time over the plain one's.
 
    The repetitions can be given as an argument, and then the seed of the random
-   sets; without them there are 5,000, and the seed is 1. */
+   sets; without them there are 20,000, and the seed is 1. */
 
 #include <inttypes.h>
 #include <stddef.h>
@@ -371,7 +371,7 @@ static void measure(const char *name, int is_read, int count, int calls, int rep
 int main(int argc, char **argv)
 {
     static struct text longest;
-    int repetitions = argc > 1 ? atoi(argv[1]) : 5000;
+    int repetitions = argc > 1 ? atoi(argv[1]) : 20000;
 
     if (repetitions < 1) {
         fprintf(stderr, "bench: the repetitions are a number from 1\n");
