@@ -27,7 +27,7 @@ COUNTS = (20, 25, 30)
 SLACKS = (100, 500)
 LIMIT = 5                               # seconds that glpsol may take for a set
 RUNS = 3                                # of which the best time counts
-REPETITIONS = 20                        # of the planner, likewise
+REPETITIONS = 50                        # of the planner, likewise
 
 
 class Case:
