@@ -1,2 +1,3 @@
 pub mod Outputs
 pub mod Calls
+pub mod Example

@@ -34,7 +34,7 @@ use Rattle.taskset.proofs.PlanVerdict.{isUnfit, planVerdict, PlanSays, 
 use Rattle.taskset.proofs.Sets.{set-of, falling}
 
 -- "The set list S", with slack G.
-S : ℕ → List ℕ
+unfoldable pub S : ℕ → List ℕ
 S G = G ∷ 3 ∷ 2 ∷ 4 ∷ 8 ∷ 2 ∷ 10 ∷ 12 ∷ 4 ∷ 9 ∷ 20 ∷ 15 ∷ 20 ∷ 7 ∷ 15 ∷ 30 ∷ []
 
 -- "Highest rate 2, one task of period 30", of c cycles.
@@ -151,7 +151,7 @@ module _ (s : List ℕ) where
 -- ---- the cases
 pub record Cases : Type 0 where
   -- (M) "S: plan 2 1, unit 1, load 29, energy 41." (M) "S has W = 243".
-  planned-100 : (plan work : List ℕ) → length plan ≡ 2 → length work ≡ 243
+  pub planned-100 : (plan work : List ℕ) → length plan ≡ 2 → length work ≡ 243
       → PlannerGives (S 100) plan work (2 ∷ 1 ∷ []) (replicate 243 0) (Planned 1 29 30 41)
   -- (M) "242 working words: refusal 5 with 243."
   work-242 : (plan work : List ℕ) → length work ≡ 242 → PlannerGives (S 100) plan work plan work (NotPlanned (WorkShort 243))
@@ -160,7 +160,7 @@ pub record Cases : Type 0 where
       → PlannerGives (S 1000) plan work (1 ∷ 2 ∷ []) (replicate 27 0) (Planned 8 28 30 42)
   -- (M) "S, walk of 1 1: missed, tick 15, task 2." (M) "Walk of 2 1: kept, 29, 1, 1."
   walk-of-1-1 : WalkAnswers (S 100) (1 ∷ 1 ∷ []) (Missed 15 2)
-  walk-of-2-1 : WalkAnswers (S 100) (2 ∷ 1 ∷ []) (Kept 29 1 1)
+  pub walk-of-2-1 : WalkAnswers (S 100) (2 ∷ 1 ∷ []) (Kept 29 1 1)
   -- (M) "Plan 1 3 for S: load 24." (M) "Walk of 1 4: refusal 8, place 1."
   load-of-1-3 : planLoad (problem (S 100)) (1 ∷ 3 ∷ []) ≡ 24
   walk-of-1-4 : WalkAnswers (S 100) (1 ∷ 4 ∷ []) (NotWalked (BadPlan 1))
