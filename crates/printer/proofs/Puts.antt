@@ -1,19 +1,23 @@
 -- Parts of a text, one behind the other.
 -- Assumes nothing.
-use Prim.Native.Nat.{ℕ, _+_, _-_, _*_, _/_, _%_, _^_, _≤_, _<_}
+use Prim.Native.Nat.{ℕ, zero, suc, _+_, _-_, _*_, _/_, _%_, _^_, _≤_, _<_}
 use mathlib.Core.Path.{_≡_, refl, sym, ap, _∙_}
 use mathlib.Core.List.{List, [], _∷_, _++_, append-nil}
+use mathlib.Core.Bool.{Bool, true, false}
+use native.Mathlib.Nat.{pow-succ', one-le-pow, div-one, div-div-eq-div-mul}
 use native.Mathlib.Omega.{arith}
-use lib.ListN.{length, take, drop, set, length-append, length-drop}
-use lib.Seq.{take-all, drop-length}
+use lib.ListN.{length, getD, take, drop, set, length-append, length-drop}
+use lib.Dec.{ltb}
+use lib.Seq.{take-all, take-suc, drop-length, drop-cons, append-snoc, set-at, length-take-le}
+use borrow.Author.Tests.{ltb-true, ltb-false}
 use borrow.Rule.Slice.PartMut.{putMid, post-is}
 use Rattle.text.specs.Text.{decimal}
 use Rattle.text.proofs.Numerals.{decimal-step, decimal-one}
-use Rattle.text.proofs.Writing.{placed, written, placed-none, written-none, written-front, length-written, placed-one, written-then}
+use Rattle.text.proofs.Writing.{placed, written, written-none, written-front, length-written, written-then}
 use Rattle.printer.specs.Puts.{Put, Added}
 
 -- ---- the digits of a number
-pub decimal-split : (v : ℕ) → 10 ≤ v → v < 2 ^ 64 → decimal v ≡ decimal (v / 10) ++ ((48 + v % 10) ∷ [])
+decimal-split : (v : ℕ) → 10 ≤ v → v < 2 ^ 64 → decimal v ≡ decimal (v / 10) ++ ((48 + v % 10) ∷ [])
 decimal-split v h l =
     let back : v / 10 * 10 + v % 10 ≡ v = omega arith in
     ap decimal (sym back) ∙ decimal-step (v / 10) (v % 10) (omega arith) (omega arith) (omega arith)
@@ -21,22 +25,87 @@ decimal-split v h l =
 pub length-small : (v : ℕ) → v < 10 → length (decimal v) ≡ 1
 length-small v h = rw (decimal-one v h)
 
-pub length-large : (v : ℕ) → 10 ≤ v → v < 2 ^ 64 → length (decimal v) ≡ length (decimal (v / 10)) + 1
+length-large : (v : ℕ) → 10 ≤ v → v < 2 ^ 64 → length (decimal v) ≡ length (decimal (v / 10)) + 1
 length-large v h l = rw (decimal-split v h l, length-append)
 
--- A number of one digit.
-pub put-small : (v : ℕ) (d : List ℕ) → v < 10 → 0 < length d → Put (decimal v) d (set d 0 (48 + v)) 1
-put-small v d h l = record {
-  size = sym (length-small v h);
-  is = ap (λ (z : List ℕ). set z 0 (48 + v)) (placed-none d) ∙ placed-one [] d (48 + v) 0 refl l ∙ rw (decimal-one v h);
-}
+-- A number is below 10, or not.
+tell : (P : Type 0) (v : ℕ) → (v < 10 → P) → (10 ≤ v → P) → P
+tell P v f g = go (ltb v 10) refl
+  where
+    go : (x : Bool) → ltb v 10 ≡ x → P
+    go true e = f (ltb-true v 10 e)
+    go false e = g (ltb-false v 10 e)
 
--- The last digit behind the others.
-pub put-large : (v : ℕ) (d e : List ℕ) (n : ℕ) → 10 ≤ v → v < 2 ^ 64 → n < length d → Put (decimal (v / 10)) d e n
-    → Put (decimal v) d (set e n (48 + v % 10)) (n + 1)
-put-large v d e n h l m q = record {
-  size = omega (arith, length-large v h l, q .size);
-  is = rw (q .is, decimal-split v h l) (placed-one (decimal (v / 10)) d (48 + v % 10) n (sym (q .size)) m);
+-- There is a digit at least; with more than one, the number is 10 at least.
+pub length-some : (v : ℕ) → v < 2 ^ 64 → 1 ≤ length (decimal v)
+length-some v l = tell _ v (λ h. omega (arith, length-small v h)) (λ h. omega (arith, length-large v h l))
+
+long-large : (v : ℕ) → 1 < length (decimal v) → 10 ≤ v
+long-large v m = tell _ v (λ h. absurd (omega (arith, length-small v h))) (λ h. h)
+
+-- How many digits there are, by the powers of ten.
+pub length-between : (j v : ℕ) → 10 ^ j ≤ v → v < 10 ^ suc j → v < 2 ^ 64 → length (decimal v) ≡ suc j
+length-between zero v h k l = length-small v k
+length-between (suc j) v h k l =
+    let p = one-le-pow j 10 (omega arith) in
+    let h′ : 10 * 10 ^ j ≤ v = rw (pow-succ' 10 j) at h in
+    let k′ : v < 10 * 10 ^ suc j = rw (pow-succ' 10 (suc j)) at k in
+    omega (arith, length-large v (omega arith) l, length-between j (v / 10) (omega arith) (omega arith) (omega arith))
+
+-- The lower j digits taken off at once.
+pub length-above : (j v : ℕ) → 10 ^ j ≤ v → v < 2 ^ 64 → length (decimal v) ≡ j + length (decimal (v / 10 ^ j))
+length-above zero v h l = rw div-one (omega arith)
+length-above (suc j) v h l =
+    let p = one-le-pow j 10 (omega arith) in
+    let h′ : 10 * 10 ^ j ≤ v = rw (pow-succ' 10 j) at h in
+    let e = length-above j (v / 10) (omega arith) (omega arith) in
+    rw (pow-succ' 10 j, ← div-div-eq-div-mul) (omega (arith, length-large v (omega arith) l))
+
+-- Digits from the back: those of v behind the first i stand in their places of e, which was d, and the first i are those of x.
+pub record Filled (v : ℕ) (d : List ℕ) (x : ℕ) (e : List ℕ) (i : ℕ) : Type 0 where
+  pub fits : x < 2 ^ 64
+  pub left : length (decimal x) ≡ i
+  pub digits : List ℕ
+  pub all : decimal v ≡ decimal x ++ digits
+  pub is : e ≡ written i digits d
+
+pub fill-none : (v : ℕ) (d : List ℕ) (n : ℕ) → v < 2 ^ 64 → n ≡ length (decimal v) → Filled v d v d n
+fill-none v d n l e = record { fits = l; left = sym e; digits = []; all = sym (append-nil (decimal v)); is = written-none d n }
+
+-- One item before what is there.
+written-before : (xs d : List ℕ) (a j : ℕ) → j < length d → set (written (suc j) xs d) j a ≡ written j (a ∷ xs) d
+unfolding placed written
+written-before xs d a j h =
+    let r : List ℕ = xs ++ drop (length xs) (drop (suc j) d) in
+    rw (take-suc d j 0 h, append-snoc (take j d) (getD d j 0) r, drop-cons d j 0 h)
+    (set-at (take j d) (getD d j 0) r a j (length-take-le j d (omega arith)))
+
+pub fill-one : {v x i : ℕ} {d e : List ℕ} → Filled v d x e i → 1 < i → i ≤ length d → Filled v d (x / 10) (set e (i - 1) (48 + x % 10)) (i - 1)
+fill-one {v} {x} {i} {d} {e} q h k =
+    let b : 10 ≤ x = long-large x (omega (arith, q .left)) in
+    let i′ : i ≡ suc (i - 1) = omega arith in
+    record {
+      fits = omega (arith, q .fits);
+      left = omega (arith, q .left, length-large x b (q .fits));
+      digits = (48 + x % 10) ∷ q .digits;
+      all = q .all ∙ rw (decimal-split x b (q .fits), append-snoc);
+      is = ap (λ (z : List ℕ). set z (i - 1) (48 + x % 10)) (q .is ∙ ap (λ (z : ℕ). written z (q .digits) d) i′)
+          ∙ written-before (q .digits) d (48 + x % 10) (i - 1) (omega arith);
+    }
+
+-- The first digit is what is left.
+pub first-small : {v x i : ℕ} {d e : List ℕ} → Filled v d x e i → i ≡ 1 → x < 10
+first-small {v} {x} q h =
+    tell _ x (λ s. s) (λ b. absurd (omega (arith, q .left, length-large x b (q .fits), length-some (x / 10) (omega (arith, q .fits)))))
+
+pub fill-all : {v x i n : ℕ} {d e : List ℕ} → Filled v d x e i → i ≡ 1 → 0 < length d → n ≡ length (decimal v)
+    → Put (decimal v) d (set e 0 (48 + x)) n
+fill-all {v} {x} {i} {n} {d} q h k m = record {
+  size = m;
+  is = ap (λ (z : List ℕ). set z 0 (48 + x)) (q .is ∙ ap (λ (z : ℕ). written z (q .digits) d) h)
+      ∙ written-before (q .digits) d (48 + x) 0 k
+      ∙ written-front ((48 + x) ∷ q .digits) d
+      ∙ rw (q .all, decimal-one x (first-small q h));
 }
 
 -- ---- parts

@@ -2,22 +2,48 @@
 // crates above. Each part's writer is lent the rest of the buffer that is not yet written.
 ghost use mathlib.Core.Path.{_≡_};
 ghost use mathlib.Core.List.{_++_};
-ghost use Prim.Native.Nat.{_+_, _≤_};
+ghost use Prim.Native.Nat.{_+_, _^_, _≤_, _<_};
 ghost use lib.ListN.{length};
 ghost use Rattle.text.specs.Text.{decimal};
 ghost use Rattle.printer.specs.Puts.{Put, Added};
 
-// How many digits a number has.
+// How many digits a number below 10,000,000,000 has. The short numbers are told first, and nothing is divided.
+fn count_low(v: u64) -> usize
+    requires { ⌜ v < 10 ^ 10 ⌝ }
+    ensures { λ r. ⌜ r ≡ length (decimal v) ⌝ }
+{
+    if v < 10 {
+        1
+    } else if v < 100 {
+        2
+    } else if v < 1_000 {
+        3
+    } else if v < 10_000 {
+        4
+    } else if v < 100_000 {
+        5
+    } else if v < 1_000_000 {
+        6
+    } else if v < 10_000_000 {
+        7
+    } else if v < 100_000_000 {
+        8
+    } else if v < 1_000_000_000 {
+        9
+    } else {
+        10
+    }
+}
+
+// How many digits a number has: of a longer one the lower ten are taken off at once.
 pub fn count_number(v: u64) -> usize
     ensures { λ r. ⌜ r ≡ length (decimal v) ⌝ }
 {
-    let mut x = v;
-    let mut c: usize = 1;
-    while 10 <= x {
-        x /= 10;
-        c += 1;
+    if v < 10_000_000_000 {
+        count_low(v)
+    } else {
+        10 + count_low(v / 10_000_000_000)
     }
-    c
 }
 
 // Copies bytes to the front of a buffer.
@@ -33,19 +59,21 @@ pub fn put_bytes(buf: &mut [u8], l: &[u8]) -> usize
     i
 }
 
-// The decimal digits of a number, to the front of a buffer.
+// The decimal digits of a number, to the front of a buffer: filled from the back, as a division gives them.
 fn put_number(buf: &mut [u8], v: u64) -> usize
     requires { ⌜ length (decimal v) ≤ length (now buf) ⌝ }
     ensures { λ r. ⌜ Put (decimal v) (now (buf .entry)) (now (buf .exit)) r ⌝ }
 {
-    if v < 10 {
-        buf[0] = 48 + v as u8;
-        1
-    } else {
-        let n = put_number(buf, v / 10);
-        buf[n] = 48 + (v % 10) as u8;
-        n + 1
+    let n = count_number(v);
+    let mut x = v;
+    let mut i = n;
+    while 1 < i {
+        i -= 1;
+        buf[i] = 48 + (x % 10) as u8;
+        x /= 10;
     }
+    buf[0] = 48 + x as u8;
+    n
 }
 
 // The same to the rest of a buffer, from a place on: the rest is lent to the writer. The place after it.
