@@ -1,0 +1,45 @@
+// The program: plans the set whose text stands on standard input, and prints the plan's lines, or the line of the refusal.
+//
+// What it prints for the bytes it has read is proved (answer_bytes). What no contract can say is which bytes a read brings and where those
+// of a write go: that is read's and write's, which are taken at their word. The program always returns, however often a signal interrupts
+// it. Its exit status is always 0, so that an input that cannot be read, or an answer that cannot be written, shows on standard error.
+mod input;
+mod output;
+
+ghost use Rattle.seedspell.specs.Program.{Answered};
+use input::Input;
+use libc::STDERR_FILENO;
+use taskset::CopyAnswer;
+
+// The answer to a text, at the front of the output: how many bytes. No answer is longer than 2,048 bytes, so that the call finds room and
+// the second case does not occur.
+fn answer_bytes(text: &[u8], output: &mut [u8; 2048]) -> usize
+    ensures { λ r. ⌜ Answered (now (text .entry)) (now (output .exit)) r ⌝ }
+{
+    match answer::respond(text, output) {
+        CopyAnswer::Wrote(n) => n,
+        CopyAnswer::Refused(_) => 0,
+    }
+}
+
+// Writes a line to standard error. Where that fails too, nothing is left to say it on.
+fn complain(line: &[u8]) {
+    io::write_all(STDERR_FILENO, line);
+}
+
+// Plans a text and writes the answer.
+fn plan(text: &[u8]) {
+    let mut output = [0u8; 2048];
+    let n = answer_bytes(text, &mut output);
+    if output::write_answer(&output[..n]) < n {
+        complain(b"seedspell: the answer cannot be written to standard output\n");
+    }
+}
+
+fn main() {
+    let mut bytes = [0u8; 8192];
+    match input::read_input(&mut bytes) {
+        Input::Taken(n) => plan(&bytes[..n]),
+        Input::Unreadable => complain(b"seedspell: standard input cannot be read\n"),
+    }
+}

@@ -1,0 +1,57 @@
+// Standard output. A write may take fewer bytes than it is given, so that the rest is offered again.
+ghost use Prim.Native.Nat.{_≤_};
+ghost use lib.ListN.{length};
+ghost use Rattle.seedspell.specs.Program.{WroteMore};
+use libc::EINTR;
+use libc::STDOUT_FILENO;
+
+// What one write does.
+pub(crate) enum Put {
+    // It takes so many bytes, at least one.
+    Bytes(usize),
+    // It takes none: a signal came first.
+    Interrupted,
+    // An error.
+    Failed,
+}
+
+// One write, of the bytes from `at` on. A write that takes nothing without an error counts as interrupted, so that it is tried again and
+// uses up a retry.
+fn write_more(text: &[u8], at: usize) -> Put
+    requires { ⌜ at ≤ length (now text) ⌝ }
+    ensures { λ r. ⌜ WroteMore (now (text .entry)) at r ⌝ }
+{
+    let put = libc::write(STDOUT_FILENO, &text[at..]);
+    if put > 0 {
+        return Put::Bytes(put as usize);
+    }
+    if put == 0 {
+        return Put::Interrupted;
+    }
+    if os::errno() == EINTR {
+        return Put::Interrupted;
+    }
+    Put::Failed
+}
+
+// Writes a text, and gives how many of its bytes were taken: all, unless a write fails or 1,000 retries are used up. Each turn gets rid of a
+// byte or uses up a retry, so that the loop ends.
+pub(crate) fn write_answer(text: &[u8]) -> usize
+    ensures { λ r. ⌜ r ≤ length (now (text .entry)) ⌝ }
+{
+    let mut n = 0;
+    let mut retries: usize = 1000;
+    while n < text.len() {
+        match write_more(text, n) {
+            Put::Bytes(k) => n += k,
+            Put::Interrupted => {
+                if retries == 0 {
+                    return n;
+                }
+                retries -= 1;
+            }
+            Put::Failed => return n,
+        }
+    }
+    n
+}
