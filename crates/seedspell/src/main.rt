@@ -1,8 +1,9 @@
 // The program: plans the set whose text stands on standard input, and prints the plan's lines, or the line of the refusal.
 //
-// What it prints for the bytes it has read is proved (answer_bytes). What no contract can say is which bytes a read brings and where those
-// of a write go: that is read's and write's, which are taken at their word. The program always returns, however often a signal interrupts
-// it. Its exit status is always 0, so that an input that cannot be read, or an answer that cannot be written, shows on standard error.
+// What it offers to standard output is the answer to the bytes that it has read: write_answer asks for that, and answer_bytes gives it.
+// Which bytes a read brings, and where those of a write go, no contract can say: read, write and errno are taken at their word. The program
+// always returns, however often a signal interrupts it. Its exit status is always 0, so that an input that cannot be read, or an answer
+// that cannot be written, shows on standard error only.
 mod input;
 mod output;
 
@@ -31,7 +32,7 @@ fn complain(line: &[u8]) {
 fn plan(text: &[u8]) {
     let mut output = [0u8; 2048];
     let n = answer_bytes(text, &mut output);
-    if output::write_answer(&output[..n]) < n {
+    if output::write_answer(text, &output[..n]) < n {
         complain(b"seedspell: the answer cannot be written to standard output\n");
     }
 }

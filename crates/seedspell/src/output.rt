@@ -1,6 +1,7 @@
 // Standard output. A write may take fewer bytes than it is given, so that the rest is offered again.
 ghost use Prim.Native.Nat.{_≤_};
 ghost use lib.ListN.{length};
+ghost use Rattle.answer.specs.Answer.{Prints};
 ghost use Rattle.seedspell.specs.Program.{WroteMore};
 use libc::EINTR;
 use libc::STDOUT_FILENO;
@@ -17,11 +18,11 @@ pub(crate) enum Put {
 
 // One write, of the bytes from `at` on. A write that takes nothing without an error counts as interrupted, so that it is tried again and
 // uses up a retry.
-fn write_more(text: &[u8], at: usize) -> Put
-    requires { ⌜ at ≤ length (now text) ⌝ }
-    ensures { λ r. ⌜ WroteMore (now (text .entry)) at r ⌝ }
+fn write_more(answer: &[u8], at: usize) -> Put
+    requires { ⌜ at ≤ length (now answer) ⌝ }
+    ensures { λ r. ⌜ WroteMore (now (answer .entry)) at r ⌝ }
 {
-    let put = libc::write(STDOUT_FILENO, &text[at..]);
+    let put = libc::write(STDOUT_FILENO, &answer[at..]);
     if put > 0 {
         return Put::Bytes(put as usize);
     }
@@ -34,15 +35,17 @@ fn write_more(text: &[u8], at: usize) -> Put
     Put::Failed
 }
 
-// Writes a text, and gives how many of its bytes were taken: all, unless a write fails or 1,000 retries are used up. Each turn gets rid of a
-// byte or uses up a retry, so that the loop ends.
-pub(crate) fn write_answer(text: &[u8]) -> usize
-    ensures { λ r. ⌜ r ≤ length (now (text .entry)) ⌝ }
+// Writes the answer to an input, and gives how many of its bytes were taken: all, unless a write fails or 1,000 retries are used up. Each
+// turn gets rid of a byte or uses up a retry, so that the loop ends. Nothing else writes to standard output; the input is there for the
+// contract to speak of it.
+pub(crate) fn write_answer(input: &[u8], answer: &[u8]) -> usize
+    requires { ⌜ Prints (now input) (now answer) ⌝ }
+    ensures { λ r. ⌜ r ≤ length (now (answer .entry)) ⌝ }
 {
     let mut n = 0;
     let mut retries: usize = 1000;
-    while n < text.len() {
-        match write_more(text, n) {
+    while n < answer.len() {
+        match write_more(answer, n) {
             Put::Bytes(k) => n += k,
             Put::Interrupted => {
                 if retries == 0 {

@@ -1,4 +1,4 @@
--- `plan` is safe: the answer's bytes are within the output.
+-- `plan` is safe: the answer's bytes are within the output, and they are the answer to the text.
 -- Assumes nothing.
 use mathlib.Core.Path.{sym}
 use lib.Seq.{length-take-le}
@@ -16,7 +16,7 @@ slice-aggregate-write-answer : tie.Need-slice-aggregate-write-answer
 slice-aggregate-write-answer c = sym (length-take-le _ _ (c .before .answer-bytes .ensures .within))
 
 write-answer-requires : tie.Need-write-answer-requires
-write-answer-requires c κs = search needs
+write-answer-requires c κs = c .before .answer-bytes .ensures .prints
 
 slice-aggregate-complain : tie.Need-slice-aggregate-complain
 slice-aggregate-complain c = search needs

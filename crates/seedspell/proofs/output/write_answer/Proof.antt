@@ -1,4 +1,4 @@
--- `output::write_answer` meets its contract. The invariant: the bytes that were taken are within the text. The measure is the bytes that are left
+-- `output::write_answer` meets its contract. The invariant: the bytes that were taken are within the answer. The measure is the bytes that are left
 -- and the retries that are left, together.
 -- Assumes nothing.
 use Prim.Native.Nat.{_+_, _-_, _≤_}
@@ -12,14 +12,14 @@ use Rattle.seedspell.proofs.output.write_answer.Statement.{statement}
 use Rattle.seedspell.proofs.output.write_answer.Tie as tie
 
 abbrev Inv-loop : tie.InvT-loop
-Inv-loop text n₀ retries₀ n retries = n ≤ length text
+Inv-loop input answer n₀ retries₀ n retries = n ≤ length answer
 
 abbrev μ-loop : tie.MeasureT-loop
-μ-loop text n₀ retries₀ n retries = (length text - n) + retries
+μ-loop input answer n₀ retries₀ n retries = (length answer - n) + retries
 
 -- The bytes that a write took.
 went : (c : tie.After-k Inv-loop μ-loop) → let l = c .before .before .before .before in
-    WroteMore (now (l .before .before .args .text)) (l .loop .n) (Took (c .k .given .0 .0))
+    WroteMore (now (l .before .before .before .args .answer)) (l .loop .n) (Took (c .k .given .0 .0))
 went c = rw (c .k .given .1) at (c .before .before .write-more .ensures)
 
 loop-holds : tie.Need-loop-holds Inv-loop μ-loop

@@ -14,11 +14,11 @@ use Rattle.seedspell.proofs.output.write_more.Tie as tie
 
 -- The bytes that the write took.
 count : (c : tie.Then1) → let a = c .before .before .before .before .args in
-    Count (length (now (a .text)) - a .at) (toZ w64 (ofZ w64 (c .before .write .result)))
+    Count (length (now (a .answer)) - a .at) (toZ w64 (ofZ w64 (c .before .write .result)))
 count c =
     let w = c .before in
     let a = w .before .before .before in
-    held _ (w .write .result) (w .write .ok) (rw (mid-len (a .args .at) (length (now (a .args .text))) (now (a .args .text)) (omega arith)) at (w .write .ensures)) (c .if1 .taken)
+    held _ (w .write .result) (w .write .ok) (rw (mid-len (a .args .at) (length (now (a .args .answer))) (now (a .args .answer)) (omega arith)) at (w .write .ensures)) (c .if1 .taken)
 
 sub-write : tie.Need-sub-write
 sub-write c = search needs
