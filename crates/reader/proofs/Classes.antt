@@ -12,7 +12,7 @@ use borrow.Author.Tests.{ne-eqb, lt-ltb, le-ltb, lt-leb, ltb-true, ltb-false}
 use Rattle.text.proofs.Reading.{within, isDigit, starts}
 use Rattle.text.proofs.Digits.{NoDigit}
 use Rattle.numbers.proofs.Tests.{between-true, true-between}
-use Rattle.reader.specs.Steps.{stepOf, stepAt}
+use Rattle.reader.specs.Steps.{markOf, stepOf, stepAt}
 use Rattle.reader.specs.declared.Class.{Class}
 use Rattle.reader.specs.declared.Class.the-variants.{End, Digit, Bracket, Space, LineEnd, Letter, Other}
 
@@ -27,6 +27,32 @@ module _ (low high b : ℕ) where
       go true = lt-leb b high h
       go false = refl
 
+-- A byte that is no digit, by the ranges of the marks.
+module _ (b : ℕ) where
+  pub mark-bracket : 40 ≤ b → b ≤ 41 → markOf b ≡ Bracket b
+  mark-bracket p q = rw (true-between 40 41 b p q)
+
+  pub mark-space : b ≡ 32 → markOf b ≡ Space
+  mark-space e = rw e
+
+  pub mark-line-end : b ≡ 10 → markOf b ≡ LineEnd
+  mark-line-end e = rw e
+
+  pub mark-letter : 97 ≤ b → b ≤ 122 → markOf b ≡ Letter b
+  mark-letter p q = rw (above 40 41 b (omega arith), ne-eqb b 32 (omega arith), ne-eqb b 10 (omega arith), true-between 97 122 b p q)
+
+  mark-other : within 40 41 b ≡ false → (b ≡ 32 → ⊥) → (b ≡ 10 → ⊥) → within 97 122 b ≡ false → markOf b ≡ Other
+  mark-other q e f r = rw (q, ne-eqb b 32 e, ne-eqb b 10 f, r)
+
+  pub other-low : b < 40 → (b ≡ 32 → ⊥) → (b ≡ 10 → ⊥) → markOf b ≡ Other
+  other-low h e f = mark-other (below 40 41 b h) e f (below 97 122 b (omega arith))
+
+  pub other-between : 41 < b → b < 97 → markOf b ≡ Other
+  other-between h k = mark-other (above 40 41 b h) (omega arith) (omega arith) (below 97 122 b k)
+
+  pub other-high : 122 < b → markOf b ≡ Other
+  other-high h = mark-other (above 40 41 b (omega arith)) (omega arith) (omega arith) (above 97 122 b h)
+
 module _ (s : List ℕ) (at : ℕ) where
   pub at-end : length s ≤ at → stepAt s at ≡ End
   unfolding stepAt
@@ -40,41 +66,8 @@ module _ (s : List ℕ) (at : ℕ) where
     pub at-digit : 48 ≤ getD s at 0 → getD s at 0 ≤ 57 → stepAt s at ≡ Digit (getD s at 0 - 48)
     at-digit p q = at-byte _ (rw (true-between 48 57 (getD s at 0) p q))
 
-    pub at-bracket : 40 ≤ getD s at 0 → getD s at 0 ≤ 41 → stepAt s at ≡ Bracket (getD s at 0)
-    at-bracket p q = at-byte _ (rw (below 48 57 (getD s at 0) (omega arith), true-between 40 41 (getD s at 0) p q))
-
-    pub at-space : getD s at 0 ≡ 32 → stepAt s at ≡ Space
-    at-space e = at-byte _ (rw e)
-
-    pub at-line-end : getD s at 0 ≡ 10 → stepAt s at ≡ LineEnd
-    at-line-end e = at-byte _ (rw e)
-
-    pub at-letter : 97 ≤ getD s at 0 → getD s at 0 ≤ 122 → stepAt s at ≡ Letter (getD s at 0)
-    at-letter p q =
-        at-byte _
-        (rw (
-          above 48 57 (getD s at 0) (omega arith),
-          above 40 41 (getD s at 0) (omega arith),
-          ne-eqb (getD s at 0) 32 (omega arith),
-          ne-eqb (getD s at 0) 10 (omega arith),
-          true-between 97 122 (getD s at 0) p q,
-        ))
-
-    at-other : within 48 57 (getD s at 0) ≡ false → within 40 41 (getD s at 0) ≡ false → (getD s at 0 ≡ 32 → ⊥) → (getD s at 0 ≡ 10 → ⊥)
-        → within 97 122 (getD s at 0) ≡ false → stepAt s at ≡ Other
-    at-other p q e f r = at-byte _ (rw (p, q, ne-eqb (getD s at 0) 32 e, ne-eqb (getD s at 0) 10 f, r))
-
-    pub other-low : getD s at 0 < 40 → (getD s at 0 ≡ 32 → ⊥) → (getD s at 0 ≡ 10 → ⊥) → stepAt s at ≡ Other
-    other-low h e f = at-other (below 48 57 (getD s at 0) (omega arith)) (below 40 41 (getD s at 0) (omega arith)) e f (below 97 122 (getD s at 0) (omega arith))
-
-    pub other-signs : 41 < getD s at 0 → getD s at 0 < 48 → stepAt s at ≡ Other
-    other-signs h k = at-other (below 48 57 (getD s at 0) (omega arith)) (above 40 41 (getD s at 0) (omega arith)) (omega arith) (omega arith) (below 97 122 (getD s at 0) (omega arith))
-
-    pub other-capital : 57 < getD s at 0 → getD s at 0 < 97 → stepAt s at ≡ Other
-    other-capital h k = at-other (above 48 57 (getD s at 0) (omega arith)) (above 40 41 (getD s at 0) (omega arith)) (omega arith) (omega arith) (below 97 122 (getD s at 0) (omega arith))
-
-    pub other-high : 122 < getD s at 0 → stepAt s at ≡ Other
-    other-high h = at-other (above 48 57 (getD s at 0) (omega arith)) (above 40 41 (getD s at 0) (omega arith)) (omega arith) (omega arith) (above 97 122 (getD s at 0) (omega arith))
+    pub at-mark : isDigit (getD s at 0) ≡ false → stepAt s at ≡ markOf (getD s at 0)
+    at-mark e = at-byte _ (rw e)
 
 -- Whether a class is that of a digit.
 abbrev pub isDigitClass : Class → Bool

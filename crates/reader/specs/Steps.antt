@@ -18,14 +18,16 @@ use Rattle.reader.specs.declared.Value.the-variants.{Got, Wrong}
 use Rattle.reader.specs.declared.Count.{Count}
 use Rattle.reader.specs.declared.Count.the-variants.{Found, Off}
 
--- The class of a byte, and of what stands at a place of a text.
-abbrev pub stepOf : ℕ → Class
-stepOf b =
-    cond (isDigit b) (Digit (b - 48))
-    (cond (within 40 41 b) (Bracket b)
+-- The class of a byte that is no digit, of any byte, and of what stands at a place of a text.
+abbrev pub markOf : ℕ → Class
+markOf b =
+    cond (within 40 41 b) (Bracket b)
     (cond (eqb b 32) Space
     (cond (eqb b 10) LineEnd
-    (cond (within 97 122 b) (Letter b) Other))))
+    (cond (within 97 122 b) (Letter b) Other)))
+
+abbrev pub stepOf : ℕ → Class
+stepOf b = cond (isDigit b) (Digit (b - 48)) (markOf b)
 
 unfoldable pub stepAt : List ℕ → ℕ → Class
 stepAt s at = cond (ltb at (length s)) (stepOf (getD s at 0)) End
