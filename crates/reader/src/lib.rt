@@ -10,6 +10,8 @@ ghost use Rattle.text.proofs.Reading.{readAt, mapRes};
 ghost use Rattle.text.proofs.Writing.{placed};
 ghost use Rattle.reader.specs.Steps.{markOf, stepAt, opensAt, ofPlace, ofValue, ofCount, slackLine, spacedNumber, Wrote, plain, unit, allWords, wordCount};
 use taskset::CopyAnswer;
+use taskset::LIST_EXTRA;
+use taskset::LIST_HEAD;
 use taskset::Refusal;
 
 // What stands at a place of the text.
@@ -196,14 +198,14 @@ fn up_to(s: &[u8], at: usize, out: &mut [u32], k: usize, m: usize) -> Count
     Count::Found(n, i)
 }
 
-// The rates, two to eight, to the list from 2 on.
+// The rates, two to eight, to the list, where they stand behind their count.
 fn rates(s: &[u8], at: usize, out: &mut [u32]) -> Count
     requires { ⌜ 331 ≤ length (now out) ⌝ }
     ensures { λ r. ⌜ (ofCount r ≡ mapRes length (readAt (Reading.numbers 2 6) (now (s .entry)) at))
         × Wrote plain 2 (now (out .entry)) (now (out .exit)) (readAt (Reading.numbers 2 6) (now (s .entry)) at) ⌝ }
 {
-    match exactly(s, at, out, 2, 2) {
-        Place::At(i) => match up_to(s, i, out, 4, 6) {
+    match exactly(s, at, out, LIST_HEAD + 1, 2) {
+        Place::At(i) => match up_to(s, i, out, LIST_HEAD + 3, 6) {
             Count::Found(n, j) => Count::Found(n + 2, j),
             Count::Off(o) => Count::Off(o),
         },
@@ -223,7 +225,7 @@ fn task(s: &[u8], at: usize, out: &mut [u32], k: usize, m: usize) -> Place
                 Place::At(h) => {
                     out[k] = p;
                     out[k + 1] = c;
-                    match exactly(s, h, out, k + 2, m) {
+                    match exactly(s, h, out, k + (2 + LIST_EXTRA), m) {
                         Place::At(e) => literal(s, e, b"))\n"),
                         Place::Bad(o) => Place::Bad(o),
                     }
@@ -261,7 +263,7 @@ fn more_tasks(s: &[u8], at: usize, out: &mut [u32], k: usize, m: usize) -> Count
                 Place::At(j) => {
                     i = j;
                     n += 1;
-                    w += 2 + m;
+                    w += 2 + LIST_EXTRA + m;
                 }
                 Place::Bad(o) => return Count::Off(o),
             }
@@ -279,7 +281,7 @@ fn tasks(s: &[u8], at: usize, out: &mut [u32], k: usize, m: usize) -> Count
         × Wrote allWords k (now (out .entry)) (now (out .exit)) (readAt (Reading.readTasks m) (now (s .entry)) at) ⌝ }
 {
     match task(s, at, out, k, m) {
-        Place::At(i) => match more_tasks(s, i, out, k + (2 + m), m) {
+        Place::At(i) => match more_tasks(s, i, out, k + (2 + LIST_EXTRA + m), m) {
             Count::Found(n, j) => Count::Found(n + 1, j),
             Count::Off(o) => Count::Off(o),
         },
@@ -297,12 +299,12 @@ fn read_set(s: &[u8], out: &mut [u32]) -> Count
         Value::Got(g, i) => match literal(s, i, b"rates") {
             Place::At(j) => match rates(s, j, out) {
                 Count::Found(m, h) => match literal(s, h, b")\n") {
-                    Place::At(e) => match tasks(s, e, out, 3 + m, m) {
+                    Place::At(e) => match tasks(s, e, out, LIST_HEAD + 2 + m, m) {
                         Count::Found(n, f) => {
                             out[0] = g;
-                            out[1] = m as u32;
-                            out[2 + m] = n as u32;
-                            Count::Found(3 + m + n * (2 + m), f)
+                            out[LIST_HEAD] = m as u32;
+                            out[LIST_HEAD + 1 + m] = n as u32;
+                            Count::Found(LIST_HEAD + 2 + m + n * (2 + LIST_EXTRA + m), f)
                         }
                         Count::Off(o) => Count::Off(o),
                     },

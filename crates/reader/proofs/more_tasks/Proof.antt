@@ -45,6 +45,9 @@ add-w c = omega arith
 add-w-2 : tie.Need-add-w-2 Inv-loop μ-loop
 add-w-2 c = omega arith
 
+add-w-3 : tie.Need-add-w-3 Inv-loop μ-loop
+add-w-3 c = omega arith
+
 loop-less : tie.Need-loop-less Inv-loop μ-loop
 loop-less c = omega arith
 
@@ -115,6 +118,7 @@ more-tasks-spec =
     add-n
     add-w
     add-w-2
+    add-w-3
     loop-less
     loop-again
     enum-known-o

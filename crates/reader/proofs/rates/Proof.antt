@@ -37,11 +37,17 @@ others c =
 few : (c : tie.After-n) → c .n .given .0 .0 ≤ 6
 few c = let o = others c in omega (arith, o .shows, so-many 0 6 _ _ _ (o .item) (o .is) .most)
 
+add-exactly : tie.Need-add-exactly
+add-exactly c = search needs
+
 exactly-requires : tie.Need-exactly-requires
 exactly-requires c κs = search needs
 
 enum-known-i : tie.Need-enum-known-i
 enum-known-i c = search needs
+
+add-up-to : tie.Need-add-up-to
+add-up-to c = search needs
 
 up-to-requires : tie.Need-up-to-requires
 up-to-requires c κs = search needs
@@ -49,8 +55,8 @@ up-to-requires c κs = search needs
 enum-known-n : tie.Need-enum-known-n
 enum-known-n c = search needs
 
-add-t17 : tie.Need-add-t17
-add-t17 c = omega (arith, few (c .before))
+add-t19 : tie.Need-add-t19
+add-t19 c = omega (arith, few (c .before))
 
 enum-known-o : tie.Need-enum-known-o
 enum-known-o c = search needs
@@ -97,11 +103,13 @@ pub rates-spec : {M : Type 1} → statement M
 rates-spec =
     tie.close
     (tie.spec
+    add-exactly
     exactly-requires
     enum-known-i
+    add-up-to
     up-to-requires
     enum-known-n
-    add-t17
+    add-t19
     enum-known-o
     enum-known-o-2
     same-length

@@ -136,6 +136,9 @@ enum-known-e c = search needs
 add-tasks : tie.Need-add-tasks
 add-tasks c = omega (arith, few (rates-of (c .before .before)))
 
+add-tasks-2 : tie.Need-add-tasks-2
+add-tasks-2 c = omega (arith, few (rates-of (c .before .before)))
+
 tasks-requires : tie.Need-tasks-requires
 tasks-requires c κs =
     let m = rates-of (c .before .before) in
@@ -159,23 +162,32 @@ cast-out-2 c = omega (arith, sizes (c .before))
 add-out : tie.Need-add-out
 add-out c = omega (arith, sizes (c .before))
 
+add-out-2 : tie.Need-add-out-2
+add-out-2 c = omega (arith, sizes (c .before))
+
 mul-out : tie.Need-mul-out
 mul-out c = omega (arith, sizes (c .before))
 
 slice-write-out-3 : tie.Need-slice-write-out-3
 slice-write-out-3 c = simp length-set (omega (arith, sizes (c .before), room (c .before)))
 
-add-t40 : tie.Need-add-t40
-add-t40 c = omega (arith, sizes (c .before))
-
 add-t41 : tie.Need-add-t41
 add-t41 c = omega (arith, sizes (c .before))
 
-mul-t43 : tie.Need-mul-t43
-mul-t43 c = omega (arith, sizes (c .before))
+add-t43 : tie.Need-add-t43
+add-t43 c = omega (arith, sizes (c .before))
 
-add-t44 : tie.Need-add-t44
-add-t44 c = omega (arith, sizes (c .before))
+add-t42 : tie.Need-add-t42
+add-t42 c = omega (arith, sizes (c .before))
+
+add-t45 : tie.Need-add-t45
+add-t45 c = omega (arith, sizes (c .before))
+
+mul-t46 : tie.Need-mul-t46
+mul-t46 c = omega (arith, sizes (c .before))
+
+add-t47 : tie.Need-add-t47
+add-t47 c = omega (arith, sizes (c .before))
 
 enum-known-o : tie.Need-enum-known-o
 enum-known-o c = search needs
@@ -274,6 +286,7 @@ read-set-spec =
     literal-requires-2
     enum-known-e
     add-tasks
+    add-tasks-2
     tasks-requires
     enum-known-n
     slice-write-out
@@ -281,12 +294,15 @@ read-set-spec =
     slice-write-out-2
     cast-out-2
     add-out
+    add-out-2
     mul-out
     slice-write-out-3
-    add-t40
     add-t41
-    mul-t43
-    add-t44
+    add-t43
+    add-t42
+    add-t45
+    mul-t46
+    add-t47
     enum-known-o
     enum-known-o-2
     enum-known-o-3

@@ -95,6 +95,9 @@ slice-write-out-2 c = simp length-set (omega arith)
 add-exactly : tie.Need-add-exactly
 add-exactly c = search needs
 
+add-exactly-2 : tie.Need-add-exactly-2
+add-exactly-2 c = search needs
+
 exactly-requires : tie.Need-exactly-requires
 exactly-requires c κs = search needs
 
@@ -183,6 +186,7 @@ task-spec =
     mul-out-2
     slice-write-out-2
     add-exactly
+    add-exactly-2
     exactly-requires
     enum-known-e
     slice-aggregate-literal-2

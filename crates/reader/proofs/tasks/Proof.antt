@@ -47,14 +47,17 @@ add-more-tasks c = search needs
 add-more-tasks-2 : tie.Need-add-more-tasks-2
 add-more-tasks-2 c = search needs
 
+add-more-tasks-3 : tie.Need-add-more-tasks-3
+add-more-tasks-3 c = search needs
+
 more-tasks-requires : tie.Need-more-tasks-requires
 more-tasks-requires c κs = search needs
 
 enum-known-n : tie.Need-enum-known-n
 enum-known-n c = search needs
 
-add-t21 : tie.Need-add-t21
-add-t21 c = let o = others (c .before) in omega (arith, o .shows, dom-of (more-tasks-piece _) _ _ _ (o .item) (o .is) .most)
+add-t22 : tie.Need-add-t22
+add-t22 c = let o = others (c .before) in omega (arith, o .shows, dom-of (more-tasks-piece _) _ _ _ (o .item) (o .is) .most)
 
 enum-known-o : tie.Need-enum-known-o
 enum-known-o c = search needs
@@ -104,9 +107,10 @@ tasks-spec =
     enum-known-i
     add-more-tasks
     add-more-tasks-2
+    add-more-tasks-3
     more-tasks-requires
     enum-known-n
-    add-t21
+    add-t22
     enum-known-o
     enum-known-o-2
     same-length
