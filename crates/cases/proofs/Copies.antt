@@ -1,4 +1,4 @@
--- The count that the reader or the writer gives is within the list that was lent.
+-- The count that the reader, the writer or the program's call gives is within the list that was lent.
 -- Assumes nothing.
 use Prim.Native.Nat.{ℕ, _≤_}
 use mathlib.Core.Path.{_≡_, ap, _∙_}
@@ -10,6 +10,7 @@ use Rattle.taskset.specs.declared.CopyAnswer.{CopyAnswer}
 use Rattle.taskset.specs.declared.CopyAnswer.the-variants.{Wrote, Refused as NotCopied}
 use Rattle.text.specs.Text.{words, scriptText, scriptOf}
 use Rattle.text.specs.Calls.{ReaderGives, WriterGives}
+use Rattle.answer.specs.Answer.{RespondGives}
 
 -- A list that starts with another one is as long at least.
 within : (l rest d : List ℕ) (n : ℕ) → n ≡ length l → d ≡ l ++ rest → n ≤ length d
@@ -24,3 +25,7 @@ module _ (given d d′ : List ℕ) where
   pub wrote-within : (a : CopyAnswer) → WriterGives given d d′ a → count a ≤ length d′
   wrote-within (Wrote n) g = within (scriptText (scriptOf given)) (drop n d) d′ n (g .1) (g .2)
   wrote-within (NotCopied f) g = omega arith
+
+  pub printed-within : (a : CopyAnswer) → RespondGives given d d′ a → count a ≤ length d′
+  printed-within (Wrote n) g = within (g .0) (drop n d) d′ n (g .3) (g .4)
+  printed-within (NotCopied f) g = omega arith

@@ -53,7 +53,7 @@ pub put-more : {at n r : ℕ} {old mid new : List ℕ} (xs : List ℕ) (i : ℕ)
 put-more xs i h p q = rw (add-one i, take-suc xs i 0 h, spaced-more) (put-then p q)
 
 -- A number takes at most 21 bytes with its space, an answer at most 71, and the planner's at most 92 before its rate numbers. The
--- reader's and the writer's take at most 71 before words and text, and what may stand behind them 8.
+-- reader's, the writer's and the program's take at most 71 before words and text, and what may stand behind them 8.
 pub spaced-short : (xs : List ℕ) → length (spaced xs) ≤ 21 * length xs
 spaced-short [] = omega arith
 spaced-short (x ∷ xs) = rw (length-append (32 ∷ decimal x) (spaced xs)) (omega (arith, decimal-short x, spaced-short xs))
@@ -82,13 +82,13 @@ read-short (Wrote n) words =
     rw (length-append (bytes " read" ++ spaced said) (spaced words)) (omega (arith, spaced-short said, spaced-short words))
 read-short (NotCopied f) words = omega (arith, refused-short f)
 
-pub wrote-short : (a : CopyAnswer) (text : List ℕ) → length (wroteText a text) ≤ 71 + length text
-wrote-short (Wrote n) text =
+pub wrote-short : (word : List ℕ) (a : CopyAnswer) (text : List ℕ) → length word ≤ 7 → length (wroteText word a text) ≤ 71 + length text
+wrote-short word (Wrote n) text h =
     let said = n ∷ [] in
-    let front = (bytes " wrote" ++ spaced said) ++ bytes " " in
+    let front = (word ++ spaced said) ++ bytes " " in
     rw (length-append front (swappedAll 10 47 text))
-    (omega (arith, length-append (bytes " wrote" ++ spaced said) (bytes " "), spaced-short said, swapped-length 10 47 text))
-wrote-short (NotCopied f) text = omega (arith, refused-short f)
+    (omega (arith, length-append (word ++ spaced said) (bytes " "), length-append word (spaced said), spaced-short said, swapped-length 10 47 text))
+wrote-short word (NotCopied f) text h = omega (arith, refused-short f)
 
 pub stayed-short : (b : Bool) → length (stayedText b) ≤ 8
 stayed-short true = omega arith

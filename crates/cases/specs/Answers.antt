@@ -52,7 +52,7 @@ abbrev pub swappedAll : ℕ → ℕ → List ℕ → List ℕ
 swappedAll from to [] = []
 swappedAll from to (b ∷ bs) = swapped from to b ∷ swappedAll from to bs
 
--- How many words or bytes the reader or the writer wrote.
+-- How many words or bytes the reader, the writer or the program's call wrote.
 abbrev pub count : CopyAnswer → ℕ
 count (Wrote n) = n
 count (NotCopied f) = 0
@@ -61,12 +61,12 @@ abbrev pub readText : CopyAnswer → List ℕ → List ℕ
 readText (Wrote n) words = (bytes " read" ++ spaced (n ∷ [])) ++ spaced words
 readText (NotCopied f) words = refusedText f
 
--- `/`, byte 47, stands for byte 10.
-abbrev pub wroteText : CopyAnswer → List ℕ → List ℕ
-wroteText (Wrote n) text = ((bytes " wrote" ++ spaced (n ∷ [])) ++ bytes " ") ++ swappedAll 10 47 text
-wroteText (NotCopied f) text = refusedText f
+-- The word is the writer's or the program's; `/`, byte 47, stands for byte 10.
+abbrev pub wroteText : List ℕ → CopyAnswer → List ℕ → List ℕ
+wroteText word (Wrote n) text = ((word ++ spaced (n ∷ [])) ++ bytes " ") ++ swappedAll 10 47 text
+wroteText word (NotCopied f) text = refusedText f
 
--- What stands behind either answer.
+-- What stands behind these answers.
 abbrev pub stayedText : Bool → List ℕ
 stayedText true = []
 stayedText false = bytes " changed"

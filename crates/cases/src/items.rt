@@ -124,7 +124,7 @@ pub(crate) fn list(s: &[u8], at: usize, most: usize, out: &mut [u32; 400]) -> Co
 }
 
 // A space and a text, to the front of a list: all that is left of the record, with byte 10 for each `/`.
-pub(crate) fn text(s: &[u8], at: usize, out: &mut [u8; 8192]) -> Counted
+pub(crate) fn text(s: &[u8], at: usize, out: &mut [u8; 16384]) -> Counted
     ensures { λ r. ⌜ TextAt (now (s .entry)) at (now (out .exit)) r ⌝ }
 {
     if s.len() <= at {
@@ -134,7 +134,7 @@ pub(crate) fn text(s: &[u8], at: usize, out: &mut [u8; 8192]) -> Counted
         return Counted::No;
     }
     let start = at + 1;
-    if s.len() - start > 8192 {
+    if s.len() - start > 16384 {
         return Counted::No;
     }
     let n = print::put_swapped(out, 0, &s[start..], b'/', b'\n');

@@ -6,6 +6,7 @@
 //     p NAME K w1 .. wK J A             the planner on the K words, with J words lent for the plan and A working words
 //     r NAME J TEXT                     the reader on the text, with J words lent
 //     t NAME K w1 .. wK J               the writer on the K words, with J bytes lent
+//     a NAME J TEXT                     the program's call on the text, with J bytes lent
 // Their lines:
 //     NAME good RATES TASKS HYPER       of check_set
 //     NAME kept BUSY IDLE PREEMPTED     of the walk
@@ -13,13 +14,15 @@
 //     NAME planned UNIT LOAD HYPER ENERGY r1 .. rN      of the planner
 //     NAME read N w1 .. wN              of the reader
 //     NAME wrote N TEXT                 of the writer
+//     NAME prints N TEXT                of the program's call
 //     NAME refused NUMBER SECOND        of each
 //
 // One space stands between items. A name has 1 to 40 bytes, K is at most 400, and A at most 16384. J is at most 40 for the walk, 64 for
-// the planner, 400 for the reader and 8192 for the writer. A text is all that stands behind its space, at most 8192 bytes, also none;
-// `/` stands for byte 10 in it, which no line can hold. A line of the reader or the writer ends with ` changed` where the call has
-// changed what it must leave as it was: what lies after the N-th word or byte, or anything, where it refused. A line that is no such
-// record gets `bad record`, and no further line is read. A further kind is a function like check_record, and an arm of answer.
+// the planner, 400 for the reader, 8192 for the writer and 2048 for the program's call, which never needs more. A text is all that
+// stands behind its space, at most 16384 bytes, also none; `/` stands for byte 10 in it, which no line can hold. A line of the reader,
+// the writer or the program's call ends with ` changed` where the call has changed what it must leave as it was: what lies after the
+// N-th word or byte, or anything, where it refused. A line that is no such record gets `bad record`, and no further line is read. A
+// further kind is a function like check_record, and an arm of line_for.
 mod input;
 mod items;
 mod print;
@@ -127,7 +130,7 @@ fn plan_record(s: &[u8], at: usize, out: &mut [u8; 65536], n: usize) -> Said
     Said::Line(print::put_planned(out, n, p, &plan[..t]))
 }
 
-// How many words or bytes the reader or the writer says that it wrote.
+// How many words or bytes the reader, the writer or the program's call says that it wrote.
 fn copied(a: CopyAnswer) -> usize
     ensures { λ r. ⌜ r ≡ count a ⌝ }
 {
@@ -173,7 +176,7 @@ fn read_record(s: &[u8], at: usize, out: &mut [u8; 65536], n: usize) -> Said
     if j > 400 {
         return Said::Bad;
     }
-    let mut text = [0u8; 8192];
+    let mut text = [0u8; 16384];
     let Counted::Of(m, _) = items::text(s, next, &mut text) else {
         return Said::Bad;
     };
@@ -207,12 +210,35 @@ fn write_record(s: &[u8], at: usize, out: &mut [u8; 65536], n: usize) -> Said
     let mut text = [7u8; 8192];
     let a = writer::write(&words[..k], &mut text[..lent]);
     let t = copied(a);
-    let behind = print::put_wrote(out, n, a, &text[..t]);
+    let behind = print::put_wrote(out, n, b" wrote", a, &text[..t]);
+    Said::Line(print::put_stayed(out, behind, bytes_stay(&text, t)))
+}
+
+// A record for the program's call: how many bytes are lent, and a text. The bytes hold 7 before the call, which no output has.
+fn respond_record(s: &[u8], at: usize, out: &mut [u8; 65536], n: usize) -> Said
+    requires { ⌜ n ≤ 40 ⌝ }
+    ensures { λ r. ⌜ SaidFits r ⌝ }
+{
+    let Value::Is(j, next) = items::number(s, at) else {
+        return Said::Bad;
+    };
+    if j > 2048 {
+        return Said::Bad;
+    }
+    let mut input = [0u8; 16384];
+    let Counted::Of(m, _) = items::text(s, next, &mut input) else {
+        return Said::Bad;
+    };
+    let lent = j as usize;
+    let mut text = [7u8; 2048];
+    let a = answer::respond(&input[..m], &mut text[..lent]);
+    let t = copied(a);
+    let behind = print::put_wrote(out, n, b" prints", a, &text[..t]);
     Said::Line(print::put_stayed(out, behind, bytes_stay(&text, t)))
 }
 
 // The line for a record: its name, and what its kind asks for.
-fn answer(s: &[u8], out: &mut [u8; 65536]) -> Said
+fn line_for(s: &[u8], out: &mut [u8; 65536]) -> Said
     ensures { λ r. ⌜ SaidFits r ⌝ }
 {
     if s.len() < 3 {
@@ -235,13 +261,14 @@ fn answer(s: &[u8], out: &mut [u8; 65536]) -> Said
         b'p' => plan_record(s, end, out, n),
         b'r' => read_record(s, end, out, n),
         b't' => write_record(s, end, out, n),
+        b'a' => respond_record(s, end, out, n),
         _ => Said::Bad,
     }
 }
 
 // Writes the line for a record. Whether the next one is to be read.
 fn reply(s: &[u8], out: &mut [u8; 65536]) -> bool {
-    match answer(s, out) {
+    match line_for(s, out) {
         Said::Line(n) => print::write_line(out, n),
         Said::Bad => {
             refuse();

@@ -13,7 +13,6 @@ ghost use lib.ListN.{length};
 ghost use Rattle.cases.specs.Decimal.{decimal, spaced};
 ghost use Rattle.cases.specs.Answers.{Put, swapped, swappedAll};
 ghost use Rattle.cases.specs.Answers.{refusedText, checkedText, walkedText, plannedText, readText, wroteText, stayedText};
-ghost use Rattle.taskset.specs.Refusals.{number, second};
 
 // Copies a text.
 pub(crate) fn put_text(out: &mut [u8], at: usize, text: &[u8]) -> usize
@@ -96,44 +95,17 @@ fn put_said(out: &mut [u8; 65536], at: usize, word: &[u8], xs: &[u64]) -> usize
     put_numbers(out, n, xs)
 }
 
-// The number of a refusal.
-fn number_of(f: Refusal) -> u64
-    ensures { λ r. ⌜ r ≡ number f ⌝ }
-{
-    match f {
-        Refusal::TextDeparts(_) => 1,
-        Refusal::BadWord(_) => 2,
-        Refusal::NotAbove(_) => 3,
-        Refusal::TooLong(_) => 4,
-        Refusal::WorkShort(_) => 5,
-        Refusal::TooShort(_) => 6,
-        Refusal::NoPlan => 7,
-        Refusal::BadPlan(_) => 8,
-    }
-}
-
-// The number that is returned beside it.
-fn second_of(f: Refusal) -> u64
-    ensures { λ r. ⌜ r ≡ second f ⌝ }
-{
-    match f {
-        Refusal::TextDeparts(k) => k as u64,
-        Refusal::BadWord(k) => k as u64,
-        Refusal::NotAbove(k) => k as u64,
-        Refusal::TooLong(k) => k as u64,
-        Refusal::WorkShort(k) => k as u64,
-        Refusal::TooShort(k) => k as u64,
-        Refusal::NoPlan => 0,
-        Refusal::BadPlan(k) => k as u64,
-    }
-}
-
 // A refusal, from any call. A name of at most 40 bytes stands in front.
 fn put_refused(out: &mut [u8; 65536], at: usize, f: Refusal) -> usize
     requires { ⌜ at ≤ 40 ⌝ }
     ensures { λ r. ⌜ Put (refusedText f) at (now (out .entry)) r (now (out .exit)) ⌝ }
 {
-    put_said(out, at, b" refused", &[number_of(f), second_of(f)])
+    put_said(
+        out,
+        at,
+        b" refused",
+        &[lines::number_of(f), lines::second_of(f)],
+    )
 }
 
 // The answer of check_set.
@@ -205,14 +177,20 @@ pub(crate) fn put_read(out: &mut [u8; 65536], at: usize, a: CopyAnswer, words: &
     }
 }
 
-// The answer of the writer, with the text that was written.
-pub(crate) fn put_wrote(out: &mut [u8; 65536], at: usize, a: CopyAnswer, text: &[u8]) -> usize
-    requires { ⌜ (at ≤ 40) × (length (now text) ≤ 8192) ⌝ }
-    ensures { λ r. ⌜ Put (wroteText a (now (text .entry))) at (now (out .entry)) r (now (out .exit)) ⌝ }
+// The answer of the writer or the program: the word that names what was done, and the text that was written.
+pub(crate) fn put_wrote(
+    out: &mut [u8; 65536],
+    at: usize,
+    word: &[u8],
+    a: CopyAnswer,
+    text: &[u8],
+) -> usize
+    requires { ⌜ (at ≤ 40) × (length (now word) ≤ 7) × (length (now text) ≤ 8192) ⌝ }
+    ensures { λ r. ⌜ Put (wroteText (now (word .entry)) a (now (text .entry))) at (now (out .entry)) r (now (out .exit)) ⌝ }
 {
     match a {
         CopyAnswer::Wrote(n) => {
-            let m = put_said(out, at, b" wrote", &[n as u64]);
+            let m = put_said(out, at, word, &[n as u64]);
             let k = put_text(out, m, b" ");
             put_swapped(out, k, text, b'\n', b'/')
         }

@@ -4,14 +4,14 @@ use borrow.Author.Needs.{needs}
 use Rattle.cases.proofs.reply.Statement.{statement}
 use Rattle.cases.proofs.reply.Tie as tie
 
-answer-requires : tie.Need-answer-requires
-answer-requires c κs = search needs
+line-for-requires : tie.Need-line-for-requires
+line-for-requires c κs = search needs
 
 enum-known-n : tie.Need-enum-known-n
 enum-known-n c = search needs
 
 write-line-requires : tie.Need-write-line-requires
-write-line-requires c κs = rw (c .before .before .n .given .1) at (c .before .before .before .before .answer .ensures)
+write-line-requires c κs = rw (c .before .before .n .given .1) at (c .before .before .before .before .line-for .ensures)
 
 enum-told : tie.Need-enum-told
 enum-told c = search needs
@@ -29,7 +29,7 @@ pub reply-spec : {M : Type 1} → statement M
 reply-spec =
     tie.close
     (tie.spec
-    answer-requires
+    line-for-requires
     enum-known-n
     write-line-requires
     enum-told

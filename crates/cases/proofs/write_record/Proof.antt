@@ -7,6 +7,7 @@ use mathlib.Core.List.{List, _++_}
 use denote.Ref.{now}
 use lib.ListN.{length, take, drop, replicate, length-append}
 use lib.Seq.{length-take-le, length-front}
+use Rattle.cases.specs.Answers.{bytes}
 use Rattle.cases.specs.Items.{ListAt}
 use Rattle.cases.specs.declared.items.Counted.the-variants.{Of}
 use Rattle.cases.proofs.Copies.{wrote-within}
@@ -97,29 +98,34 @@ write-requires c κs = search needs
 copied-requires : tie.Need-copied-requires
 copied-requires c κs = search needs
 
-array-share-prefix-text : tie.Need-array-share-prefix-text
-array-share-prefix-text c = wrote-fits (c .before)
-
 slice-aggregate-put-wrote : tie.Need-slice-aggregate-put-wrote
-slice-aggregate-put-wrote c = sym (length-take-le _ _ (array-share-prefix-text (c .before)))
+slice-aggregate-put-wrote c = search needs
+
+array-share-prefix-text : tie.Need-array-share-prefix-text
+array-share-prefix-text c = wrote-fits (c .before .before)
+
+slice-aggregate-put-wrote-2 : tie.Need-slice-aggregate-put-wrote-2
+slice-aggregate-put-wrote-2 c = sym (length-take-le _ _ (array-share-prefix-text (c .before)))
 
 put-wrote-requires : tie.Need-put-wrote-requires
 put-wrote-requires c κs =
-    let r = c .before .before in
+    let r = c .before .before .before in
     let h = wrote-fits r in (
       named (r .before .before .before .before .before),
+      search needs,
       omega (arith, length-take-le (r .copied .result) (left (r .before)) h, left-kept (r .before)),
     )
 
 -- Where the answer ends.
 answered : (c : tie.After-put-wrote) → c .put-wrote .result ≤ 8303
 answered c =
-    let r = c .before .before .before in
+    let r = c .before .before .before .before in
     let asked = put-wrote-requires (c .before) (c .put-wrote .lifetimes) in
-    omega (arith, c .put-wrote .ensures .ends, wrote-short (r .before .before .write .result) (bytes-written r), asked .0, asked .1)
+    let short = wrote-short (bytes " wrote") (r .before .before .write .result) (bytes-written r) (asked .1) in
+    omega (arith, c .put-wrote .ensures .ends, short, asked .0, asked .2)
 
 slice-aggregate-bytes-stay : tie.Need-slice-aggregate-bytes-stay
-slice-aggregate-bytes-stay c = sym (left-kept (c .before .before .before .before .before .before))
+slice-aggregate-bytes-stay c = sym (left-kept (c .before .before .before .before .before .before .before))
 
 bytes-stay-requires : tie.Need-bytes-stay-requires
 bytes-stay-requires c κs = search needs
@@ -153,8 +159,9 @@ write-record-spec =
     slice-aggregate-write-2
     write-requires
     copied-requires
-    array-share-prefix-text
     slice-aggregate-put-wrote
+    array-share-prefix-text
+    slice-aggregate-put-wrote-2
     put-wrote-requires
     slice-aggregate-bytes-stay
     bytes-stay-requires

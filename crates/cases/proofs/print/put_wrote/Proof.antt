@@ -1,25 +1,29 @@
 -- `print::put_wrote` meets its contract, case by case: the text stands behind its count.
 -- Assumes nothing.
-use Prim.Native.Nat.{_≤_}
-use mathlib.Core.List.{[], _∷_}
+use Prim.Native.Nat.{ℕ, _≤_}
+use mathlib.Core.List.{List, [], _∷_}
 use native.Mathlib.Omega.{arith}
+use denote.Ref.{now}
+use lib.ListN.{length-append}
+use Rattle.cases.specs.Decimal.{spaced}
 use Rattle.cases.proofs.Texts.{put-then, spaced-short}
 use borrow.Author.Needs.{needs}
 use Rattle.cases.proofs.print.put_wrote.Statement.{statement}
 use Rattle.cases.proofs.print.put_wrote.Tie as tie
 
 -- Where the count ends.
-counted : (c : tie.After-put-said) → c .put-said .result ≤ 67
-counted c = omega (arith, c .put-said .ensures .ends, spaced-short (c .before .before .before .before .before .a .given .0 .0 ∷ []))
+counted : (c : tie.After-put-said) → c .put-said .result ≤ 68
+counted c =
+    let a = c .before .before .before .before in
+    let start = a .before .before .before .before in
+    let said : List ℕ = a .a .given .0 .0 ∷ [] in
+    omega (arith, c .put-said .ensures .ends, length-append (now (start .args .word)) (spaced said), spaced-short said, start .pre .1)
 
 enum-known-a : tie.Need-enum-known-a
 enum-known-a c = search needs
 
 slice-aggregate-put-said : tie.Need-slice-aggregate-put-said
 slice-aggregate-put-said c = search needs
-
-slice-aggregate-put-said-2 : tie.Need-slice-aggregate-put-said-2
-slice-aggregate-put-said-2 c = search needs
 
 put-said-requires : tie.Need-put-said-requires
 put-said-requires c κs = search needs
@@ -45,7 +49,7 @@ returns : tie.Need-returns
 returns c =
     let t = c .before .before in
     let p = t .before .before .before in
-    rw (p .before .before .before .before .before .a .given .1)
+    rw (p .before .before .before .before .a .given .1)
     (put-then (put-then (p .put-said .ensures) (t .put-text .ensures)) (c .put-swapped .ensures))
 
 returns-2 : tie.Need-returns-2
@@ -57,7 +61,6 @@ put-wrote-spec =
     (tie.spec
     enum-known-a
     slice-aggregate-put-said
-    slice-aggregate-put-said-2
     put-said-requires
     slice-aggregate-put-text
     put-text-requires
