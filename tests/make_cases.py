@@ -1,5 +1,5 @@
-"""Makes the stored records of set checks, walk, planner, reader and writer, and
-their answers.
+"""Makes the stored records of set checks, walk, planner, reader, writer and the
+program's call, and their answers.
 
     python3 tests/make_cases.py           writes crates/cases/stdin and stdout
     python3 tests/make_cases.py --check   writes nothing and compares with both
@@ -12,6 +12,7 @@ One record a line, one space between items, each line ended by byte 10:
                                     plan and A working words
     r NAME J TEXT                   the reader on the text, J words lent
     t NAME K w1 .. wK J             the writer on that set, J bytes lent
+    a NAME J TEXT                   the program's call on the text, J bytes lent
 
 A text is all that stands behind its space, and may be empty. A line cannot hold
 byte 10, so `/` stands for it in a text; a text with a `/` of its own cannot be
@@ -24,6 +25,7 @@ An answer is a line too, the record's name and then what the reference says:
     p: planned UNIT LOAD L ENERGY r1 .. rN, or refused N K
     r: read N w1 .. wN, or refused N K
     t: wrote N TEXT, or refused N K
+    a: prints N TEXT, or refused 6 K
 
 Most answers come from the reference alone. Where a case is worked by hand or
 stands in the scope document, the answer is written here as well, and the
@@ -31,12 +33,17 @@ reference must agree with it. A planner answer of a set with few plans is made
 in both of the reference's ways and judged by looking at every plan. Of every
 text a reader of the usual kind must say the same as the reference, which goes
 by the definition: which bytes begin some well-formed text. Words that were read
-or written are put into a text once more, in another way.
+or written are put into a text once more, in another way. What the program prints
+is put together here as well, with a walk from one event to the next, and the
+reference must print the same; where L is so long that its walk would be slow, it
+is not asked.
 
-The test program adds `changed` to an answer of the reader or the writer where
-the call left its memory other than it must. No answer here has it.
+The test program adds `changed` to an answer of the reader, the writer or the
+program's call where it left its memory other than it must. No answer here has it.
 """
 
+import heapq
+import itertools
 import random
 import re
 import sys
@@ -46,7 +53,7 @@ from pathlib import Path
 sys.dont_write_bytecode = True
 
 import reference as r
-from test_reference import EXAMPLE, plain_reader
+from test_reference import EXAMPLE, PRINTED, plain_reader
 
 FOLDER = Path(__file__).resolve().parent.parent / 'crates' / 'cases'
 SEED = 20_011
@@ -56,12 +63,16 @@ MOST_PLAN = 40                  # of a record's plan
 MOST_LENT = 64                  # words of a plan list lent to the planner
 MOST_WORK = 16_384              # working words lent
 MOST_READ = 400                 # words lent to the reader
-MOST_WRITTEN = 8_192            # bytes lent to the writer, and of a text
+MOST_WRITTEN = 8_192            # bytes lent to the writer
+MOST_PRINTED = 2_048            # bytes lent to the program's call, which never needs more
+MOST_TEXT = 16_384              # bytes of a record's text
 MOST_BYTES = 3_000_000          # of all records
 LONGEST_RANDOM = 2_000          # the hyper-period of a random walk: the reference is slow
 RANDOM_PLANS = 1_500
 RANDOM_TEXTS = 500
 RANDOM_LISTS = 300              # each is written and read back
+RANDOM_PROGRAMS = 300           # texts of sets, and
+DAMAGED_PROGRAMS = 200          # damaged ones
 FEW_PLANS = 1_024               # up to so many, the reference looks at all of them
 TOP = 4_294_967_295             # the largest word
 
@@ -94,8 +105,14 @@ def walk(name, words, plan, want=None):
     record('w', name, [words, plan], r.walk(words, plan), want)
 
 
-def planner(name, words, plan_len=MOST_LENT, work_len=MOST_WORK, want=None):
-    assert 0 <= plan_len <= MOST_LENT and 0 <= work_len <= MOST_WORK, name
+def long_walk(name, words, plan, want):
+    """A walk that is kept, too long for the reference to make."""
+    assert r.check_walk(words, plan) is None, name
+    record('w', name, [words, plan], kept(*walked(words, plan)), want)
+
+
+def judged_plan(name, words, plan_len, work_len):
+    """The reference's answer for the planner, held to what else is known of it."""
     said = r.check_set(words)
     few = said[0] == 'good' and said[1] ** said[2] <= FEW_PLANS
     answer = r.plan(words, plan_len, work_len, 'all' if few else 'table')
@@ -110,6 +127,12 @@ def planner(name, words, plan_len=MOST_LENT, work_len=MOST_WORK, want=None):
             assert load <= L, name
             if L <= LONGEST_RANDOM:
                 assert r.walk(words, rates)[:3] == ('kept', load, L - load), name
+    return answer
+
+
+def planner(name, words, plan_len=MOST_LENT, work_len=MOST_WORK, want=None):
+    assert 0 <= plan_len <= MOST_LENT and 0 <= work_len <= MOST_WORK, name
+    answer = judged_plan(name, words, plan_len, work_len)
     if answer[0] == 'planned':
         answer = planned(*answer[1:5], *answer[5])
     record('p', name, [words], answer, want, (plan_len, work_len))
@@ -121,7 +144,7 @@ def on_a_line(text):
 
 
 def read(name, text, lent=MOST_READ, want=None):
-    assert 0 <= lent <= MOST_READ and len(text) <= MOST_WRITTEN, name
+    assert 0 <= lent <= MOST_READ and len(text) <= MOST_TEXT, name
     answer = r.read_text(text, lent)
     departs = answer[2] if answer[:2] == ('refused', 1) else None
     assert plain_reader(text) == departs, name
@@ -138,6 +161,16 @@ def write(name, words, lent=MOST_WRITTEN, want=None):
         assert text_of(words) == answer[1], name
         answer = wrote(answer[1])
     record('t', name, [words], answer, want, (lent,))
+
+
+def program(name, text, lent=MOST_PRINTED, want=None):
+    """want is what the program prints, whether or not so much is lent."""
+    assert 0 <= lent <= MOST_PRINTED and len(text) <= MOST_TEXT, name
+    printed = printed_for(name, text)
+    assert want is None or printed == want, '%s: %r, not %r' % (name, printed, want)
+    size = len(printed)
+    answer = ('prints', size, on_a_line(printed)) if size <= lent else refused(6, size)
+    record('a', name, [], answer, None, (lent, on_a_line(text)))
 
 
 def both(name, words, plan, want=None):
@@ -177,6 +210,12 @@ def wrote(text):
 # ---------------------------------------------------------------------- sets
 
 S = [100, 3, 2, 4, 8, 2, 10, 12, 4, 9, 20, 15, 20, 7, 15, 30]
+
+
+# Periods and job times whose load is L. Added as fractions of 53 bits, and of 24 too,
+# they come to more than 1.
+PAST_ONE = [(30, 7), (60, 33), (60, 9), (60, 4)]
+assert 7 / 30 + 33 / 60 + 9 / 60 + 4 / 60 > 1
 
 
 def task_set(rates, tasks, slack=100):
@@ -292,6 +331,7 @@ def document():
     both('periods-9999999-10000000', with_periods((9_999_999, 10_000_000)), [1, 1],
          refused(4, 9))
     check('period-10000000', with_periods((10_000_000,)), good(2, 1, 10_000_000))
+    long_walk('period-10000000-w', with_periods((10_000_000,)), [1], kept(1, 9_999_999, 0))
 
 
 # -------------------------------------------------------------------- check 2
@@ -704,7 +744,7 @@ def loads():
             ('3-3-3', [(3, 1), (3, 1), (3, 1)], 3), ('4-6-12', [(4, 1), (6, 3), (12, 3)], 12),
             ('10-15-30', [(10, 3), (15, 6), (30, 9)], 30), ('5-7', [(5, 3), (7, 2), (35, 4)], 35),
             ('12-18-36', [(12, 5), (18, 4), (36, 13)], 36),
-            ('9-15', [(9, 4), (15, 7), (45, 4)], 45),
+            ('9-15', [(9, 4), (15, 7), (45, 4)], 45), ('30-60', PAST_ONE, 60),
             ('8-12-20', [(8, 3), (12, 2), (20, 5), (120, 25)], 120),
             ('7-11-13', [(7, 2), (11, 3), (13, 4), (1001, 134)], 1001)):
         assert sum(L // period * time for period, time in tasks) == L, label
@@ -1215,7 +1255,7 @@ def planner_loads():
             ('2-4', [(2, 1), (4, 2)], 4), ('2-3-6', [(2, 1), (3, 1), (6, 1)], 6),
             ('3-3-3', [(3, 1), (3, 1), (3, 1)], 3), ('4-6-12', [(4, 1), (6, 3), (12, 3)], 12),
             ('10-15-30', [(10, 3), (15, 6), (30, 9)], 30), ('5-7', [(5, 3), (7, 2), (35, 4)], 35),
-            ('9-15', [(9, 4), (15, 7), (45, 4)], 45),
+            ('9-15', [(9, 4), (15, 7), (45, 4)], 45), ('30-60', PAST_ONE, 60),
             ('7-11-13', [(7, 2), (11, 3), (13, 4), (1_001, 134)], 1_001),
             ('many', [(64, 2)] * 32, 64)):
         N = len(tasks)
@@ -1646,9 +1686,10 @@ def read_document():
     read_back('r-cycles-over-four-milliards', put(S, 7, 4_000_000_001))
     read_back('r-energy-over-a-million', put(S, 15, 1_000_001))
     read_back('r-hyper-period-too-long', with_periods((9_999_999, 10_000_000)))
-    # The longest text that a record can give.
-    read('r-spaces-8192', b' ' * MOST_WRITTEN, want=refused(1, 0))
-    read('r-trailing-to-8192', EXAMPLE.ljust(MOST_WRITTEN), want=refused(1, len(EXAMPLE)))
+    # What the program reads at most, and the longest text that a record can give.
+    for size in (r.BYTES_READ, r.BYTES_READ + 1, MOST_TEXT):
+        read('r-spaces-%d' % size, b' ' * size, want=refused(1, 0))
+        read('r-trailing-to-%d' % size, EXAMPLE.ljust(size), want=refused(1, len(EXAMPLE)))
 
 
 def read_shapes():
@@ -1921,8 +1962,10 @@ def write_shapes():
 
 def write_refused():
     """Refusals 2 and 3 at each kind of place, with much and with nothing lent."""
+    lent = itertools.cycle((MOST_WRITTEN, 0))
+
     def refuses(name, words, number, place):
-        write(name, words, (MOST_WRITTEN, 0)[len(questions) % 2], refused(number, place))
+        write(name, words, next(lent), refused(number, place))
 
     for label, M, N in (('least', 2, 1), ('pair', 3, 2), ('whole', 8, 32)):
         base = same_tasks(M, N)
@@ -1965,6 +2008,320 @@ def random_lists():
             write(name + '-short', words, short, refused(6, size))
 
 
+# ----------------------------------------------------------------- the program
+
+def form(*items):
+    return '(' + ' '.join(map(str, items)) + ')'
+
+
+def on_lines(*forms):
+    return ''.join(item + '\n' for item in forms).encode('ascii')
+
+
+def refusal(number, second):
+    return on_lines(form('refused', number, second))
+
+
+def plan_lines(unit, load, L, energy, rates, preempted):
+    """The lines of a plan. Its walk is busy for the load, and idle for the rest."""
+    return on_lines(form('plan', form('unit', unit), form('load', load, L), form('energy', energy)),
+                    *(form('rate', task, rate) for task, rate in enumerate(rates, 1)),
+                    form('walk', form('busy', load), form('idle', L - load),
+                         form('preempted', preempted)))
+
+
+def words_of(text):
+    """The words of a well-formed text."""
+    lines = text.split(b'\n')[:-1]
+    M, N = lines[1].count(b' '), len(lines) - 2
+    numbers = [int(number) for number in re.findall(rb'[0-9]+', text)]
+    words = [numbers[0], M, *numbers[1:1 + M], N, *numbers[1 + M:]]
+    assert text_of(words) == text
+    return words
+
+
+def walked(words, rates):
+    """The counts of the walk of a plan that is kept. The walk goes from one
+    release or end of a job to the next."""
+    s = r.decode(words)
+    L = r.hyper_period(s.tasks)
+    time = [-(-task.cycles // s.rates[rate - 1]) for task, rate in zip(s.tasks, rates)]
+    releases = sorted((tick, i) for i, task in enumerate(s.tasks)
+                      for tick in range(0, L, task.period))
+    jobs = []                   # deadline, task and ticks left of each unfinished job
+    broken = None               # the job of the tick before, if it is unfinished
+    now = at = busy = preemptions = 0
+    while now < L:
+        while at < len(releases) and releases[at][0] == now:
+            i = releases[at][1]
+            heapq.heappush(jobs, (now + s.tasks[i].period, i, time[i]))
+            at += 1
+        until = releases[at][0] if at < len(releases) else L
+        if not jobs:
+            now, broken = until, None
+            continue
+        deadline, i, left = jobs[0]
+        preemptions += broken not in (None, (deadline, i))
+        ran = min(left, until - now)
+        busy, now, left = busy + ran, now + ran, left - ran
+        assert now <= deadline, 'missed'
+        if left:
+            jobs[0] = (deadline, i, left)               # its place among them is the same
+            broken = (deadline, i)
+        else:
+            heapq.heappop(jobs)
+            broken = None
+    assert not jobs, 'missed'
+    return busy, L - busy, preemptions
+
+
+def printed_for(name, text):
+    """All that the program prints, put together here, and where L is not long by
+    the reference too. That no more than 8,192 bytes are read is left to it."""
+    departs = plain_reader(text)
+    if departs is not None:
+        printed, L = refusal(1, departs), 0
+    else:
+        words = words_of(text)
+        answer = judged_plan(name, words, 32, MOST_WORK)
+        if answer[0] == 'refused':
+            printed, L = refusal(*answer[1:]), 0
+        else:
+            _, unit, load, L, energy, rates = answer
+            busy, idle, preempted = walked(words, rates)
+            assert (busy, idle) == (load, L - load), name
+            printed = plan_lines(unit, load, L, energy, rates, preempted)
+    if L <= LONGEST_RANDOM:
+        assert r.respond(text) == printed, name
+    return printed
+
+
+def roomed(name, text, want):
+    """The program with much lent, and with about as many bytes as it prints."""
+    program(name, text, want=want)
+    size = len(want)
+    for label, lent in (('exact', size), ('a-byte-short', size - 1), ('a-byte-more', size + 1),
+                        ('one-byte-lent', 1), ('none-lent', 0)):
+        program('%s-%s' % (name, label), text, lent, want)
+
+
+def program_document():
+    """The scope document's example, its cases, and its plausible errors, as far as
+    they concern the program."""
+    roomed('a-document', EXAMPLE, PRINTED)
+    roomed('a-document-slack-1000', text_of(put(S, 0, 1_000)),
+           plan_lines(8, 28, 30, 42, [1, 2], 1))
+    roomed('a-empty', b'', refusal(1, 0))
+    roomed('a-slack-of-0', text_of(put(S, 0, 0)), refusal(2, 0))
+    roomed('a-rates-4-4', text_of(with_rates((4, 4))), refusal(3, 3))
+    roomed('a-periods-9999999-10000000', text_of(with_periods((9_999_999, 10_000_000))),
+           refusal(4, 9))
+    roomed('a-document-slack-1', text_of(put(S, 0, 1)), refusal(5, 24_003))
+    roomed('a-61-cycles-in-30-ticks', text_of(costed((1, 2), [(30, 61, 1, 1)])), refusal(7, 0))
+    program('a-60-cycles-in-30-ticks', text_of(costed((1, 2), [(30, 60, 1, 1)])),
+            want=plan_lines(1, 30, 30, 1, [2], 0))
+    program('a-period-10000000', text_of(costed((1, 2), [(10_000_000, 1, 1, 1)])),
+            want=plan_lines(1, 1, 10_000_000, 1, [1], 0))
+    # Energies rounded down give unit 16.
+    program('a-33-at-every-rate', text_of(costed((1, 2), [(10, 10, 33, 33)], 1_000)),
+            want=plan_lines(32, 5, 10, 33, [2], 0))
+    # Three thirds are one, and a fourth is too much.
+    program('a-load-of-exactly-l', text_of(costed((1, 2), [(3, 1, 1, 2)] * 3)),
+            want=plan_lines(1, 3, 3, 3, [1, 1, 1], 0))
+    tasks = [(period, time, 1, 2) for period, time in PAST_ONE]
+    program('a-load-of-exactly-l-of-60', text_of(costed((1, 2), tasks)),
+            want=plan_lines(1, 60, 60, 5, [1, 1, 1, 1], 1))
+    program('a-load-over-l', text_of(costed((1, 2), [(3, 1, 1, 2)] * 4)), want=refusal(7, 0))
+    # The reviewer's first attempt: the fastest rates fit, and cost too much.
+    program('a-fastest-costs-most', text_of(costed((1, 2), [(10, 1, 1, 1_000_000)] * 3)),
+            want=plan_lines(1, 3, 10, 3, [1, 1, 1], 0))
+    # Only the highest rate fits, for the one task and for the last of two.
+    for M in range(2, 9):
+        rates = range(1, M + 1)
+        program('a-highest-of-%d' % M, text_of(costed(rates, [(10, 10 * M, *rates)])),
+                want=plan_lines(1, 10, 10, M, [M], 0))
+        program('a-highest-of-%d-last-task' % M,
+                text_of(costed(rates, [(100, M, *rates), (100, 99 * M, *rates)], 2)),
+                want=plan_lines(1, 100, 100, 2 * M, [M, M], 0))
+
+
+def program_checks():
+    """Each refusal, at each kind of place, and which of several comes first."""
+    kinds = {0: 'slack', 6: 'period', 7: 'cycles', 11: 'period', 12: 'cycles'}
+    for place in (0, 2, 3, 4, *range(6, 16)):
+        low, high = RANGES[kinds.get(place, 'rate' if place < 6 else 'energy')]
+        for word in (low - 1, high + 1, TOP):
+            program('a-word-%02d-%d' % (place, word), text_of(put(S, place, word)),
+                    want=refusal(2, place))
+    for place in (3, 4):
+        for word in (S[place - 1], S[place - 1] - 1):
+            program('a-rate-%d-%d' % (place, word), text_of(put(S, place, word)),
+                    want=refusal(3, place))
+    for M in (2, 8):
+        for task in (2, 17, 32):
+            periods = [4_999_999] + [1] * (task - 2) + [3] + [1] * (32 - task)
+            program('a-over-at-%02d-of-%d-rates' % (task, M), text_of(with_periods(periods, M)),
+                    want=refusal(4, period_of(M, task)))
+    front = head_of(5, range(8))[:-2]
+    program('a-ninth-rate', head_of(5, range(9)), want=refusal(1, len(front)))
+    # All faults at once, and then from the first on one less.
+    late = task_set((2, 2), [(9_999_999, TOP - 1), (10_000_000, 4_000_000_000)], 1)
+    program('a-1-before-2', text_of(late)[:-1], want=refusal(1, len(text_of(late)) - 1))
+    program('a-2-before-3', text_of(late), want=refusal(2, 6))
+    late[6] = 4_000_000_000
+    program('a-3-before-4', text_of(late), want=refusal(3, 3))
+    late[3] = 3
+    program('a-4-before-5', text_of(late), want=refusal(4, 9))
+    late[9] = 9_999_999
+    program('a-5-before-7', text_of(late), want=refusal(5, 24_003))
+    late[0] = 2
+    program('a-7-at-last', text_of(late), want=refusal(7, 0))
+    # W on either side of 16,384, for each number of tasks with which it can pass it.
+    for N in range(2, 33):
+        low = least_slack(N)
+        for slack in (low - 1, low):
+            words = task_set((1, 2), [(64, 2)] * N, slack)
+            program('a-w-of-%d-tasks-slack-%d' % (N, slack), text_of(words),
+                    want=refusal(5, needed(words)) if slack < low else None)
+
+
+def program_sizes():
+    """Texts of up to 8,192 bytes, which is what the program reads, and longer ones;
+    the longest well-formed text; and a bad byte early and late."""
+    longest = text_of(put(put([TOP] * r.MOST_WORDS, 1, 8), 10, 32))
+    program('a-longest', longest, want=refusal(2, 0))
+    task = line_of(10, 12, 4, 9, 20)
+    short, most, end = len(EXAMPLE), len(EXAMPLE + task * 30), len(longest)
+    draw = Draw(SEED + 5)
+    bytes_of = {'any': [byte for byte in range(256) if byte != b'/'[0]],
+                'form': b'()0123456789 \nacdeiklnoprsty'}
+    for size in (8_191, 8_192, 8_193, MOST_TEXT):
+        for label, text, departs in (
+                ('spaces', EXAMPLE.ljust(size), short),
+                ('line-ends', EXAMPLE.ljust(size, b'\n'), short),
+                ('again', EXAMPLE * 200, short + 1), ('tasks', EXAMPLE + task * 400, most),
+                ('longest', longest * 4, end), ('digits', b'(slack '.ljust(size, b'1'), 17)):
+            program('a-%s-%d' % (label, size), text[:size], want=refusal(1, departs))
+        for label, some in bytes_of.items():
+            more = bytes(draw.one_of(some) for _ in range(size))
+            program('a-%s-bytes-%d' % (label, size), more)
+            program('a-%s-bytes-%d-behind' % (label, size), (EXAMPLE + more)[:size])
+    for label, text in (('document', EXAMPLE), ('longest', longest)):
+        size = len(text)
+        for at in (0, 1, 7, 20, size // 2, size - 2, size - 1):
+            program('a-%s-bad-at-%04d' % (label, at), text[:at] + b'\xff' + text[at + 1:],
+                    want=refusal(1, at))
+        program('a-%s-cut' % label, text[:-1], want=refusal(1, size - 1))
+        program('a-%s-more' % label, text + b'\n', want=refusal(1, size))
+
+
+def program_large():
+    """32 tasks, 8 rates, long hyper-periods, and the largest words."""
+    draw = Draw(SEED + 6)
+    for number, (slack, shape, periods) in enumerate((
+            (1_000, 'random', 'short'), (259, 'rising', 'short'), (300, 'falling', 'short'),
+            (500, 'small', 'short'), (750, 'equal', 'short'), (259, 'random', 'long')), 1):
+        text = text_of(largest(draw, slack, shape, periods))
+        roomed('a-32-tasks-8-rates-%d' % number, text, printed_for('the same', text))
+    rates = [999_993 + i for i in range(8)]
+    most = [(10_000_000, 4_000_000_000) + (1_000_000,) * 8] * 32
+    program('a-every-word-at-its-most', text_of(costed(rates, most, 1_000)))
+    program('a-every-word-at-its-least', text_of([1, 2, 1, 2, 1, 1, 1, 1, 1]),
+            want=plan_lines(1, 1, 1, 1, [1], 0))
+    # The last of 32 tasks is the only one at the highest rate.
+    tasks = [(64, 1, *range(1, 9))] * 31 + [(64, 33 * 8, *range(1, 9))]
+    program('a-last-of-32-at-the-highest-rate', text_of(costed(range(1, 9), tasks, 259)),
+            want=plan_lines(1, 64, 64, 39, [1] * 31 + [8], 0))
+    # A hyper-period of exactly 10,000,000, full to the last tick at rate 1.
+    L = 10_000_000
+    left = L - 78_125 * 32 - 128 * 19_532
+    for label, more in (('under', -1), ('full', 0), ('over', 1)):
+        tasks = [(128, 32, 3, 8), (78_125, 19_532, 5_000, 9_000), (L, left + more, 1, 1_000_000)]
+        program('a-10000000-%s' % label, text_of(costed((1, 2), tasks, 20)))
+
+
+def short_span(words):
+    """Whether a walk of the set is short, or the set is refused."""
+    said = r.check_set(words)
+    return said[0] == 'refused' or said[3] <= LONGEST_RANDOM
+
+
+def random_programs():
+    """Random sets as texts; and damaged ones, of which some are well-formed still."""
+    draw = Draw(SEED + 7)
+    number = 0
+    while number < RANDOM_PROGRAMS:
+        words = some_planned(draw)
+        if draw.between(1, 12) == 1:
+            words[0] = draw.between(1, words[0])        # W may be over what there is
+        if not short_span(words):
+            continue
+        number += 1
+        program('as%04d' % number, text_of(words), draw.one_of(
+            [MOST_PRINTED] * 9 + [draw.between(0, 200)]))
+    number = 0
+    while number < DAMAGED_PROGRAMS:
+        words = some_planned(draw)
+        if number % 2:
+            at = draw.one_of([at for at in range(len(words)) if at not in (1, 2 + words[1])])
+            words[at] = draw.one_of(EDGES)
+            text = text_of(words)
+        else:
+            text = damaged_text(draw, text_of(words))
+            if plain_reader(text) is None:
+                words = words_of(text)
+        if not short_span(words):
+            continue
+        number += 1
+        program('ad%04d' % number, text, draw.one_of([MOST_PRINTED] * 9 + [draw.between(0, 20)]))
+
+
+# --------------------------------------------------------------- the sentences
+
+# Which records stand for each case of 'Either side of an edge', the marked ones too,
+# and for each line of 'Plausible errors'.
+SENTENCES = {
+    'S: plan 2 1, unit 1, load 29, energy 41': 'p-document-set a-document',
+    'S with slack 1,000: plan 1 2, unit 8, load 28, energy 42':
+        'p-document-set-slack-1000 a-document-slack-1000',
+    'S has W = 243; 242 working words: refusal 5 with 243':
+        'p-document-set p-document-set-242-words',
+    'S with slack 1,000: W = 27':
+        'p-document-set-slack-1000 p-document-set-slack-1000-26-words',
+    'S, walk of 1 1: missed, tick 15, task 2': 'walk-of-1-1',
+    'Walk of 2 1: kept, 29, 1, 1': 'walk-of-2-1 a-document',
+    'Plan 1 3 for S: load 24': 'walk-of-1-3',
+    'Walk of 1 4: refusal 8, place 1': 'walk-of-1-4',
+    'Highest rate 2, one task of period 30: 60 cycles fit':
+        'p-60-cycles-in-30-ticks 60-cycles-in-30-ticks a-60-cycles-in-30-ticks',
+    '61 give refusal 7': 'p-61-cycles-in-30-ticks 61-cycles-in-30-ticks a-61-cycles-in-30-ticks',
+    'A slack of 0: refusal 2, place 0':
+        'slack-of-0 slack-of-0-w p-slack-of-0 t-slack-of-0-8192 a-slack-of-0',
+    'Empty list: refusal 2, place 0': 'empty-list empty-list-w p-empty-list t-empty-list-8192',
+    'Rates 4 4: refusal 3, place 3':
+        'rates-4-4 rates-4-4-w p-rates-4-4 t-rates-4-4-8192 a-rates-4-4',
+    'Empty text: refusal 1, offset 0': 'r-empty a-empty',
+    'Two rates, periods 9,999,999 and 10,000,000: refusal 4, place 9':
+        'periods-9999999-10000000 periods-9999999-10000000-w p-periods-9999999-10000000 '
+        'a-periods-9999999-10000000',
+    'One period of 10,000,000 passes':
+        'period-10000000 period-10000000-w p-period-10000000 a-period-10000000',
+
+    'A table of M entries read at M; a task at the highest rate shows it':
+        'rate-8-of-8 p-highest-of-8 p-highest-of-8-last-task a-highest-of-8 '
+        'a-highest-of-8-last-task a-last-of-32-at-the-highest-rate',
+    'Energies rounded to nearest: S with slack 1,000 gets plan 2 1':
+        'p-document-set-slack-1000 a-document-slack-1000',
+    'Rounded down, one task whose task energy is 33 at every rate gets unit 16':
+        'p-33-at-every-rate a-33-at-every-rate',
+    'Utilisation added as rounded fractions, so that a load of exactly L is turned down':
+        'p-full-3-3-3-259 p-full-30-60-259 a-load-of-exactly-l a-load-of-exactly-l-of-60',
+    'Ties settled by rate numbers before load: S with slack 1,000 would get plan 2 1':
+        'p-document-set-slack-1000 a-document-slack-1000',
+    'A miss noticed only when the late job ends': 'walk-of-1-1 late-by-much',
+}
+
+
 # ---------------------------------------------------------- writing, comparing
 
 def make():
@@ -1974,8 +2331,11 @@ def make():
                   planner_lengths, planner_loads, planner_ties, planner_units,
                   planner_energies, planner_limits, random_plans, read_document, read_shapes,
                   read_numbers, read_counts, read_ends, read_damaged, random_texts,
-                  write_document, write_shapes, write_refused, random_lists):
+                  write_document, write_shapes, write_refused, random_lists, program_document,
+                  program_checks, program_sizes, program_large, random_programs):
         group()
+    for sentence, found in SENTENCES.items():
+        assert names.issuperset(found.split()), sentence
     files = {}
     for name, lines in (('stdin', questions), ('stdout', answers)):
         files[name] = ''.join(line + '\n' for line in lines).encode('latin-1')
@@ -1986,6 +2346,11 @@ def make():
 def shown(line):
     text = line.decode('ascii', 'backslashreplace')
     return text if len(text) <= 100 else text[:97] + '...'
+
+
+def record_at(line):
+    """The name of the record of a line, which is the same in both files."""
+    return questions[line - 1].split(' ')[1] if line <= len(questions) else 'none'
 
 
 def difference(name, made):
@@ -2000,8 +2365,8 @@ def difference(name, made):
     ours, theirs = made.split(b'\n'), stored.split(b'\n')
     for at, (our, their) in enumerate(zip(ours, theirs), 1):
         if our != their:
-            return '%s differs at line %d\n  stored: %s\n  made:   %s' % (
-                name, at, shown(their), shown(our))
+            return '%s differs at line %d, record %s\n  stored: %s\n  made:   %s' % (
+                name, at, record_at(at), shown(their), shown(our))
     return '%s differs in length: %d lines stored, %d made' % (
         name, len(theirs) - 1, len(ours) - 1)
 
