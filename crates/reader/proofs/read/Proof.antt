@@ -7,10 +7,10 @@ use native.Mathlib.Omega.{arith}
 use denote.Ref.{now}
 use lib.ListN.{length, replicate}
 use Rattle.text.proofs.Writing.{placed}
-use Rattle.reader.specs.Steps.{ofCount, wordCount}
+use Rattle.forms.specs.Forms.{ofCount, wordCount}
 use Rattle.text.proofs.Reading.{readScript, readAt}
 use Rattle.text.specs.Text.{words}
-use Rattle.reader.proofs.Lists.{Took, took, lost}
+use Rattle.forms.proofs.Lists.{Took, took, lost}
 use Rattle.reader.proofs.Answers as laws
 use borrow.Author.Needs.{needs}
 use Rattle.reader.proofs.read.Statement.{statement}
@@ -18,7 +18,7 @@ use Rattle.reader.proofs.read.Tie as tie
 use Rattle.reader.proofs.read.Reads as reads
 use Rattle.reader.proofs.read.Lts as lts
 use Rattle.reader.proofs.put_words.Reads as put-words-reads
-use Rattle.reader.proofs.read_set.Reads as read-set-reads
+use Rattle.forms.proofs.read_set.Reads as read-set-reads
 
 -- What was read.
 got-script : (c : tie.After-n) → let x = c .before .before .before in let a = x .before .before .before .before .args in

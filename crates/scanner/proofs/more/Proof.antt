@@ -1,0 +1,95 @@
+-- The digits after the first. The invariant: the digits from the place in hand on, after the value so far, give the whole answer.
+-- Assumes nothing.
+use Prim.Native.Nat.{_-_, _<_, _^_}
+use mathlib.Core.Path.{_≡_, refl, sym, _∙_}
+use native.Mathlib.Omega.{arith}
+use borrow.Author.Needs.{needs}
+use denote.Ref.{now}
+use lib.ListN.{length}
+use Rattle.text.proofs.Reading.{more, readAt}
+use Rattle.scanner.proofs.Classes.{DigitAt, digit-at, no-digit-at}
+use Rattle.scanner.proofs.Arms.{not-digit}
+use Rattle.scanner.proofs.Places as laws
+use Rattle.scanner.proofs.more.Statement.{statement}
+use Rattle.scanner.proofs.more.Tie as tie
+use Rattle.scanner.proofs.more.Reads as reads
+use Rattle.scanner.proofs.more.Lts as lts
+use Rattle.scanner.proofs.step.Reads as step-reads
+
+abbrev Inv-loop : tie.InvT-loop
+Inv-loop s at first v₀ i₀ v i = (v < 2 ^ 32) × (readAt (more first) s at ≡ readAt (more v) s i)
+
+abbrev μ-loop : tie.MeasureT-loop
+μ-loop s at first v₀ i₀ v i = length s - i
+
+loop-holds : tie.Need-loop-holds Inv-loop μ-loop
+loop-holds c = (omega arith, refl)
+
+-- The digit that was read.
+read : (c : tie.After-d Inv-loop μ-loop) → DigitAt (now (c .before .before .before .before .before .args .s)) (c .before .before .before .loop .i) (c .d .given .0 .0)
+read c = digit-at _ _ _ _ (c .before .before .step .ensures) (c .d .given .1)
+
+step-requires : tie.Need-step-requires Inv-loop μ-loop
+step-requires c κs = search needs
+
+enum-known-d : tie.Need-enum-known-d Inv-loop μ-loop
+enum-known-d c = c .match .keys1
+
+returns : tie.Need-returns Inv-loop μ-loop
+returns c =
+    let q = c .before .before in
+    let none = no-digit-at _ _ _ (c .before .step .ensures) (not-digit (c .before .step .result) (c .match .keys2)) in
+    sym (q .loop .inv .1 ∙ laws.more-ends (now (q .before .before .args .s)) (q .loop .i) none (q .loop .v))
+
+cast-w : tie.Need-cast-w Inv-loop μ-loop
+cast-w c = omega (arith, read (c .before))
+
+mul-w : tie.Need-mul-w Inv-loop μ-loop
+mul-w c = omega (arith, read (c .before))
+
+cast-w-2 : tie.Need-cast-w-2 Inv-loop μ-loop
+cast-w-2 c = omega (arith, read (c .before))
+
+add-w : tie.Need-add-w Inv-loop μ-loop
+add-w c = omega (arith, read (c .before))
+
+returns-2 : tie.Need-returns-2 Inv-loop μ-loop
+returns-2 c =
+    let q = c .before .before .before .before .before in
+    let h = read (c .before .before) in
+    sym (q .loop .inv .1 ∙ laws.more-over (now (q .before .before .args .s)) (q .loop .i) (c .before .before .d .given .0 .0) h (q .loop .v) (omega arith))
+
+cast-v : tie.Need-cast-v Inv-loop μ-loop
+cast-v c = omega (arith, read (c .before .before))
+
+add-i : tie.Need-add-i Inv-loop μ-loop
+add-i c = omega (arith, read (c .before .before))
+
+loop-less : tie.Need-loop-less Inv-loop μ-loop
+loop-less c = omega (arith, read (c .before .before))
+
+loop-again : tie.Need-loop-again Inv-loop μ-loop
+loop-again c =
+    let q = c .before .before .before .before .before in
+    let h = read (c .before .before) in
+    (omega arith, q .loop .inv .1 ∙ laws.more-on (now (q .before .before .args .s)) (q .loop .i) (c .before .before .d .given .0 .0) h (q .loop .v) (c .if1 .left))
+
+pub more-spec : {M : Type 1} → statement M
+more-spec =
+    tie.close
+    (tie.spec
+    Inv-loop
+    μ-loop
+    loop-holds
+    step-requires
+    enum-known-d
+    returns
+    cast-w
+    mul-w
+    cast-w-2
+    add-w
+    returns-2
+    cast-v
+    add-i
+    loop-less
+    loop-again)

@@ -1,0 +1,50 @@
+-- A number: 0, or a first digit and those after it.
+-- Assumes nothing.
+use mathlib.Core.Path.{sym, _∙_}
+use native.Mathlib.Omega.{arith}
+use denote.Ref.{now}
+use Rattle.scanner.proofs.Classes.{DigitAt, digit-at, no-digit-at}
+use Rattle.scanner.proofs.Arms.{not-digit}
+use Rattle.scanner.proofs.Places as laws
+use borrow.Author.Needs.{needs}
+use Rattle.scanner.proofs.number.Statement.{statement}
+use Rattle.scanner.proofs.number.Tie as tie
+use Rattle.scanner.proofs.number.Reads as reads
+use Rattle.scanner.proofs.number.Lts as lts
+use Rattle.scanner.proofs.more.Reads as more-reads
+use Rattle.scanner.proofs.step.Reads as step-reads
+
+-- The digit that was read.
+read : (c : tie.After-d) → DigitAt (now (c .before .before .before .before .args .s)) (c .before .before .before .before .args .at) (c .d .given .0 .0)
+read c = digit-at _ _ _ _ (c .before .before .step .ensures) (c .d .given .1)
+
+step-requires : tie.Need-step-requires
+step-requires c κs = search needs
+
+enum-known-d : tie.Need-enum-known-d
+enum-known-d c = search needs
+
+returns : tie.Need-returns
+returns c = sym (laws.number-none _ _ (no-digit-at _ _ _ (c .before .step .ensures) (not-digit (c .before .step .result) (c .match .keys2))))
+
+add-t6 : tie.Need-add-t6
+add-t6 c = omega (arith, read (c .before .before))
+
+returns-2 : tie.Need-returns-2
+returns-2 c = sym (laws.number-zero _ _ _ (read (c .before .before)) (omega (arith, read (c .before .before))))
+
+add-more : tie.Need-add-more
+add-more c = omega (arith, read (c .before .before))
+
+more-requires : tie.Need-more-requires
+more-requires c κs = search needs
+
+returns-3 : tie.Need-returns-3
+returns-3 c =
+    let h = read (c .before .before .before) in
+    c .more .ensures ∙ sym (laws.number-on _ _ (c .before .before .before .d .given .0 .0) h (omega (arith, c .before .if1 .left)))
+
+pub number-spec : {M : Type 1} → statement M
+number-spec =
+    tie.close
+    (tie.spec step-requires enum-known-d returns add-t6 returns-2 add-more more-requires returns-3)
