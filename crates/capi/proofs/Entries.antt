@@ -11,11 +11,12 @@ use Rattle.taskset.specs.Refusals.{number, second, IsShort, check, Accepts, Ref
 use Rattle.taskset.specs.Calls.{code}
 use Rattle.taskset.specs.declared.Refusal.{Refusal}
 use Rattle.taskset.specs.declared.Refusal.the-variants.{TextDeparts, BadWord, NotAbove, TooLong, WorkShort, TooShort, NoPlan, BadPlan}
+use Rattle.taskset.specs.declared.Checked.the-variants.{Refused as NotGood}
 use Rattle.taskset.specs.declared.WalkAnswer.the-variants.{Kept, Missed, Refused as NotWalked}
-use Rattle.taskset.proofs.Checks.{accepts-join, refuses-front, refuses-back}
+use Rattle.taskset.proofs.Checks.{accepts-join, refuses-front, refuses-back, not-both}
 use Rattle.taskset.proofs.Sets.{set-of}
 use Rattle.taskset.proofs.DemandThree.{keeps-iff-fits}
-use Rattle.walk.specs.Answers.{Walked}
+use Rattle.walk.specs.Answers.{Walked, WalkReady}
 use Rattle.capi.specs.Entry.{resultBytes, resultAt, resultSize, walkEntryChecks, WalkEntry}
 use Rattle.capi.proofs.Bytes.{result-value}
 
@@ -38,10 +39,14 @@ module _ (s P d : List ℕ) where
     busy-is-load = λ z. absurd (code-positive r (sym e ∙ z));
   }
 
-  -- A refusal of the walk is the entry's.
-  pub walk-refused : (r : Refusal) (x : ℕ) → x ≡ code r → Walked s P (NotWalked r) → WalkEntry s P d d x
-  walk-refused r x e w =
-      refused r x e (refuses-front (walkChecks s P) (check 6 (IsShort resultSize (length d)) ∷ []) (number r) (second r) (w .answers))
+  -- A refusal of the walk's checks is the entry's.
+  pub ready-refused : (r : Refusal) (x : ℕ) → x ≡ code r → WalkReady s P (NotGood r) → WalkEntry s P d d x
+  ready-refused r x e h =
+      refused r x e (refuses-front (walkChecks s P) (check 6 (IsShort resultSize (length d)) ∷ []) (number r) (second r) h)
+
+  -- After the checks the walk refuses nothing.
+  pub walk-refused : (r : Refusal) → Accepts (walkChecks s P) → Walked s P (NotWalked r) → ⊥
+  walk-refused r a w = not-both (walkChecks s P) (number r) (second r) a (w .answers)
 
   -- Too few result bytes, where the walk has an answer.
   pub results-short : (x : ℕ) → x ≡ code (TooShort 32) → Accepts (walkChecks s P) → length d < 32 → WalkEntry s P d d x

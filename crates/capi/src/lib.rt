@@ -55,31 +55,40 @@ fn put_values(d: &mut [u8], a: u64, b: u64, c: u64, e: u64)
     put_value(d, 24, e);
 }
 
-// The walk: 0 and 32 result bytes (1, busy, idle, preempted; or 0, tick, task, 0), or a refusal.
+// The walk: 0 and 32 result bytes (1, busy, idle, preempted; or 0, tick, task, 0), or a refusal. Too few result bytes are refused before
+// a tick is walked.
 #[no_mangle]
 pub extern "C" fn seedspell_walk(set: &[u32], plan: &[u32], results: &mut [u8]) -> u64
     ensures { λ r. ⌜ WalkEntry (now (set .entry)) (now (plan .entry)) (now (results .entry)) (now (results .exit)) r ⌝ }
 {
-    let answer = walk::walk(set, plan);
-    match answer {
-        WalkAnswer::Refused(r) => code_of(r),
-        WalkAnswer::Kept {
-            busy,
-            idle,
-            preempted,
+    let checked = walk::ready(set, plan);
+    match checked {
+        Checked::Refused(r) => code_of(r),
+        Checked::Good {
+            rates,
+            tasks,
+            hyper,
         } => {
-            if results.len() < 32 {
+            let room = results.len();
+            if room < 32 {
                 return code_of(Refusal::TooShort(32));
             }
-            put_values(results, 1, busy, idle, preempted);
-            0
-        }
-        WalkAnswer::Missed { tick, task } => {
-            if results.len() < 32 {
-                return code_of(Refusal::TooShort(32));
+            let answer = walk::walk_checked(set, plan, rates, tasks, hyper);
+            match answer {
+                WalkAnswer::Refused(r) => code_of(r),
+                WalkAnswer::Kept {
+                    busy,
+                    idle,
+                    preempted,
+                } => {
+                    put_values(results, 1, busy, idle, preempted);
+                    0
+                }
+                WalkAnswer::Missed { tick, task } => {
+                    put_values(results, 0, tick, task, 0);
+                    0
+                }
             }
-            put_values(results, 0, tick, task, 0);
-            0
         }
     }
 }

@@ -4,10 +4,12 @@ use mathlib.Core.Path.{_≡_}
 use mathlib.Core.List.{List}
 use lib.ListN.{length, getD}
 use Rattle.taskset.specs.Words.{listHead, listExtra, rateCount, taskCount}
-use Rattle.taskset.specs.Quantities.{jobTime}
-use Rattle.taskset.specs.Refusals.{IsBadPlan, Accepts, setChecks}
+use Rattle.taskset.specs.Quantities.{jobTime, hyperPeriod}
+use Rattle.taskset.specs.Refusals.{number, second, IsBadPlan, Accepts, Refuses, setChecks, walkChecks}
 use Rattle.taskset.specs.Calls.{WalkAnswers}
 use Rattle.taskset.specs.DemandThree.{WalkOwes}
+use Rattle.taskset.specs.declared.Checked.{Checked}
+use Rattle.taskset.specs.declared.Checked.the-variants.{Good, Refused as NotGood}
 use Rattle.taskset.specs.declared.WalkAnswer.{WalkAnswer}
 use Rattle.walk.specs.declared.PlanCheck.{PlanCheck}
 use Rattle.walk.specs.declared.PlanCheck.the-variants.{At, Sound}
@@ -18,6 +20,12 @@ pub record Walked (s P : List ℕ) (a : WalkAnswer) : Type 0 where
   pub owes : WalkOwes s P a
 
 -- BELOW THE CALL.
+
+-- Checks 2, 3, 4 and 8.
+abbrev pub WalkReady : List ℕ → List ℕ → Checked → Type 0
+WalkReady s P (Good rates tasks hyper) =
+    Accepts (walkChecks s P) × (rates ≡ rateCount listHead s) × (tasks ≡ taskCount listHead s) × (hyper ≡ hyperPeriod listHead listExtra s)
+WalkReady s P (NotGood r) = Refuses (walkChecks s P) (number r) (second r)
 
 -- Check 8.
 abbrev pub PlanAnswers : ℕ → ℕ → List ℕ → PlanCheck → Type 0

@@ -3,7 +3,8 @@
 ghost use mathlib.Core.Path.{_≡_};
 ghost use Rattle.numbers.specs.Numbers.{between};
 ghost use Rattle.taskset.specs.Words.{listHead, listExtra, period};
-ghost use Rattle.walk.specs.Answers.{PlanAnswers, Holds, SetGiven, PlanGiven, timeAt, Walked};
+ghost use Rattle.taskset.specs.declared.Checked.the-variants.{Good};
+ghost use Rattle.walk.specs.Answers.{WalkReady, PlanAnswers, Holds, SetGiven, PlanGiven, timeAt, Walked};
 use taskset::Checked;
 use taskset::LIST_EXTRA;
 use taskset::LIST_HEAD;
@@ -74,13 +75,13 @@ fn times(set: &[u32], plan: &[u32], m: usize, n: usize) -> [u32; 32]
     c
 }
 
-// The walk of a set under a plan: refusal 2, 3, 4 or 8, or what the walk from 0 to the hyper-period says.
-pub fn walk(set: &[u32], plan: &[u32]) -> WalkAnswer
-    ensures { λ r. ⌜ Walked (now (set .entry)) (now (plan .entry)) r ⌝ }
+// Checks 2, 3, 4 and 8, in this order: rate count, task count and hyper-period, or a refusal.
+pub fn ready(set: &[u32], plan: &[u32]) -> Checked
+    ensures { λ r. ⌜ WalkReady (now (set .entry)) (now (plan .entry)) r ⌝ }
 {
     let checked = checks::check_set(set, LIST_HEAD, LIST_EXTRA);
     match checked {
-        Checked::Refused(r) => WalkAnswer::Refused(r),
+        Checked::Refused(r) => Checked::Refused(r),
         Checked::Good {
             rates,
             tasks,
@@ -88,13 +89,38 @@ pub fn walk(set: &[u32], plan: &[u32]) -> WalkAnswer
         } => {
             let sound = check_plan(plan, rates, tasks);
             match sound {
-                PlanCheck::At(k) => WalkAnswer::Refused(Refusal::BadPlan(k)),
-                PlanCheck::Sound => {
-                    let p = periods(set, rates, tasks);
-                    let c = times(set, plan, rates, tasks);
-                    ticks::run(&p, &c, tasks, hyper as u32)
-                }
+                PlanCheck::At(k) => Checked::Refused(Refusal::BadPlan(k)),
+                PlanCheck::Sound => Checked::Good {
+                    rates,
+                    tasks,
+                    hyper,
+                },
             }
         }
+    }
+}
+
+// What the walk from 0 to the hyper-period says, of a set and a plan that have passed the checks.
+pub fn walk_checked(set: &[u32], plan: &[u32], rates: usize, tasks: usize, hyper: u64) -> WalkAnswer
+    requires { ⌜ WalkReady (now set) (now plan) (Good rates tasks hyper) ⌝ }
+    ensures { λ r. ⌜ Walked (now (set .entry)) (now (plan .entry)) r ⌝ }
+{
+    let p = periods(set, rates, tasks);
+    let c = times(set, plan, rates, tasks);
+    ticks::run(&p, &c, tasks, hyper as u32)
+}
+
+// The walk of a set under a plan: refusal 2, 3, 4 or 8, or what the walk from 0 to the hyper-period says.
+pub fn walk(set: &[u32], plan: &[u32]) -> WalkAnswer
+    ensures { λ r. ⌜ Walked (now (set .entry)) (now (plan .entry)) r ⌝ }
+{
+    let checked = ready(set, plan);
+    match checked {
+        Checked::Refused(r) => WalkAnswer::Refused(r),
+        Checked::Good {
+            rates,
+            tasks,
+            hyper,
+        } => walk_checked(set, plan, rates, tasks, hyper),
     }
 }
