@@ -11,7 +11,7 @@ use Rattle.schedule.specs.Counted.{walk}
 use Rattle.selection.specs.Plan.{IsPlan}
 use Rattle.taskset.specs.Words.{listHead, listExtra, rateCount, taskCount, period}
 use Rattle.taskset.specs.Quantities.{jobTime, hyperPeriod, problem, tasks}
-use Rattle.taskset.specs.Refusals.{number, second, IsBadPlan, check, Accepts, setChecks, walkChecks}
+use Rattle.taskset.specs.Refusals.{number, second, IsBadPlan, check, Accepts, setChecks}
 use Rattle.taskset.specs.Calls.{SetAnswers, outcomeValues, WalkAnswers}
 use Rattle.taskset.specs.declared.Refusal.{Refusal}
 use Rattle.taskset.specs.declared.Refusal.the-variants.{BadPlan}

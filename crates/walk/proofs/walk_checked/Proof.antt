@@ -2,7 +2,6 @@
 -- Assumes nothing.
 use native.Mathlib.Omega.{arith}
 use Rattle.walk.proofs.Calls.{set-given, hyper-fits, plan-given, run-given, says-walked}
-use borrow.Author.Needs.{needs}
 use Rattle.walk.proofs.walk_checked.Statement.{statement}
 use Rattle.walk.proofs.walk_checked.Tie as tie
 
