@@ -4,11 +4,7 @@
 set -eu
 cd "$(dirname "$0")/.."
 
-archive=target/staticlib/libcapi.a
-if [ ! -f "$archive" ]; then
-    echo "tests/calls_examples: there is no $archive; rt staticlib capi writes it" >&2
-    exit 1
-fi
+. tests/archive.sh
 out=target/tests/calls
 mkdir -p "$out"
 # The blocks of C, one file each; and of the first what stands before its main.

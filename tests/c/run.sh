@@ -4,11 +4,7 @@
 set -eu
 cd "$(dirname "$0")/../.."
 
-archive=target/staticlib/libcapi.a
-if [ ! -f "$archive" ]; then
-    echo "tests/c: there is no $archive; rt staticlib capi writes it" >&2
-    exit 1
-fi
+. tests/archive.sh
 out=target/tests/c
 mkdir -p "$out"
 

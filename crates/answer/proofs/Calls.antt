@@ -29,7 +29,7 @@ use Rattle.lines.specs.Lines.{planLine, rateLines, walkLine, refusedLine}
 use Rattle.planner.specs.Answers.{PlannerCall}
 use Rattle.planner.specs.Ready.{ReadyAnswers}
 use Rattle.walk.specs.Answers.{Walked}
-use Rattle.answer.specs.Answer.{workWords, planWords, Prints, departs, refused, planned, RespondGives, Responds}
+use Rattle.answer.specs.Answer.{workLent, planLent, Prints, departs, refused, planned, RespondGives, Responds}
 use Rattle.answer.specs.Steps as steps
 use Rattle.answer.specs.Steps.{PlanGiven, PrintsSet, PutSet, PutAnswer}
 use Rattle.answer.proofs.Outputs.{is-plan, plan-length, promise, seven-iff, output-short}
@@ -61,16 +61,16 @@ module _ (s P : List ℕ) (unit load hyper energy : ℕ) (given : PlanGiven s P 
   not-refused r w = not-both (walkChecks s P) (number r) (second r) accepted (w .answers)
 
 -- ---- a set
-pub set-refused : (s d d′ : List ℕ) (n : ℕ) (r : Refusal) → Refuses (plannerChecks s planWords workWords) (number r) (second r)
+pub set-refused : (s d d′ : List ℕ) (n : ℕ) (r : Refusal) → Refuses (plannerChecks s planLent workLent) (number r) (second r)
     → Put (refusedLine (number r) (second r)) d d′ n → PutSet s d d′ n
 set-refused s d d′ n r h put = (refusedLine (number r) (second r), steps.refused (number r) (second r) h refl, put)
 
-pub ready-refused : (s : List ℕ) (r : Refusal) → ReadyAnswers s planWords workWords (NotGood r) → Refuses (plannerChecks s planWords workWords) (number r) (second r)
-ready-refused s r h = refuses-front (readyChecks s planWords workWords) (check 7 (NoneOk (Fitting (problem s))) ∷ []) (number r) (second r) h
+pub ready-refused : (s : List ℕ) (r : Refusal) → ReadyAnswers s planLent workLent (NotGood r) → Refuses (plannerChecks s planLent workLent) (number r) (second r)
+ready-refused s r h = refuses-front (readyChecks s planLent workLent) (check 7 (NoneOk (Fitting (problem s))) ∷ []) (number r) (second r) h
 
 -- The plan list and the working list as the call lent them.
-module _ (s plan work plan′ work′ : List ℕ) (lp : length plan ≡ planWords) (lw : length work ≡ workWords) where
-  pub call-refused : (r : Refusal) → PlannerCall s plan work plan′ work′ (NotPlanned r) → Refuses (plannerChecks s planWords workWords) (number r) (second r)
+module _ (s plan work plan′ work′ : List ℕ) (lp : length plan ≡ planLent) (lw : length work ≡ workLent) where
+  pub call-refused : (r : Refusal) → PlannerCall s plan work plan′ work′ (NotPlanned r) → Refuses (plannerChecks s planLent workLent) (number r) (second r)
   call-refused r c = rw (lp, lw) at (c .gives .0)
 
   pub call-planned : (n u l h e : ℕ) → n ≡ taskCount listHead s → PlannerCall s plan work plan′ work′ (Planned u l h e) → PlanGiven s (take n plan′) u l h e

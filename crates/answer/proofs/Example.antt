@@ -1,29 +1,21 @@
 -- Document 01's example: for its input the program prints its four lines.
 -- Assumes nothing.
 use Prim.Native.Nat.{ℕ}
-use mathlib.Core.Path.{_≡_, refl, sym, subst}
-use mathlib.Core.List.{List, [], _∷_, _++_}
+use mathlib.Core.Path.{refl, sym, subst}
+use mathlib.Core.List.{List, [], _∷_}
 use native.Mathlib.Omega.{arith}
 use lib.ListN.{replicate}
 use Rattle.taskset.specs.Refusals.{Accepts, plannerChecks}
 use Rattle.taskset.specs.Calls.{Selected}
 use Rattle.taskset.proofs.Cases.{S, cases}
 use Rattle.taskset.proofs.DemandThree.{outcome-kept}
-use Rattle.text.specs.Text.{bytes, digits, decimal, words, scriptOf}
+use Rattle.text.specs.Text.{words, scriptOf}
 use Rattle.text.proofs.Theorems.{example, example-text, example-words}
-use Rattle.lines.specs.Lines.{planLine, rateLine, rateLines, walkLine}
-use Rattle.answer.specs.Answer.{workWords, planWords, PrintsPlan, Prints, planned}
-
--- "All that it prints"
-unfoldable pub printed : List ℕ
-printed = bytes "(plan (unit 1) (load 29 30) (energy 41))\n(rate 1 2)\n(rate 2 1)\n(walk (busy 29) (idle 1) (preempted 1))\n"
-
-lines-are : printed ≡ planLine 1 29 30 41 ++ (rateLines 1 (2 ∷ 1 ∷ []) ++ walkLine 29 1 1)
-unfolding printed planLine rateLine walkLine decimal digits
-lines-are = refl
+use Rattle.lines.proofs.Example.{printed, printed-lines}
+use Rattle.answer.specs.Answer.{workLent, planLent, PrintsPlan, Prints, planned}
 
 -- The marked case, where just the words needed are lent; more of them change nothing.
-accepts : Accepts (plannerChecks (S 100) planWords workWords)
+accepts : Accepts (plannerChecks (S 100) planLent workLent)
 unfolding S
 accepts =
     let a = cases .planned-100 (replicate 2 0) (replicate 243 0) refl refl .0 in
@@ -37,7 +29,7 @@ plan =
       accepts = accepts;
       selected = subst (λ (P : List ℕ). Selected (S 100) P (1 ∷ 29 ∷ 30 ∷ 41 ∷ [])) (sym (g .2 .front)) (g .1);
       walked = outcome-kept _ 29 1 1 (cases .walk-of-2-1 .1);
-      lines = lines-are;
+      lines = printed-lines;
     }
 
 pub example-printed : Prints example printed

@@ -28,10 +28,10 @@ use Rattle.text.proofs.Pieces.{first-bad-one, no-first-bad}
 use Rattle.text.proofs.Copies.{SameCopied, one-script}
 use Rattle.lines.specs.Lines.{planLine, rateLines, walkLine, refusedLine}
 use Rattle.lines.proofs.Lengths.{plan-short, rates-short, walk-short, refused-short}
-use Rattle.answer.specs.Answer.{workWords, planWords, PrintsPlan, Prints, departs, refused, planned, roomCheck, RespondGives, Responds}
+use Rattle.answer.specs.Answer.{workLent, planLent, PrintsPlan, Prints, departs, refused, planned, roomCheck, RespondGives, Responds}
 
 -- ---- of a set that the planner takes
-module _ (s : List ℕ) (accepts : Accepts (plannerChecks s planWords workWords)) where
+module _ (s : List ℕ) (accepts : Accepts (plannerChecks s planLent workLent)) where
   pub passes : Accepts (setChecks listHead listExtra s)
   passes = (accepts .0, (accepts .1 .0, (accepts .1 .1 .0, tt)))
 
@@ -53,11 +53,11 @@ module _ (s : List ℕ) (accepts : Accepts (plannerChecks s planWords workWords)
     pub walk-kept : IsKept (walk (tasks s P) (hyperPeriod listHead listExtra s))
     walk-kept = walk-decides s passes P .1 (promise .keeps .for-ever)
 
-not-7 : (s : List ℕ) → Without 7 (lengthChecks s planWords workWords)
+not-7 : (s : List ℕ) → Without 7 (lengthChecks s planLent workLent)
 not-7 s = ((λ e. omega arith), ((λ e. omega arith), tt))
 
-pub seven-iff : (s : List ℕ) → Refuses (plannerChecks s planWords workWords) 7 0 ↔ (Accepts (readyChecks s planWords workWords) × NoneKeeps s)
-seven-iff s = refused-7-iff s (lengthChecks s planWords workWords) (not-7 s)
+pub seven-iff : (s : List ℕ) → Refuses (plannerChecks s planLent workLent) 7 0 ↔ (Accepts (readyChecks s planLent workLent) × NoneKeeps s)
+seven-iff s = refused-7-iff s (lengthChecks s planLent workLent) (not-7 s)
 
 -- ---- how long
 plan-lines : (s P out : List ℕ) (u l h e b i p : ℕ) → PrintsPlan s P out u l h e b i p → length out ≤ 2048
@@ -94,14 +94,14 @@ one-output t o₁ o₂ (departs o f x) (refused s n k h r y) = absurd (no-first-
 one-output t o₁ o₂ (departs o f x) (planned s P u l h e b i p is y) = absurd (no-first-bad WellFormed t o (s, is) f)
 one-output t o₁ o₂ (refused s n k h r x) (departs o f y) = absurd (no-first-bad WellFormed t o (s, h) f)
 one-output t o₁ o₂ (refused s n k h r x) (refused s′ n′ k′ h′ r′ y) =
-    let r″ = subst (λ (z : Script). Refuses (plannerChecks (words z) planWords workWords) n′ k′) (one-script s′ s t h′ h) r′ in
-    let e = refuses-unique (plannerChecks (words s) planWords workWords) (planner-single (words s) planWords workWords) n k n′ k′ r r″ in
+    let r″ = subst (λ (z : Script). Refuses (plannerChecks (words z) planLent workLent) n′ k′) (one-script s′ s t h′ h) r′ in
+    let e = refuses-unique (plannerChecks (words s) planLent workLent) (planner-single (words s) planLent workLent) n k n′ k′ r r″ in
     x ∙ cc (e .0, e .1) ∙ sym y
 one-output t o₁ o₂ (refused s n k h r x) (planned s′ P u l hh e b i p is y) =
-    absurd (not-both (plannerChecks (words s) planWords workWords) n k (subst (λ (z : Script). Accepts (plannerChecks (words z) planWords workWords)) (one-script s′ s t is h) (y .accepts)) r)
+    absurd (not-both (plannerChecks (words s) planLent workLent) n k (subst (λ (z : Script). Accepts (plannerChecks (words z) planLent workLent)) (one-script s′ s t is h) (y .accepts)) r)
 one-output t o₁ o₂ (planned s P u l h e b i p is x) (departs o f y) = absurd (no-first-bad WellFormed t o (s, is) f)
 one-output t o₁ o₂ (planned s P u l hh e b i p is x) (refused s′ n k h r y) =
-    absurd (not-both (plannerChecks (words s′) planWords workWords) n k (subst (λ (z : Script). Accepts (plannerChecks (words z) planWords workWords)) (one-script s s′ t is h) (x .accepts)) r)
+    absurd (not-both (plannerChecks (words s′) planLent workLent) n k (subst (λ (z : Script). Accepts (plannerChecks (words z) planLent workLent)) (one-script s s′ t is h) (x .accepts)) r)
 one-output t o₁ o₂ (planned s P u l h e b i p is x) (planned s′ Q v m k f c j q is′ y) =
     plans-same (words s) P Q o₁ o₂ u l h e b i p v m k f c j q x
     (subst (λ (z : Script). PrintsPlan (words z) Q o₂ v m k f c j q) (one-script s′ s t is′ is) y)

@@ -17,16 +17,16 @@ use Rattle.text.specs.Text.{Script, IsTextOf, WellFormed, FirstBad, words}
 use Rattle.lines.specs.Lines.{planLine, rateLines, walkLine, refusedLine}
 
 -- "It has 16,384 working words": and a plan word for each of as many tasks as a set can have.
-abbrev pub workWords : ℕ
-workWords = 16384
+abbrev pub workLent : ℕ
+workLent = 16384
 
-abbrev pub planWords : ℕ
-planWords = 32
+abbrev pub planLent : ℕ
+planLent = 32
 
 -- THE LINES OF A PLAN. For the set s: no check of the planner's holds; P is the plan that document 01 selects, with its unit, load, L and
 -- energy; the walk of P is kept with its counts; and out is their lines: the plan's, one a task from task number 1 on, the walk's.
 pub record PrintsPlan (s P out : List ℕ) (unit load hyper energy busy idle preempted : ℕ) : Type 0 where
-  pub accepts : Accepts (plannerChecks s planWords workWords)
+  pub accepts : Accepts (plannerChecks s planLent workLent)
   pub selected : Selected s P (unit ∷ load ∷ hyper ∷ energy ∷ [])
   pub walked : walk (tasks s P) (hyperPeriod listHead listExtra s) ≡ kept busy idle preempted
   pub lines : out ≡ planLine unit load hyper energy ++ (rateLines 1 P ++ walkLine busy idle preempted)
@@ -35,7 +35,7 @@ pub record PrintsPlan (s P out : List ℕ) (unit load hyper energy busy idle pre
 -- words of t's script; else a plan's lines.
 pub data Prints (t out : List ℕ) : Type 0 where
   departs : (o : ℕ) → FirstBad WellFormed t o → out ≡ refusedLine 1 o → Prints t out
-  refused : (s : Script) (n k : ℕ) → IsTextOf s t → Refuses (plannerChecks (words s) planWords workWords) n k → out ≡ refusedLine n k → Prints t out
+  refused : (s : Script) (n k : ℕ) → IsTextOf s t → Refuses (plannerChecks (words s) planLent workLent) n k → out ≡ refusedLine n k → Prints t out
   planned : (s : Script) (P : List ℕ) (unit load hyper energy busy idle preempted : ℕ)
       → IsTextOf s t → PrintsPlan (words s) P out unit load hyper energy busy idle preempted → Prints t out
 
@@ -56,4 +56,4 @@ pub record Responds (t d d′ : List ℕ) (a : CopyAnswer) : Type 0 where
   pub promise : (s : Script) (P out : List ℕ) (unit load hyper energy busy idle preempted : ℕ)
       → IsTextOf s t → PrintsPlan (words s) P out unit load hyper energy busy idle preempted → PlanPromise (words s) P energy
   pub seven-iff : (s : Script) → IsTextOf s t
-      → Refuses (plannerChecks (words s) planWords workWords) 7 0 ↔ (Accepts (readyChecks (words s) planWords workWords) × NoneKeeps (words s))
+      → Refuses (plannerChecks (words s) planLent workLent) 7 0 ↔ (Accepts (readyChecks (words s) planLent workLent) × NoneKeeps (words s))

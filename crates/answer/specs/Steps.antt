@@ -6,16 +6,16 @@ use Rattle.taskset.specs.Refusals.{Accepts, Refuses, plannerChecks}
 use Rattle.taskset.specs.Calls.{Selected}
 use Rattle.printer.specs.Puts.{Put}
 use Rattle.lines.specs.Lines.{refusedLine}
-use Rattle.answer.specs.Answer.{workWords, planWords, PrintsPlan, Prints}
+use Rattle.answer.specs.Answer.{workLent, planLent, PrintsPlan, Prints}
 
 -- A plan that the planner gave for a set, with its four values.
 pub record PlanGiven (s P : List ℕ) (unit load hyper energy : ℕ) : Type 0 where
-  pub accepts : Accepts (plannerChecks s planWords workWords)
+  pub accepts : Accepts (plannerChecks s planLent workLent)
   pub selected : Selected s P (unit ∷ load ∷ hyper ∷ energy ∷ [])
 
 -- The lines for a set's words: of the planner's refusal, or of a plan.
 pub data PrintsSet (s out : List ℕ) : Type 0 where
-  refused : (n k : ℕ) → Refuses (plannerChecks s planWords workWords) n k → out ≡ refusedLine n k → PrintsSet s out
+  refused : (n k : ℕ) → Refuses (plannerChecks s planLent workLent) n k → out ≡ refusedLine n k → PrintsSet s out
   planned : (P : List ℕ) (unit load hyper energy busy idle preempted : ℕ) → PrintsPlan s P out unit load hyper energy busy idle preempted → PrintsSet s out
 
 -- They stand at the front of the buffer.

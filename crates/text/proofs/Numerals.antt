@@ -181,3 +181,26 @@ number-local (b ∷ t) = go (eqb b 48) refl (isDigit b) refl
 
 pub number-piece : Piece decimal Word NoDigit number
 number-piece = record { exact = number-exact; good = number-good; local = number-local }
+
+-- ---- what digits say
+-- The number that digits say, highest first, behind those that said v.
+unfoldable pub said : ℕ → List ℕ → ℕ
+said v [] = v
+said v (b ∷ bs) = said (v * 10 + (b - 48)) bs
+
+said-last : (v : ℕ) (xs : List ℕ) (b : ℕ) → said v (xs ++ (b ∷ [])) ≡ said v xs * 10 + (b - 48)
+unfolding said
+said-last v [] b = refl
+said-last v (x ∷ xs) b = said-last (v * 10 + (x - 48)) xs b
+
+digits-say : (k n : ℕ) → n < 10 ^ suc k → said 0 (digits (suc k) n) ≡ n
+unfolding said
+digits-say zero n h = rw (small 0 n h) (omega arith)
+digits-say (suc k) n h =
+    let h′ : n < 10 ^ suc k * 10 = rw (pow-suc 10 (suc k)) at h in
+    split _ n (λ s. rw (small (suc k) n s) (omega arith))
+    (λ b. rw (large (suc k) n b, said-last 0 (digits (suc k) (n / 10)) (48 + n % 10), digits-say k (n / 10) (omega arith)) (omega arith))
+
+pub decimal-says : (n : ℕ) → n < 10 ^ 20 → said 0 (decimal n) ≡ n
+unfolding decimal
+decimal-says n h = digits-say 19 n h

@@ -1,6 +1,6 @@
 -- The theorems on the bracketed text, each in one statement, for a reader of the proofs.
 -- Assumes nothing.
-use Prim.Native.Nat.{ℕ, _≤_, _<_}
+use Prim.Native.Nat.{ℕ, _^_, _≤_, _<_}
 use mathlib.Core.Path.{_≡_, refl, sym, _∙_}
 use mathlib.Core.List.{List, [], _∷_, _++_}
 use mathlib.Core.Logic.{_↔_, _⊎_, inl, inr}
@@ -9,13 +9,20 @@ use Rattle.taskset.specs.Words.{listHead, listExtra}
 use Rattle.taskset.specs.Refusals.{Accepts, wordChecks}
 use Rattle.taskset.specs.declared.CopyAnswer.{CopyAnswer}
 use Rattle.taskset.specs.declared.CopyAnswer.the-variants.{Wrote}
-use Rattle.text.specs.Text.{Script, bytes, joined, scriptText, IsTextOf, WellFormed, FirstBad, words, scriptOf}
+use Rattle.text.specs.Text.{Script, bytes, decimal, joined, scriptText, IsTextOf, WellFormed, FirstBad, words, scriptOf}
 use Rattle.text.specs.Calls.{ReaderGives, WriterGives}
 use Rattle.text.proofs.Reading.{Res, got, bad, literal, more, number, many, readText}
+use Rattle.text.proofs.Numerals as numerals
+use Rattle.text.proofs.Numerals.{said}
 use Rattle.text.proofs.Pieces.{first-bad-one, no-first-bad}
 use Rattle.text.proofs.Grammar.{Answer, read-render, read-right}
 use Rattle.text.proofs.Sizes.{text-length}
 use Rattle.text.proofs.Copies.{SameCopied, reads, is-read, is-refused, refuses, one-script, list-text, list-words, reader-unique, writer-unique, read-back}
+
+-- ---- numbers
+-- The digits of a number say it, read from the first on: for every number of 64 bits, and so for every one that is read or printed.
+pub decimal-says : (n : ℕ) → n < 10 ^ 20 → said 0 (decimal n) ≡ n
+decimal-says = numerals.decimal-says
 
 -- ---- texts
 -- Reading gives a script, and all of the text's bytes, just where the text is the text of that script.

@@ -11,7 +11,7 @@ use Rattle.taskset.specs.declared.Checked.the-variants.{Good}
 use Rattle.taskset.specs.declared.PlannerAnswer.the-variants.{Planned}
 use Rattle.planner.specs.Answers.{PlannerCall}
 use Rattle.planner.specs.Ready.{ReadyAnswers}
-use Rattle.answer.specs.Answer.{planWords, workWords}
+use Rattle.answer.specs.Answer.{planLent, workLent}
 use Rattle.answer.specs.Steps.{PlanGiven}
 use Rattle.answer.proofs.Outputs.{tasks-few}
 use Rattle.answer.proofs.Calls.{set-refused, ready-refused, call-refused, call-planned}
@@ -21,10 +21,10 @@ use Rattle.answer.proofs.answer_set.Tie as tie
 
 -- What checks 2 to 6 gave.
 ready : (c : tie.After-rates) → let x = c .before .before in let a = x .before .before .args in
-    ReadyAnswers (now (a .set)) planWords workWords (Good (c .rates .given .0 .0) (c .rates .given .0 .1 .0) (c .rates .given .0 .1 .1 .0))
+    ReadyAnswers (now (a .set)) planLent workLent (Good (c .rates .given .0 .0) (c .rates .given .0 .1 .0) (c .rates .given .0 .1 .1 .0))
 ready c =
     let x = c .before .before in
-    subst (ReadyAnswers (now (x .before .before .args .set)) planWords workWords) (c .rates .given .1) (x .ready .ensures)
+    subst (ReadyAnswers (now (x .before .before .args .set)) planLent workLent) (c .rates .given .1) (x .ready .ensures)
 
 -- What the planner gave.
 abbrev at-rates : tie.After-plan-checked → tie.After-rates
@@ -97,7 +97,7 @@ returns c =
     let x = r .before .before in
     let s = now (x .before .before .args .set) in
     set-refused s _ _ _ (r .r .given .0 .0)
-    (ready-refused s (r .r .given .0 .0) (subst (ReadyAnswers s planWords workWords) (r .r .given .1) (x .ready .ensures)))
+    (ready-refused s (r .r .given .0 .0) (subst (ReadyAnswers s planLent workLent) (r .r .given .1) (x .ready .ensures)))
     (c .put-refused .ensures)
 
 returns-2 : tie.Need-returns-2

@@ -1,0 +1,20 @@
+-- Document 01's own lines are lines of these definitions.
+-- Assumes nothing.
+use Prim.Native.Nat.{ℕ}
+use mathlib.Core.Path.{_≡_, refl}
+use mathlib.Core.List.{List, [], _∷_, _++_}
+use Rattle.text.specs.Text.{bytes, digits, decimal}
+use Rattle.lines.specs.Lines.{planLine, rateLine, rateLines, walkLine, refusedLine}
+
+-- "All that it prints"
+unfoldable pub printed : List ℕ
+printed = bytes "(plan (unit 1) (load 29 30) (energy 41))\n(rate 1 2)\n(rate 2 1)\n(walk (busy 29) (idle 1) (preempted 1))\n"
+
+pub printed-lines : printed ≡ planLine 1 29 30 41 ++ (rateLines 1 (2 ∷ 1 ∷ []) ++ walkLine 29 1 1)
+unfolding printed planLine rateLine walkLine decimal digits
+printed-lines = refl
+
+-- "it prints only `(refused 7 0)`"
+pub refused-7-0 : refusedLine 7 0 ≡ bytes "(refused 7 0)\n"
+unfolding refusedLine decimal digits
+refused-7-0 = refl
