@@ -14,7 +14,7 @@ use borrow.Author.Tests.{ltb-true, ltb-false, lt-ltb, le-ltb}
 use Rattle.numbers.proofs.Tests.{bool-cases, or-false, and-false}
 use Rattle.schedule.specs.Walk.{Task, tasksFrom, Job, sooner, choice, work, run}
 use Rattle.schedule.specs.Counted.{leftAt}
-use Rattle.ticks.specs.Arrays.{jobsFrom, blank, chosen, worked, stays}
+use Rattle.ticks.specs.Arrays.{jobsFrom, blank, chosen, worked, stays, surely}
 use Rattle.ticks.proofs.Scan.{scan-found}
 use Rattle.ticks.proofs.Scanned.{scanned}
 
@@ -134,3 +134,15 @@ stays-none n l b (inr h) = rw (le-ltb 0 (getD l b 0) h) (both (ltb b n))
     both : (x : Bool) → cond (x && false) b n ≡ n
     both true = refl
     both false = refl
+
+pub surely-some : (n : ℕ) (l : List ℕ) (b : ℕ) → b < n → 0 < getD l b 0 → surely n l b ≡ 1
+unfolding surely
+surely-some n l b h q = rw (lt-ltb b n h, lt-ltb 0 (getD l b 0) q) refl
+
+pub surely-not : (n : ℕ) (l : List ℕ) (b : ℕ) → b < n → getD l b 0 ≤ 0 → surely n l b ≡ 0
+unfolding surely
+surely-not n l b h q = rw (lt-ltb b n h, le-ltb 0 (getD l b 0) q) refl
+
+pub surely-none : (n : ℕ) (l : List ℕ) (b : ℕ) → n ≤ b → surely n l b ≡ 1
+unfolding surely
+surely-none n l b h = rw (le-ltb b n h) refl

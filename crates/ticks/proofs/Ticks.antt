@@ -15,10 +15,10 @@ use Rattle.numbers.specs.Numbers.{over}
 use Rattle.numbers.proofs.Tests.{bool-cases}
 use Rattle.schedule.specs.Walk.{Task, tasksFrom, before}
 use Rattle.schedule.specs.Counted.{count, busyAt, idleAt, preemptedAt}
-use Rattle.ticks.specs.Arrays.{chosen, worked, stays, cuts, Early, Ticked}
+use Rattle.ticks.specs.Arrays.{chosen, worked, stays, surely, cuts, Early, Ticked}
 use Rattle.ticks.specs.declared.State.{State}
 use Rattle.ticks.proofs.Scanned.{scanned, scanned-end}
-use Rattle.ticks.proofs.Ticked.{length-jobs, worked-some, worked-none, stays-none}
+use Rattle.ticks.proofs.Ticked.{length-jobs, worked-some, worked-none, stays-none, surely-none}
 use Rattle.ticks.proofs.Releases.{Held, pending, busy-fits, idle-fits, preempted-fits}
 
 pub below : {a b : ℕ} → a ≤ b → (a ≡ b → ⊥) → a < b
@@ -63,19 +63,21 @@ ticked-idle n s e = record {
   idle = rw (e, le-ltb n n (omega arith)) refl;
   preempted = rw (e, cuts-none n n (s .last) (inl (omega arith))) (sym (add-zero (s .preempted)));
   last = rw e (sym (stays-none n (s .left) n (inl (omega arith))));
+  known = rw e (sym (surely-none n (s .left) n (omega arith)));
   sure = λ h. sym e;
 }
 
 pub ticked-busy : (n : ℕ) (s : State) (l : List ℕ) (b last known : ℕ) → chosen (s .left) (s .due) n ≡ b → b < n → l ≡ set (s .left) b (getD (s .left) b 0 - 1) →
-    last ≡ stays n l b → (0 < known → last ≡ chosen l (s .due) n) →
+    last ≡ stays n l b → known ≡ surely n l b → (0 < known → last ≡ chosen l (s .due) n) →
     Ticked n s (record { left = l; due = s .due; busy = s .busy + 1; idle = s .idle; preempted = s .preempted + cuts n b (s .last); last = last; known = known })
-ticked-busy n s l b last known e h q z u = record {
+ticked-busy n s l b last known e h q z y u = record {
   left = rw e (q ∙ ap (set (s .left) b) (omega arith) ∙ sym (worked-some n (s .left) b h));
   due = refl;
   busy = rw (e, lt-ltb b n h) refl;
   idle = rw (e, lt-ltb b n h) (sym (add-zero (s .idle)));
   preempted = rw e refl;
   last = rw e z;
+  known = rw e y;
   sure = u;
 }
 

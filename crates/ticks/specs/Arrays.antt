@@ -33,6 +33,10 @@ worked n left b = cond (ltb b n) (set left b (pred (getD left b 0))) left
 unfoldable pub stays : ℕ → List ℕ → ℕ → ℕ
 stays n left b = cond (ltb b n && ltb 0 (getD left b 0)) b n
 
+-- 1 where b is sure to be the next choice as long as no job is released: it is the place of an unfinished job, or there is none; else 0.
+unfoldable pub surely : ℕ → List ℕ → ℕ → ℕ
+surely n left b = cond (ltb b n) (count (ltb 0 (getD left b 0))) 1
+
 -- 1 where the job at b runs and another, at last, is unfinished.
 unfoldable pub cuts : ℕ → ℕ → ℕ → ℕ
 cuts n b last = count (ltb b n && (ltb last n && not (eqb b last)))
@@ -76,6 +80,7 @@ pub record Ticked (n : ℕ) (s r : State) : Type 0 where
   pub idle : r .idle ≡ s .idle + count (not (ltb (chosen (s .left) (s .due) n) n))
   pub preempted : r .preempted ≡ s .preempted + cuts n (chosen (s .left) (s .due) n) (s .last)
   pub last : r .last ≡ stays n (r .left) (chosen (s .left) (s .due) n)
+  pub known : r .known ≡ surely n (r .left) (chosen (s .left) (s .due) n)
   pub sure : 0 < r .known → r .last ≡ chosen (r .left) (r .due) n
 
 -- What the loop over ticks asks: n tasks by their periods and job times, and a last tick.

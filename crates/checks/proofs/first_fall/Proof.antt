@@ -46,7 +46,7 @@ shared-slice-read-if1-2 c = search needs
 returns : tie.Need-returns Inv-loop μ-loop
 returns c =
     let b = c .before .before .before .before in
-    found-here (omega arith) (b .loop .inv .2) (omega arith) (c .if1 .taken)
+    found-here (omega arith) (b .loop .inv .2) (omega arith) (omega (arith, c .if1 .taken))
 
 add-q-2 : tie.Need-add-q-2 Inv-loop μ-loop
 add-q-2 c = search needs

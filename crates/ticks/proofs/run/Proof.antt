@@ -3,6 +3,7 @@
 -- Assumes nothing.
 use Prim.Native.Nat.{ℕ, _≤_, _<_, _-_, _+_, suc}
 use mathlib.Core.Path.{_≡_, refl, sym, ap, _∙_}
+use mathlib.Core.List.{List}
 use mathlib.Core.Logic.{⊎-elim}
 use native.Mathlib.Omega.{arith}
 use native.Mathlib.Nat.{sub-zero, eq-or-lt-of-le}
@@ -12,6 +13,7 @@ use lib.Seq.{getD-set-other}
 use Rattle.schedule.specs.Walk.{tasksFrom}
 use Rattle.schedule.specs.Counted.{walkFrom, missed}
 use Rattle.ticks.specs.Arrays.{chosen, Early, taskAt}
+use Rattle.ticks.specs.declared.State.{State}
 use Rattle.ticks.proofs.Releases.{Held, Part, part-start, part-pass, part-take, part-skip, part-miss, part-end, held-start, held-next, walkFrom-miss, walkFrom-on, walkFrom-kept, periodic-start, periodic-steady, coming-first}
 use Rattle.ticks.proofs.Ticks.{below, early-set, early-worked, Counted, counted}
 use borrow.Author.Needs.{needs}
@@ -40,6 +42,11 @@ Inv-ticks p c n end s₀ late₀ next₀ t₀ s late next t =
 
 abbrev μ-ticks : tie.MeasureT-ticks
 μ-ticks p c n end s₀ late₀ next₀ t₀ s late next t = end - t
+
+-- The counts of a state that the loop over the ticks holds.
+so-far : (p c : List ℕ) (n t : ℕ) (s : State) → Held (taskAt p c) n t (s .left) (s .due) (s .due) (s .busy) (s .idle) (s .preempted) (s .last)
+    → Counted (taskAt p c) n t (s .busy) (s .idle) (s .preempted) (s .last)
+so-far p c n t s = counted (taskAt p c) n t (s .left) (s .due) (s .due) (s .busy) (s .idle) (s .preempted) (s .last)
 
 cast-new : tie.Need-cast-new Inv-loop μ-loop Inv-ticks μ-ticks
 cast-new c = search needs
@@ -75,7 +82,7 @@ loop-holds c =
     let ends = st .pre .ends in
     let f = taskAt (a .p .now) (a .c .now) in
     let start = part-start f (a .n) (q .t) (q .s .left) (q .s .due) (q .s .due) (v .2 .jobs) (v .2 .coming) in
-    let cs = counted f (a .n) (q .t) (q .s .left) (q .s .due) (q .s .due) (q .s .busy) (q .s .idle) (q .s .preempted) (q .s .last) (v .2) in
+    let cs = so-far (a .p .now) (a .c .now) (a .n) (q .t) (q .s) (v .2) in
     ⊎-elim
     (λ w. rw (w .1, w .2, w .3) (omega arith, v .1, start, v .3, omega arith, (λ j x. absurd (omega arith)), (λ h. refl), (λ h. absurd (omega arith)), cs))
     (λ w. rw (w .1, w .2, w .3) (
@@ -167,7 +174,7 @@ loop-again c =
     ⊎-elim
     (λ w. rw (w .5) (
       part-take f (a .n) (q .t) i (k .s .left) (k .s .due) (k .s .due) _ _ lt (omega (arith, v .3 .lefts)) (omega (arith, v .3 .dues)) (omega (arith, v .3 .dues))
-          (periodic-steady (getD (a .p .now) i 0) (getD (a .c .now) i 0) (pt .0) (st .pre .time i lt)) (v .2) (w .0 .taken) (w .2 .left) refl refl,
+          (periodic-steady (getD (a .p .now) i 0) (getD (a .c .now) i 0) (pt .0) (st .pre .time i lt)) (v .2) (w .0 .taken) (omega (arith, w .2 .left)) refl refl,
       early-set (a .n) (k .s .left) (k .s .due) i _ _ (omega arith) (omega arith) (v .3),
       (λ j x. getD-set-other (k .s .due) i j _ 0 (λ e. absurd (omega arith))),
       (λ h. absurd (omega (arith, v .6 lt))),
@@ -270,7 +277,7 @@ cast-t40 c =
     let q = c .before .before .ticks in
     let ends = st .pre .ends in
     ⊎-elim
-    (λ w. absurd (omega (arith, q .inv .0)))
+    (λ w. rw (w .1) (omega (arith, so-far (st .args .p .now) (st .args .c .now) (st .args .n) (q .t) (q .s) (q .inv .2) .busy-fits, q .inv .0)))
     (λ y. ⊎-elim (λ w. absurd (omega arith)) (λ w. rw (w .5) (omega (arith, w .2 .inv .8 .busy-fits, q .inv .0))) y)
     (c .before .ticks-test .came)
 
@@ -280,7 +287,7 @@ cast-t42 c =
     let q = c .before .before .ticks in
     let ends = st .pre .ends in
     ⊎-elim
-    (λ w. absurd (omega (arith, q .inv .0)))
+    (λ w. rw (w .1) (omega (arith, so-far (st .args .p .now) (st .args .c .now) (st .args .n) (q .t) (q .s) (q .inv .2) .idle-fits, q .inv .0)))
     (λ y. ⊎-elim (λ w. absurd (omega arith)) (λ w. rw (w .5) (omega (arith, w .2 .inv .8 .idle-fits, q .inv .0))) y)
     (c .before .ticks-test .came)
 
@@ -290,7 +297,7 @@ cast-t44 c =
     let q = c .before .before .ticks in
     let ends = st .pre .ends in
     ⊎-elim
-    (λ w. absurd (omega (arith, q .inv .0)))
+    (λ w. rw (w .1) (omega (arith, so-far (st .args .p .now) (st .args .c .now) (st .args .n) (q .t) (q .s) (q .inv .2) .preempted-fits, q .inv .0)))
     (λ y. ⊎-elim (λ w. absurd (omega arith)) (λ w. rw (w .5) (omega (arith, w .2 .inv .8 .preempted-fits, q .inv .0))) y)
     (c .before .ticks-test .came)
 

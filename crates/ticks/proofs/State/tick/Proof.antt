@@ -1,6 +1,6 @@
 -- One tick. The place is the choice; it stays the choice while its job is unfinished and nothing is released.
 -- Assumes nothing.
-use Prim.Native.Nat.{_-_}
+use Prim.Native.Nat.{_-_, _≤_, _<_}
 use mathlib.Core.Path.{refl, sym, _∙_}
 use mathlib.Core.Logic.{inr}
 use native.Mathlib.Omega.{arith}
@@ -8,7 +8,7 @@ use native.Mathlib.Nat.{pos-of-ne-zero}
 use lib.ListN.{getD, set}
 use lib.Seq.{getD-set-same}
 use Rattle.ticks.proofs.Again.{chosen-again, chosen-most, chosen-left}
-use Rattle.ticks.proofs.Ticked.{stays-some, stays-none}
+use Rattle.ticks.proofs.Ticked.{stays-some, stays-none, surely-some, surely-not}
 use Rattle.ticks.proofs.Ticks.{cuts-few, ticked-idle, ticked-busy}
 use borrow.Author.Needs.{needs}
 use Rattle.ticks.proofs.State.tick.Statement.{statement}
@@ -79,7 +79,9 @@ returns-2 c =
     let lt = c .before .before .before .if1 .left in
     let put = getD-set-same l b v 0 (omega (arith, room .lefts, room .few, lt)) in
     rw (c .before .before .preempts .ensures)
-    (ticked-busy (a .n) (a .t1) (set l b v) b (a .n) 0 (sym e) lt refl (sym (stays-none (a .n) (set l b v) b (inr (omega (arith, put, c .if2 .taken))))) (λ h. absurd (omega arith)))
+    (let none : getD (set l b v) b 0 ≤ 0 = omega (arith, put, c .if2 .taken) in
+    ticked-busy (a .n) (a .t1) (set l b v) b (a .n) 0 (sym e) lt refl (sym (stays-none (a .n) (set l b v) b (inr none))) (sym (surely-not (a .n) (set l b v) b lt none))
+    (λ h. absurd (omega arith)))
 
 returns-3 : tie.Need-returns-3
 returns-3 c =
@@ -93,7 +95,8 @@ returns-3 c =
     let put = getD-set-same l b v 0 (omega (arith, room .lefts, room .few, lt)) in
     rw (c .before .before .preempts .ensures)
     (let pos = pos-of-ne-zero (c .if2 .left) in
-    ticked-busy (a .n) (a .t1) (set l b v) b b 1 (sym e) lt refl (sym (stays-some (a .n) (set l b v) b lt (omega (arith, put, pos))))
+    let some : 0 < getD (set l b v) b 0 = omega (arith, put, pos) in
+    ticked-busy (a .n) (a .t1) (set l b v) b b 1 (sym e) lt refl (sym (stays-some (a .n) (set l b v) b lt some)) (sym (surely-some (a .n) (set l b v) b lt some))
     (λ h. e ∙ sym (chosen-again l (a .t1 .due) (a .n) b v (omega (arith, room .lefts, room .few, lt)) (omega (arith, pos)) pos)))
 
 pub tick-spec : {M : Type 1} → statement M
