@@ -1,7 +1,7 @@
 -- The cases of document 01's 'Either side of an edge', gathered in one record and proved together of the definitions: every marked one,
 -- each of the call's whole answer, and the unmarked refusals of a set.
 -- Assumes nothing.
-use Prim.Native.Nat.{ℕ, _^_, _≤_, _<_}
+use Prim.Native.Nat.{ℕ, _*_, _^_, _≤_, _<_}
 use mathlib.Core.Path.{_≡_, refl, sym, _∙_, subst}
 use mathlib.Core.Option.{none, some}
 use mathlib.Core.List.{List, [], _∷_, append-nil}
@@ -19,9 +19,10 @@ use Rattle.selection.proofs.Table.{leastOf, firstOf, via, best}
 use Rattle.selection.proofs.Choose.{spend, cell}
 use Rattle.selection.proofs.Compute.{trace, leastEnergy, choose, usedFrom, usedExponent, planned-is}
 use Rattle.taskset.specs.Words.{listHead, listExtra, slack, rateCount, taskCount, headKind, taskKind, kindAt, allows}
-use Rattle.taskset.specs.Quantities.{hyperPeriod, problem, workNeeded}
+use Rattle.taskset.specs.Quantities.{hyperPeriod, problem, reportedEnergy, workNeeded}
 use Rattle.taskset.specs.Refusals.{number, second, check, Accepts, setChecks, readyChecks, walkChecks, NoneOk, lengthChecks}
 use Rattle.taskset.specs.Calls.{code, plannerValues, walkValues, SetAnswers, PlannerGives, WalkAnswers}
+use Rattle.taskset.specs.DemandThree.{Keeps, PlanPromise}
 use Rattle.taskset.specs.declared.Refusal.{Refusal}
 use Rattle.taskset.specs.declared.Refusal.the-variants.{BadWord, NotAbove, TooLong, WorkShort, TooShort, NoPlan, BadPlan}
 use Rattle.taskset.specs.declared.Checked.{Checked}
@@ -32,6 +33,7 @@ use Rattle.taskset.proofs.Checks.{refuses-front}
 use Rattle.taskset.proofs.Verdict.{isBad, isFall, isOver, shapeOf, afterShape, checkedOf, checked-answers}
 use Rattle.taskset.proofs.PlanVerdict.{isUnfit, planVerdict, PlanSays, plan-verdict-says}
 use Rattle.taskset.proofs.Sets.{set-of, falling}
+use Rattle.taskset.proofs.DemandThree.{walk-owes}
 
 -- "The set list S", with slack G.
 unfoldable pub S : ℕ → List ℕ
@@ -182,6 +184,10 @@ pub record Cases : Type 0 where
   -- A plan list of one word for two tasks: refusal 6 with 2. Two plans that differ in rate numbers alone: the lower number for task 2.
   plan-list-1 : (plan work : List ℕ) → length plan ≡ 1 → length work ≡ 243 → PlannerGives (S 100) plan work plan work (NotPlanned (TooShort 2))
   tie : (plan work : List ℕ) → length plan ≡ 2 → length work ≡ 243 → PlannerGives even-tasks plan work (2 ∷ 1 ∷ []) (replicate 243 0) (Planned 1 4 4 6)
+  -- Attempt 1, "A planner that gives every task the fastest rate": plan 3 3 for S has load 12 and energy 120. It fits; but plan 2 1 keeps every
+  -- deadline for ever too, with 41, and demand 3's bound stops 120.
+  pub plan-3-3 : (planLoad (problem (S 100)) (3 ∷ 3 ∷ []) ≡ 12) × (reportedEnergy (S 100) (3 ∷ 3 ∷ []) ≡ 120) × Keeps (S 100) (3 ∷ 3 ∷ [])
+  pub plan-3-3-stopped : PlanPromise (S 100) (3 ∷ 3 ∷ []) 120 → ⊥
   -- What C is given: 0 and the values, or the refusal's number and second number in one.
   returns : (code (WorkShort 243) ≡ 21474836723) × (code (BadPlan 1) ≡ 34359738369)
   values : (plannerValues (Planned 1 29 30 41) ≡ 1 ∷ 29 ∷ 30 ∷ 41 ∷ []) × (walkValues (Kept 29 1 1) ≡ 1 ∷ 29 ∷ 1 ∷ 1 ∷ []) × (walkValues (Missed 15 2) ≡ 0 ∷ 15 ∷ 2 ∷ 0 ∷ [])
@@ -217,6 +223,11 @@ cases = record {
   long-bad-plan = plan-refused (S 100) 3 2 30 refl (1 ∷ 1 ∷ 9 ∷ 9 ∷ []) 2 refl;
   plan-list-1 = λ plan work p q. plan-short (S 100) 3 2 30 refl plan work (omega arith) (omega arith);
   tie = planned even-tasks 2 2 4 refl (2 ∷ 1 ∷ []) 0 1 4 6 (le-by-compare _ _ tt) (le-by-compare _ _ tt) refl refl refl refl refl refl;
+  plan-3-3 = (refl, refl, walk-owes (S 100) (3 ∷ 3 ∷ []) (Kept 12 18 0) (walks (S 100) 3 2 30 refl (3 ∷ 3 ∷ []) refl, refl) .0);
+  plan-3-3-stopped = λ p.
+      let other : Keeps (S 100) (2 ∷ 1 ∷ []) = walk-owes (S 100) (2 ∷ 1 ∷ []) (Kept 29 1 1) (walks (S 100) 3 2 30 refl (2 ∷ 1 ∷ []) refl, refl) .0 in
+      let bound : 1000 * 120 ≤ 1100 * 41 = p .within (2 ∷ 1 ∷ []) other in
+      omega arith;
   returns = (refl, refl);
   values = (refl, refl, refl);
   empty-plan = plan-refused (S 100) 3 2 30 refl [] 0 refl;
