@@ -20,6 +20,7 @@ use Rattle.taskset.specs.declared.PlannerAnswer.the-variants.{Planned, Refused 
 use Rattle.taskset.specs.declared.WalkAnswer.the-variants.{Kept, Missed, Refused as NotWalked}
 use Rattle.taskset.proofs.Checks.{refuses-front, not-both}
 use Rattle.taskset.proofs.DemandThree.{outcome-kept, sound-plan}
+use Rattle.taskset.proofs.Copied.{count-is, front-is}
 use Rattle.text.specs.Text.{Script, IsTextOf, WellFormed, FirstBad, words}
 use Rattle.text.specs.Calls.{ReaderGives}
 use Rattle.text.proofs.Sizes.{words-length}
@@ -86,12 +87,12 @@ module _ (t set set′ : List ℕ) (lent : length set ≡ 331) where
   fits s h = words-length s (h .script)
 
   pub read-fits : (n : ℕ) → ReaderGives t set set′ (Wrote n) → n ≤ 331
-  read-fits n g = omega (arith, g .1 .2, fits (g .1 .0) (g .1 .1))
+  read-fits n g = omega (arith, count-is (words (g .1 .0)) set set′ n (g .1 .2), fits (g .1 .0) (g .1 .1))
 
   pub read-set : (n : ℕ) (d d′ : List ℕ) (k : ℕ) → ReaderGives t set set′ (Wrote n) → PutSet (take n set′) d d′ k → PutAnswer t d d′ k
   read-set n d d′ k g p =
       let s = g .1 .0 in
-      let is : take n set′ ≡ words s = ap (take n) (g .1 .3) ∙ take-at (words s) (drop n set) n (sym (g .1 .2)) in
+      let is : take n set′ ≡ words s = front-is (words s) set set′ n (g .1 .2) in
       (p .0, go s (g .1 .1) (p .0) (subst (λ (w : List ℕ). PrintsSet w (p .0)) is (p .1)), p .2)
     where
       go : (s : Script) → IsTextOf s t → (out : List ℕ) → PrintsSet (words s) out → Prints t out

@@ -13,7 +13,7 @@ use Rattle.selection.specs.Plan.{IsPlan}
 use Rattle.taskset.specs.Words.{listHead, listExtra, taskCount}
 use Rattle.taskset.specs.Quantities.{hyperPeriod, problem, tasks}
 use Rattle.taskset.specs.Refusals.{number, second, Accepts, Refuses, setChecks, lengthChecks, readyChecks, plannerChecks}
-use Rattle.taskset.specs.Calls.{Selected}
+use Rattle.taskset.specs.Calls.{Selected, Copied}
 use Rattle.taskset.specs.DemandThree.{PlanPromise, NoneKeeps}
 use Rattle.taskset.specs.declared.CopyAnswer.{CopyAnswer}
 use Rattle.taskset.specs.declared.CopyAnswer.the-variants.{Wrote, Refused as NotCopied}
@@ -22,10 +22,11 @@ use Rattle.taskset.proofs.Whole.{whole-of}
 use Rattle.taskset.proofs.Checks.{no-word-fault}
 use Rattle.taskset.proofs.Unique.{planner-single, selected-unique, short-single, refusal-unique}
 use Rattle.taskset.proofs.DemandThree.{plan-given, walk-decides, refused-7-iff}
+use Rattle.taskset.proofs.Copied.{SameCopied, count-is, copied-one}
 use Rattle.text.specs.Text.{Script, WellFormed, FirstBad, words}
 use Rattle.text.proofs.Sizes.{text-length}
 use Rattle.text.proofs.Pieces.{first-bad-one, no-first-bad}
-use Rattle.text.proofs.Copies.{SameCopied, one-script}
+use Rattle.text.proofs.Copies.{one-script}
 use Rattle.lines.specs.Lines.{planLine, rateLines, walkLine, refusedLine}
 use Rattle.lines.proofs.Lengths.{plan-short, rates-short, walk-short, refused-short}
 use Rattle.answer.specs.Answer.{workLent, planLent, PrintsPlan, Prints, departs, refused, planned, roomCheck, RespondGives, Responds}
@@ -179,8 +180,7 @@ respond-unique t d d₁ d₂ a b x y = go a b (x .gives) (y .gives)
     go : (a b : CopyAnswer) → RespondGives t d d₁ a → RespondGives t d d₂ b → SameCopied a b d₁ d₂
     go (Wrote n) (Wrote k) x y =
         let same = one-output t (x .0) (y .0) (x .1) (y .1) in
-        let count : n ≡ k = x .3 ∙ ap length same ∙ sym (y .3) in
-        record { answer = ap Wrote count; list = x .4 ∙ cc (same, count) ∙ sym (y .4) }
+        copied-one (y .0) d d₁ d₂ (Wrote n) (Wrote k) (subst (λ (o : List ℕ). Copied o d d₁ (Wrote n)) same (x .3)) (y .3)
     go (Wrote n) (NotCopied r) x y =
         let same = one-output t (x .0) (y .0) (x .1) (y .1) in
         absurd (not-both (roomCheck (length (y .0)) (length d)) (number r) (second r) (subst (λ (o : List ℕ). Accepts (roomCheck (length o) (length d))) same (x .2)) (y .2))
@@ -207,5 +207,5 @@ pub wrote-within : (t d d′ : List ℕ) (n : ℕ) → Responds t d d′ (Wrote 
 wrote-within t d d′ n x =
     ⊎-elim
     (λ (l : length d < length (x .gives .0)). absurd (x .gives .2 .0 (length (x .gives .0)) (l, refl)))
-    (λ (l : length (x .gives .0) ≤ length d). omega (arith, x .gives .3))
+    (λ (l : length (x .gives .0) ≤ length d). omega (arith, count-is (x .gives .0) d d′ n (x .gives .3)))
     (lt-or-le (length d) (length (x .gives .0)))

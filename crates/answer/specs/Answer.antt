@@ -4,12 +4,12 @@ use Prim.Native.Nat.{ℕ}
 use mathlib.Core.Path.{_≡_}
 use mathlib.Core.List.{List, [], _∷_, _++_}
 use mathlib.Core.Logic.{_↔_}
-use lib.ListN.{length, drop}
+use lib.ListN.{length}
 use Rattle.schedule.specs.Counted.{walk, kept}
 use Rattle.taskset.specs.Words.{listHead, listExtra}
 use Rattle.taskset.specs.Quantities.{hyperPeriod, tasks}
 use Rattle.taskset.specs.Refusals.{number, second, IsShort, Check, check, Accepts, Refuses, readyChecks, plannerChecks}
-use Rattle.taskset.specs.Calls.{Selected}
+use Rattle.taskset.specs.Calls.{Selected, Copied}
 use Rattle.taskset.specs.DemandThree.{PlanPromise, NoneKeeps}
 use Rattle.taskset.specs.declared.CopyAnswer.{CopyAnswer}
 use Rattle.taskset.specs.declared.CopyAnswer.the-variants.{Wrote, Refused as NotCopied}
@@ -45,7 +45,7 @@ roomCheck needed lent = check 6 (IsShort needed lent) ∷ []
 
 abbrev pub RespondGives : (t d d′ : List ℕ) → CopyAnswer → Type 0
 RespondGives t d d′ (Wrote n) =
-    (out : List ℕ) × Prints t out × Accepts (roomCheck (length out) (length d)) × (n ≡ length out) × (d′ ≡ out ++ drop n d)
+    (out : List ℕ) × Prints t out × Accepts (roomCheck (length out) (length d)) × Copied out d d′ (Wrote n)
 RespondGives t d d′ (NotCopied r) =
     (out : List ℕ) × Prints t out × Refuses (roomCheck (length out) (length d)) (number r) (second r) × (d′ ≡ d)
 

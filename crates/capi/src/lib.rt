@@ -2,7 +2,7 @@
 // function and puts its answer into bytes. Pointers are not null and aligned, and lists lent together do not overlap
 // (include/seedspell.h).
 ghost use mathlib.Core.Path.{_≡_};
-ghost use Prim.Native.Nat.{ℕ, _+_, _<_, _≤_, _^_};
+ghost use Prim.Native.Nat.{_+_, _<_, _≤_, _^_};
 ghost use lib.ListN.{length};
 ghost use Rattle.taskset.specs.Refusals.{second};
 ghost use Rattle.taskset.specs.Calls.{code};

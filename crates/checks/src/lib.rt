@@ -1,11 +1,11 @@
 // The checks of a task set in code, and the readers of its words and quantities. What each says is defined in `taskset`. A list has
 // `head` words before the rate count, and `extra` words between a task's cycles and its energies.
 ghost use mathlib.Core.Path.{_≡_};
-ghost use Prim.Native.Nat.{ℕ, _+_, _*_, _<_, _≤_};
+ghost use Prim.Native.Nat.{_+_, _*_, _<_, _≤_};
 ghost use lib.ListN.{length};
 ghost use Rattle.numbers.specs.Numbers.{between};
 ghost use Rattle.numbers.specs.Search.{Found};
-ghost use Rattle.taskset.specs.Words.{word, slack, rateCount, rate, periodPlace, period, cycles, energy, taskKind, kindAt, allows};
+ghost use Rattle.taskset.specs.Words.{slack, rate, periodPlace, period, cycles, energy, taskKind, kindAt, allows};
 ghost use Rattle.taskset.specs.Quantities.{jobTime};
 ghost use Rattle.taskset.specs.Calls.{ShapeAnswers, SetAnswers};
 ghost use Rattle.checks.specs.Steps.{Bad, Falls, HasTasks, Followed, OfTask};

@@ -1,7 +1,7 @@
 // The choice of unit and plan by document 01's rule, over arrays of loads and energies: the table, unit by unit, the way back through
 // it, the plan's sums, and zeros where the table was. Whose loads and energies these are is left to others.
 ghost use mathlib.Core.Path.{_≡_};
-ghost use Prim.Native.Nat.{ℕ, _+_, _*_, _≤_, min};
+ghost use Prim.Native.Nat.{_+_, _*_, _≤_, min};
 ghost use lib.ListN.{length, replicate};
 ghost use Rattle.numbers.specs.Numbers.{total};
 ghost use Rattle.table.specs.Rows.{optionAt, Written};

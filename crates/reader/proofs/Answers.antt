@@ -2,7 +2,7 @@
 -- Assumes nothing.
 use Prim.Native.Nat.{ℕ, _≤_, _<_}
 use mathlib.Core.Path.{_≡_, refl, sym, ap, _∙_}
-use mathlib.Core.List.{List, _++_}
+use mathlib.Core.List.{List}
 use mathlib.Core.Logic.{inl, inr}
 use native.Mathlib.Omega.{arith}
 use lib.ListN.{length, take, drop, length-append}
@@ -10,6 +10,7 @@ use lib.Seq.{take-at}
 use borrow.Author.Tests.{eq-eqb, ne-eqb}
 use Rattle.taskset.specs.declared.CopyAnswer.the-variants.{Wrote, Refused as NotCopied}
 use Rattle.taskset.specs.declared.Refusal.the-variants.{TextDeparts, TooShort}
+use Rattle.taskset.proofs.Copied.{copied}
 use Rattle.text.specs.Text.{Script, scriptText, ScriptOk, IsTextOf, WellFormed, FirstBad, words}
 use Rattle.text.specs.Calls.{ReaderGives}
 use Rattle.text.proofs.Reading.{Res, got, bad, ended, readScript, readText, readAt}
@@ -64,7 +65,7 @@ module _ (t d : List ℕ) where
         let x = is-text h in
         let enough : (k : ℕ) → (u : Script) × IsTextOf u t × ((length d < length (words u)) × (k ≡ length (words u))) → ⊥ =
         λ k b. omega (arith, b .2 .0, ap wordCount (one-script s (b .0) t x (b .1))) in
-        ((departs-nowhere x, (enough, tt)), (s, x, w, p ∙ ap (λ (z : ℕ). words s ++ drop z d) (sym w)))
+        ((departs-nowhere x, (enough, tt)), (s, x, copied (words s) d f n w p))
 
 -- The words at the front of the reader's own list.
 pub front : (ws d e : List ℕ) (n : ℕ) → length ws ≡ n → e ≡ written 0 ws d → take n e ≡ ws

@@ -3,7 +3,7 @@
 // number is shifted by one and a place is found without a product. Loads are cut at cap, which stands for 'none', so that every sum
 // of two words fits.
 ghost use mathlib.Core.Path.{_≡_};
-ghost use Prim.Native.Nat.{ℕ, _+_, _-_, _≤_, _<_, min};
+ghost use Prim.Native.Nat.{_+_, _-_, _≤_, _<_, min};
 ghost use lib.ListN.{length};
 ghost use Rattle.numbers.specs.Search.{Found};
 ghost use Rattle.table.specs.Rows.{Written, Relaxable, relaxed, RowReady, rowOf, TableReady, Tabled, Defined, RateReady, rateOf};

@@ -6,5 +6,6 @@ pub mod PlanVerdict
 pub mod Sets
 pub mod Small
 pub mod DemandThree
+pub mod Copied
 pub mod Unique
 pub mod Cases

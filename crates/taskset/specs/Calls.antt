@@ -17,6 +17,8 @@ use Rattle.taskset.specs.declared.PlannerAnswer.{PlannerAnswer}
 use Rattle.taskset.specs.declared.PlannerAnswer.the-variants.{Planned, Refused as NotPlanned}
 use Rattle.taskset.specs.declared.WalkAnswer.{WalkAnswer}
 use Rattle.taskset.specs.declared.WalkAnswer.the-variants.{Kept, Missed, Refused as NotWalked}
+use Rattle.taskset.specs.declared.CopyAnswer.{CopyAnswer}
+use Rattle.taskset.specs.declared.CopyAnswer.the-variants.{Wrote, Refused as NotCopied}
 
 -- NUMBERS AND VALUES. "A C call returns 0, or refusal number × 2^32 + the second number."
 abbrev pub code : Refusal → ℕ
@@ -31,6 +33,16 @@ abbrev pub walkValues : WalkAnswer → List ℕ
 walkValues (Kept busy idle preempted) = 1 ∷ busy ∷ idle ∷ preempted ∷ []
 walkValues (Missed tick task) = 0 ∷ tick ∷ task ∷ 0 ∷ []
 walkValues (NotWalked r) = []
+
+-- "both return how many words or bytes they wrote": the reader, the writer, and the program's call.
+abbrev pub copyValues : CopyAnswer → List ℕ
+copyValues (Wrote n) = n ∷ []
+copyValues (NotCopied r) = []
+
+-- "and what lies after stays": ws was written to the front of the list d, which is d′ now, and the answer's value says how much that is.
+pub record Copied (ws d d′ : List ℕ) (a : CopyAnswer) : Type 0 where
+  pub values-are : copyValues a ≡ length ws ∷ []
+  pub list-is : d′ ≡ ws ++ drop (length ws) d
 
 -- THE CHECKS OF A LIST. After 2 and 3 its rate count and task count, after 4 its hyper-period too.
 abbrev pub ShapeAnswers : ℕ → ℕ → List ℕ → Shape → Type 0

@@ -5,14 +5,15 @@ use mathlib.Core.Path.{_≡_, refl, sym, ap, _∙_, subst}
 use mathlib.Core.List.{List, _++_}
 use native.Mathlib.Omega.{arith}
 use lib.ListN.{length, take, drop}
-use lib.Seq.{take-at}
 use Rattle.taskset.specs.Words.{listHead, listExtra}
 use Rattle.taskset.specs.Refusals.{number, second, IsBadWord, IsShort}
 use Rattle.taskset.specs.declared.CopyAnswer.{CopyAnswer}
 use Rattle.taskset.specs.declared.CopyAnswer.the-variants.{Wrote, Refused as NotCopied}
 use Rattle.taskset.proofs.Checks.{AllSingle, lowest-single, not-both, no-word-fault}
 use Rattle.taskset.proofs.Whole.{IsWhole, whole-of}
+use Rattle.taskset.specs.Calls.{Copied}
 use Rattle.taskset.proofs.Unique.{refusal-unique, short-single}
+use Rattle.taskset.proofs.Copied.{SameCopied, copied, front-is, copied-one}
 use Rattle.text.specs.Text.{Script, scriptText, IsTextOf, WellFormed, FirstBad, words, scriptOf}
 use Rattle.text.specs.Calls.{readerChecks, ReaderGives, writerChecks, WriterGives}
 use Rattle.text.proofs.Reading.{Res, got, bad, readText}
@@ -53,10 +54,6 @@ module _ (s : List ℕ) (pass : (q : ℕ) → IsBadWord listHead listExtra s q �
   list-words = words-of-list s whole
 
 -- ---- each answer is one
-pub record SameCopied (a b : CopyAnswer) (d₁ d₂ : List ℕ) : Type 0 where
-  pub answer : a ≡ b
-  pub list : d₁ ≡ d₂
-
 reader-single : (t : List ℕ) (lent : ℕ) → AllSingle (readerChecks t lent)
 reader-single t lent = (first-bad-one WellFormed t, (short, tt))
   where
@@ -70,8 +67,7 @@ writer-single s lent = (lowest-single, (lowest-single, (short-single (length (sc
 pub reader-unique : (t d d₁ d₂ : List ℕ) (a b : CopyAnswer) → ReaderGives t d d₁ a → ReaderGives t d d₂ b → SameCopied a b d₁ d₂
 reader-unique t d d₁ d₂ (Wrote n) (Wrote k) x y =
     let same : x .1 .0 ≡ y .1 .0 = one-script (x .1 .0) (y .1 .0) t (x .1 .1) (y .1 .1) in
-    let count : n ≡ k = x .1 .2 ∙ ap (λ (s : Script). length (words s)) same ∙ sym (y .1 .2) in
-    record { answer = ap Wrote count; list = x .1 .3 ∙ (cc) ∙ sym (y .1 .3) }
+    copied-one (words (y .1 .0)) d d₁ d₂ (Wrote n) (Wrote k) (subst (λ (s : Script). Copied (words s) d d₁ (Wrote n)) same (x .1 .2)) (y .1 .2)
 reader-unique t d d₁ d₂ (Wrote n) (NotCopied r) x y = absurd (not-both (readerChecks t (length d)) (number r) (second r) (x .0) (y .0))
 reader-unique t d d₁ d₂ (NotCopied r) (Wrote n) x y = absurd (not-both (readerChecks t (length d)) (number r) (second r) (y .0) (x .0))
 reader-unique t d d₁ d₂ (NotCopied q) (NotCopied r) x y = record {
@@ -80,9 +76,7 @@ reader-unique t d d₁ d₂ (NotCopied q) (NotCopied r) x y = record {
 }
 
 pub writer-unique : (s d d₁ d₂ : List ℕ) (a b : CopyAnswer) → WriterGives s d d₁ a → WriterGives s d d₂ b → SameCopied a b d₁ d₂
-writer-unique s d d₁ d₂ (Wrote n) (Wrote k) x y =
-    let count : n ≡ k = x .1 ∙ sym (y .1) in
-    record { answer = ap Wrote count; list = x .2 ∙ (cc) ∙ sym (y .2) }
+writer-unique s d d₁ d₂ (Wrote n) (Wrote k) x y = copied-one (scriptText (scriptOf s)) d d₁ d₂ (Wrote n) (Wrote k) (x .1) (y .1)
 writer-unique s d d₁ d₂ (Wrote n) (NotCopied r) x y = absurd (not-both (writerChecks s (length d)) (number r) (second r) (x .0) (y .0))
 writer-unique s d d₁ d₂ (NotCopied r) (Wrote n) x y = absurd (not-both (writerChecks s (length d)) (number r) (second r) (y .0) (x .0))
 writer-unique s d d₁ d₂ (NotCopied q) (NotCopied r) x y = record {
@@ -93,7 +87,7 @@ writer-unique s d d₁ d₂ (NotCopied q) (NotCopied r) x y = record {
 -- ---- written and read back
 module _ (s d d′ e : List ℕ) (n : ℕ) (wrote : WriterGives s d d′ (Wrote n)) (room : length s ≤ length e) where
   written : take n d′ ≡ scriptText (scriptOf s)
-  written = rw (wrote .2) (take-at (scriptText (scriptOf s)) (drop n d) n (sym (wrote .1)))
+  written = front-is (scriptText (scriptOf s)) d d′ n (wrote .1)
 
   -- The list that was written, all of it, is what the reader may answer.
   back : ReaderGives (take n d′) e (s ++ drop (length s) e) (Wrote (length s))
@@ -110,7 +104,7 @@ module _ (s d d′ e : List ℕ) (n : ℕ) (wrote : WriterGives s d d′ (Wrote 
             tt,
           ),
         ),
-        (scriptOf s, is, rw same, rw same),
+        (scriptOf s, is, rw same (copied s e (s ++ drop (length s) e) (length s) refl refl)),
       )
 
   -- And the only thing.

@@ -9,6 +9,7 @@ use Rattle.taskset.specs.Words.{listHead, listExtra}
 use Rattle.taskset.specs.Refusals.{Accepts, wordChecks}
 use Rattle.taskset.specs.declared.CopyAnswer.{CopyAnswer}
 use Rattle.taskset.specs.declared.CopyAnswer.the-variants.{Wrote}
+use Rattle.taskset.proofs.Copied.{SameCopied}
 use Rattle.text.specs.Text.{Script, bytes, decimal, joined, scriptText, IsTextOf, WellFormed, FirstBad, words, scriptOf}
 use Rattle.text.specs.Calls.{ReaderGives, WriterGives}
 use Rattle.text.proofs.Reading.{Res, got, bad, literal, more, number, many, readText}
@@ -17,7 +18,7 @@ use Rattle.text.proofs.Numerals.{said}
 use Rattle.text.proofs.Pieces.{first-bad-one, no-first-bad}
 use Rattle.text.proofs.Grammar.{Answer, read-render, read-right}
 use Rattle.text.proofs.Sizes.{text-length}
-use Rattle.text.proofs.Copies.{SameCopied, reads, is-read, is-refused, refuses, one-script, list-text, list-words, reader-unique, writer-unique, read-back}
+use Rattle.text.proofs.Copies.{reads, is-read, is-refused, refuses, one-script, list-text, list-words, reader-unique, writer-unique, read-back}
 
 -- ---- numbers
 -- The digits of a number say it, read from the first on: for every number of 64 bits, and so for every one that is read or printed.

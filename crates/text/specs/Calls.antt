@@ -2,9 +2,10 @@
 use Prim.Native.Nat.{ℕ}
 use mathlib.Core.Path.{_≡_}
 use mathlib.Core.List.{List, [], _∷_, _++_}
-use lib.ListN.{length, drop}
+use lib.ListN.{length}
 use Rattle.taskset.specs.Words.{listHead, listExtra}
 use Rattle.taskset.specs.Refusals.{number, second, IsShort, Check, check, Accepts, Refuses, wordChecks}
+use Rattle.taskset.specs.Calls.{Copied}
 use Rattle.taskset.specs.declared.CopyAnswer.{CopyAnswer}
 use Rattle.taskset.specs.declared.CopyAnswer.the-variants.{Wrote, Refused as NotCopied}
 use Rattle.text.specs.Text.{Script, scriptText, IsTextOf, WellFormed, FirstBad, words, scriptOf}
@@ -13,10 +14,10 @@ use Rattle.text.specs.Text.{Script, scriptText, IsTextOf, WellFormed, Fi
 abbrev pub readerChecks : List ℕ → ℕ → List Check
 readerChecks t lent = check 1 (FirstBad WellFormed t) ∷ check 6 (λ k. (s : Script) × IsTextOf s t × IsShort (length (words s)) lent k) ∷ []
 
--- "both return how many words or bytes they wrote, and what lies after stays": t is the text, d the list as lent, d′ as given back.
+-- t is the text, d the list as lent, d′ as given back: a success writes the words of the text's script, a refusal nothing.
 abbrev pub ReaderGives : (t d d′ : List ℕ) → CopyAnswer → Type 0
 ReaderGives t d d′ (Wrote n) =
-    Accepts (readerChecks t (length d)) × ((s : Script) × IsTextOf s t × (n ≡ length (words s)) × (d′ ≡ words s ++ drop n d))
+    Accepts (readerChecks t (length d)) × ((s : Script) × IsTextOf s t × Copied (words s) d d′ (Wrote n))
 ReaderGives t d d′ (NotCopied r) = Refuses (readerChecks t (length d)) (number r) (second r) × (d′ ≡ d)
 
 -- "Writer: 2, 3, 6." lent is the length of the buffer. "The writer takes a set that passes checks 2 and 3".
@@ -25,5 +26,5 @@ writerChecks s lent = wordChecks listHead listExtra s ++ (check 6 (IsShort (leng
 
 abbrev pub WriterGives : (s d d′ : List ℕ) → CopyAnswer → Type 0
 WriterGives s d d′ (Wrote n) =
-    Accepts (writerChecks s (length d)) × (n ≡ length (scriptText (scriptOf s))) × (d′ ≡ scriptText (scriptOf s) ++ drop n d)
+    Accepts (writerChecks s (length d)) × Copied (scriptText (scriptOf s)) d d′ (Wrote n)
 WriterGives s d d′ (NotCopied r) = Refuses (writerChecks s (length d)) (number r) (second r) × (d′ ≡ d)

@@ -1,8 +1,7 @@
 // The walk over arrays of periods and job times: the state, one tick of it, and the loop over the ticks. Whose periods and job times
 // these are, and what was checked before, are left to others.
 ghost use mathlib.Core.Path.{_≡_};
-ghost use Prim.Native.Nat.{ℕ, _+_, _≤_, _<_};
-ghost use lib.ListN.{getD, length};
+ghost use Prim.Native.Nat.{_+_, _<_};
 ghost use Rattle.ticks.specs.Arrays.{chosen, cuts, Early, Lesser, Begun, Ready, Ticked, Given, Says};
 use taskset::WalkAnswer;
 

@@ -1,11 +1,11 @@
 -- Checks 2 and 3, then 6, then the text: what the writer answers.
 -- Assumes nothing.
 use Prim.Native.Nat.{ℕ, _≤_, _<_}
-use mathlib.Core.Path.{_≡_, refl, sym, ap, _∙_}
-use mathlib.Core.List.{List, [], _∷_, _++_}
+use mathlib.Core.Path.{_≡_, refl, ap, _∙_}
+use mathlib.Core.List.{List, [], _∷_}
 use mathlib.Core.Logic.{inl}
 use native.Mathlib.Omega.{arith}
-use lib.ListN.{length, drop}
+use lib.ListN.{length}
 use Rattle.taskset.specs.Words.{listHead, listExtra}
 use Rattle.taskset.specs.Refusals.{number, second, IsShort, Check, check, wordChecks}
 use Rattle.taskset.specs.Calls.{ShapeAnswers}
@@ -15,6 +15,7 @@ use Rattle.taskset.specs.declared.Shape.the-variants.{Whole, Refused as NotWhol
 use Rattle.taskset.specs.declared.CopyAnswer.the-variants.{Wrote, Refused as NotCopied}
 use Rattle.taskset.proofs.Checks.{no-word-fault, accepts-join, refuses-front, refuses-back}
 use Rattle.taskset.proofs.Whole.{IsWhole, whole-of}
+use Rattle.taskset.proofs.Copied.{copied}
 use Rattle.text.specs.Text.{scriptText, scriptOf}
 use Rattle.text.specs.Calls.{WriterGives}
 use Rattle.text.proofs.Writing.{placed}
@@ -54,6 +55,5 @@ module _ (s d : List ℕ) where
     wrote k e h p =
         let is : length (whole s m n) ≡ length (scriptText (scriptOf s)) = ap length text-is in (
           accepts-join (wordChecks listHead listExtra s) last (good .0) ((λ j x. omega (arith, x .0)), tt),
-          p .size ∙ is,
-          p .is ∙ ap (λ (j : ℕ). whole s m n ++ drop j d) (sym (p .size)) ∙ ap (λ (l : List ℕ). l ++ drop k d) text-is,
+          rw text-is at (copied (whole s m n) d e k (p .size) (p .is)),
         )

@@ -2,13 +2,13 @@
 -- Assumes nothing.
 use native.Mathlib.Omega.{arith}
 use Prim.Native.Nat.{ℕ}
-use mathlib.Core.Path.{_≡_, sym, ap, subst, _∙_}
+use mathlib.Core.Path.{_≡_, sym, subst}
 use mathlib.Core.List.{List}
-use lib.ListN.{length, take, drop, length-append}
-use lib.Seq.{take-at}
+use lib.ListN.{take}
 use borrow.Author.Needs.{needs}
 use Rattle.answer.proofs.Outputs.{never-short}
 use Rattle.taskset.specs.declared.CopyAnswer.the-variants.{Wrote}
+use Rattle.taskset.proofs.Copied.{front-is, count-within}
 use Rattle.answer.specs.Answer.{Prints, Responds}
 use Rattle.seedspell.specs.Program.{Answered}
 use Rattle.seedspell.proofs.answer_bytes.Statement.{statement}
@@ -17,9 +17,9 @@ use Rattle.seedspell.proofs.answer_bytes.Tie as tie
 -- What the call wrote stands at the front.
 wrote : (t d d′ : List ℕ) (n : ℕ) → Responds t d d′ (Wrote n) → Answered t d′ n
 wrote t d d′ n x =
-    let e : take n d′ ≡ x .gives .0 = ap (take n) (x .gives .4) ∙ take-at (x .gives .0) (drop n d) n (sym (x .gives .3)) in
+    let e : take n d′ ≡ x .gives .0 = front-is (x .gives .0) d d′ n (x .gives .3) in
     record {
-      within = omega (arith, x .gives .3, simp length-append at (ap length (x .gives .4)));
+      within = count-within (x .gives .0) d d′ n (x .gives .3);
       prints = subst (λ (o : List ℕ). Prints t o) (sym e) (x .gives .1);
     }
 
