@@ -20,7 +20,7 @@ use Rattle.taskset.specs.declared.PlannerAnswer.the-variants.{Planned, Refused 
 use Rattle.taskset.specs.declared.WalkAnswer.the-variants.{Kept, Missed, Refused as NotWalked}
 use Rattle.taskset.proofs.Checks.{refuses-front, not-both}
 use Rattle.taskset.proofs.DemandThree.{outcome-kept, sound-plan}
-use Rattle.taskset.proofs.Copied.{count-is, front-is}
+use Rattle.taskset.proofs.Copied.{copied, count-is, front-is}
 use Rattle.text.specs.Text.{Script, IsTextOf, WellFormed, FirstBad, words}
 use Rattle.text.specs.Calls.{ReaderGives}
 use Rattle.text.proofs.Sizes.{words-length}
@@ -150,6 +150,5 @@ module _ (t d : List ℕ) where
           answer .0,
           answer .1,
           ((λ j x. omega (arith, e, x .0)), tt),
-          size,
-          put .is ∙ ap (λ (l : List ℕ). l ++ drop (length l) d) answer-is ∙ ap (λ (j : ℕ). answer .0 ++ drop j d) (sym size),
+          copied (answer .0) d d′ k size (put .is ∙ ap (λ (l : List ℕ). l ++ drop (length l) d) answer-is),
         )
