@@ -11,6 +11,7 @@ up_to_date() {
 # build WHAT FILE WORD..: has FILE, which is WHAT, made by `rt WORD..`, unless it is up to date with the crates. rt proves first what is
 # not proved yet; its progress goes to standard error. Two at once in one folder would disturb each other, so the second waits.
 build() (
+    set +e # each status is looked at here
     say() { echo "${0##*/}: $*" >&2; }
     what=$1 file=$2
     shift 2

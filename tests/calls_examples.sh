@@ -4,7 +4,8 @@
 set -eu
 cd "$(dirname "$0")/.."
 
-. tests/archive.sh
+. scripts/build.sh
+build_archive
 out=target/tests/calls
 mkdir -p "$out"
 # The blocks of C, one file each; and of the first what stands before its main.
