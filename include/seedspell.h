@@ -1,7 +1,7 @@
 /* Seedspell: the clock-rate planner for battery-run water-level recorders, as C calls it.
  *
- * Link with libcapi.a, which `rt staticlib capi` writes. What each call gives, down to the byte and the refusal, is proved of
- * that archive's code; docs/CALLS.md is the reference.
+ * Link with libcapi.a, which `rt staticlib capi` writes, for x86-64 and Linux. What each call gives, down to the byte
+ * and the refusal, is proved of that archive's code; docs/CALLS.md is the reference.
  *
  * OF EVERY CALL
  *
@@ -12,6 +12,8 @@
  * - A call returns 0, or a refusal: its number x 2^32 + its second number (SEEDSPELL_REFUSAL, SEEDSPELL_SECOND).
  * - On a refusal no lent word or byte has changed. On success only those that the call names have.
  * - Calls keep nothing from one to the next, take no memory of their own beyond the stack, and always return.
+ * - Calls share nothing: calls of several threads may run at once, as long as none is lent a list that another may
+ *   write. A list that is only read, such as a set, may be lent to all of them.
  *
  * NUMBERS AND PLACES
  *
@@ -34,18 +36,29 @@
 extern "C" {
 #endif
 
-/* The refusals' numbers; of several causes the first in a call's own order is the one returned. */
-#define SEEDSPELL_TEXT_DEPARTS 1 /* the text departs from the form; second number: offset of its first byte that does */
-#define SEEDSPELL_BAD_WORD 2     /* a set word out of its range, missing or left over; its place, or the list's length if it is missing */
-#define SEEDSPELL_NOT_ABOVE 3    /* a rate not above the one before it; its place */
-#define SEEDSPELL_TOO_LONG 4     /* the hyper-period passes 10,000,000; the place of the first period at which it does */
-#define SEEDSPELL_WORK_SHORT 5   /* the working list is too short; the words needed */
-#define SEEDSPELL_TOO_SHORT 6    /* a receiving list is too short; the words or bytes needed */
-#define SEEDSPELL_NO_PLAN 7      /* no plan fits; 0 */
-#define SEEDSPELL_BAD_PLAN 8     /* the plan: the lowest place of a word that is not 1 to M, or its length if it is short, or N if it is long */
+/* The refusals' numbers; behind each its cause, and its second number. Of several causes the first in a call's own
+ * order is the one returned. No call from C returns 1: it is of texts, which the program reads. */
+#define SEEDSPELL_REFUSED_TEXT_DEPARTS 1          /* a text departs from the form; offset of its first byte that does */
+#define SEEDSPELL_REFUSED_BAD_SET_WORD 2          /* a set word out of its range, missing or left over; its place, or
+                                                     the list's length if it is missing */
+#define SEEDSPELL_REFUSED_RATE_NOT_ABOVE 3        /* a rate not above the one before it; its place */
+#define SEEDSPELL_REFUSED_HYPER_PERIOD_TOO_LONG 4 /* the hyper-period passes 10,000,000; the place of the first period
+                                                     at which it does */
+#define SEEDSPELL_REFUSED_WORKING_LIST_SHORT 5    /* fewer working words than the set needs; the words needed, W */
+#define SEEDSPELL_REFUSED_RECEIVING_LIST_SHORT 6  /* no room for the plan, or for the results; the words needed for the
+                                                     plan, or the bytes for the results */
+#define SEEDSPELL_REFUSED_NO_PLAN_FITS 7          /* no plan keeps every deadline; 0 */
+#define SEEDSPELL_REFUSED_BAD_WALK_PLAN 8         /* the plan that the walk is given; the lowest place of a word that is
+                                                     not 1 to M, or its length if it is short, or N if it is long */
 
+/* Of what a call returned, a uint64_t: the refusal's number, 0 where there is none; and its second number. */
+#ifdef __cplusplus
+#define SEEDSPELL_REFUSAL(returned) (static_cast<uint32_t>((returned) >> 32))
+#define SEEDSPELL_SECOND(returned) (static_cast<uint32_t>(returned))
+#else
 #define SEEDSPELL_REFUSAL(returned) ((uint32_t)((returned) >> 32))
 #define SEEDSPELL_SECOND(returned) ((uint32_t)(returned))
+#endif
 
 /* Bytes of results that a call leaves: four values of eight bytes each, lowest byte first. */
 #define SEEDSPELL_RESULT_BYTES 32
@@ -54,7 +67,8 @@ extern "C" {
  * the lower task number.
  *
  * set, set_len          the set
- * plan, plan_len        a rate number, 1 to M, for each of the N tasks
+ * plan, plan_len        a rate number, 1 to M, for each of the N tasks: exactly N words. Of a longer list that the
+ *                       planner was lent, lend the walk the first N words: plan_len is N, not the room of the list
  * results, results_len  receives the results, at least 32 bytes
  *
  * Returns 0 and leaves in the first 32 bytes of results
@@ -69,9 +83,10 @@ uint64_t seedspell_walk(const uint32_t *set, size_t set_len, const uint32_t *pla
  * the slack of the least possible.
  *
  * set, set_len          the set
- * plan, plan_len        receives the plan, at least N words
- * work, work_len        working words, at least W = (N + 1) x (4,000 x N / slack rounded down, + 1): at most 4,224,033, for 32
- *                       tasks and slack 1. What they hold before the call makes no difference
+ * plan, plan_len        receives the plan, at least N words: 32 are enough for every set
+ * work, work_len        working words, at least W = (N + 1) x (4,000 x N / slack rounded down, + 1): 10 to 4,224,033,
+ *                       the most for 32 tasks and slack 1. What they hold before the call makes no difference. To ask
+ *                       for W, lend one word: a set that passes checks 2, 3 and 4 is then refused with 5 and W
  * results, results_len  receives the results, at least 32 bytes
  *
  * Returns 0 and leaves in the first N words of plan a rate number, 1 to M, for each task; 0 in the first W working words; and in

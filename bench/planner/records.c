@@ -25,7 +25,7 @@
 #define MOST_WORK 5000000
 #define SPARE 8                         /* words and bytes past the ends of the lists */
 /* 6 with 32: too few bytes for the results */
-#define NO_RESULTS ((uint64_t)SEEDSPELL_TOO_SHORT << 32 | SEEDSPELL_RESULT_BYTES)
+#define NO_RESULTS ((uint64_t)SEEDSPELL_REFUSED_RECEIVING_LIST_SHORT << 32 | SEEDSPELL_RESULT_BYTES)
 
 static uint32_t set[MOST_WORDS], plan[MOST_PLAN + SPARE];
 static uint32_t work[MOST_WORK + SPARE];
@@ -125,7 +125,7 @@ static int answer(char *record)
         tasks = set[2 + set[1]];
         needed = (size_t)(tasks + 1) * (4000 * tasks / set[0] + 1);
     }
-    if (short_code != (code == 0 || code >> 32 == SEEDSPELL_NO_PLAN ? NO_RESULTS : code)) {
+    if (short_code != (code == 0 || code >> 32 == SEEDSPELL_REFUSED_NO_PLAN_FITS ? NO_RESULTS : code)) {
         printf("%s short\n", name);
         return 0;
     }

@@ -190,31 +190,31 @@ static void explain(uint32_t number, uint32_t second)
 {
     printf("NO PLAN: refusal %" PRIu32 " with %" PRIu32 "\n", number, second);
     switch (number) {
-    case SEEDSPELL_BAD_WORD:
+    case SEEDSPELL_REFUSED_BAD_SET_WORD:
         explain_word(second);
         break;
-    case SEEDSPELL_NOT_ABOVE:
+    case SEEDSPELL_REFUSED_RATE_NOT_ABOVE:
         printf("Place %" PRIu32 ", ", second);
         print_place(second);
         printf(", holds %" PRIu32 ", and the rate before it is %" PRIu32 ".\n", set[second], set[second - 1]);
         printf("To mend: put the rates in rising order, each once, and the energies of every task in the same order.\n");
         break;
-    case SEEDSPELL_TOO_LONG:
+    case SEEDSPELL_REFUSED_HYPER_PERIOD_TOO_LONG:
         printf("Place %" PRIu32 ", ", second);
         print_place(second);
         printf(", holds %" PRIu32 ": with it the least common multiple of the periods passes 10000000 ticks.\n", set[second]);
         printf("To mend: choose periods that are multiples of one another, or nearly so.\n");
         break;
-    case SEEDSPELL_WORK_SHORT:
+    case SEEDSPELL_REFUSED_WORKING_LIST_SHORT:
         printf("%" PRIu32 " tasks at a slack of %" PRIu32 " thousandths need %" PRIu32 " working words, and this host has %d.\n",
                tasks(), set[0], second, WORK_WORDS);
         printf("To mend: raise the slack, plan fewer tasks, or build the host with more words.\n");
         break;
-    case SEEDSPELL_TOO_SHORT:
+    case SEEDSPELL_REFUSED_RECEIVING_LIST_SHORT:
         printf("A list for what the planner gives is too short: it takes %" PRIu32 " words or bytes.\n", second);
         printf("To mend: this host lends enough for every set, so the host itself is at fault.\n");
         break;
-    case SEEDSPELL_NO_PLAN:
+    case SEEDSPELL_REFUSED_NO_PLAN_FITS:
         printf("With every task at rate number %" PRIu32 ", the highest, the jobs still take more ticks than there are.\n", rates());
         printf("To mend: fewer cycles a job, longer periods, fewer tasks, or a higher rate.\n");
         break;

@@ -1,0 +1,72 @@
+/* The header as a caller has it, in C99 and in C++11 alike: every name of it is used, and the archive refuses with the number that
+   the name of each cause stands for. Ends with 0 if so, with 1 and a line for each that differs if not. */
+
+#include "../../include/seedspell.h"    /* first, so that it needs nothing before it */
+
+#include <inttypes.h>
+#include <stdio.h>
+
+#if SEEDSPELL_REFUSED_TEXT_DEPARTS != 1 /* the one refusal that no call from C gives */
+#error "refusal 1 is of texts"
+#endif
+
+#define WORDS 16
+#define ROOM 3                          /* of the plan list, a word more than S has tasks */
+#define WORK 243                        /* W of S */
+
+static const uint32_t S[WORDS] = {100, 3, 2, 4, 8, 2, 10, 12, 4, 9, 20, 15, 20, 7, 15, 30};
+static uint32_t set[WORDS], plan[ROOM], work[WORK];
+static uint8_t results[SEEDSPELL_RESULT_BYTES];
+static int failures;
+
+/* Makes the set S with another word at a place. */
+static void change(size_t place, uint32_t word)
+{
+    for (size_t i = 0; i < WORDS; i++)
+        set[i] = S[i];
+    set[place] = word;
+}
+
+static uint64_t plan_set(size_t plan_len, size_t work_len, size_t results_len)
+{
+    return seedspell_plan(set, WORDS, plan, plan_len, work, work_len, results, results_len);
+}
+
+static uint64_t walk_plan(size_t plan_len)
+{
+    return seedspell_walk(set, WORDS, plan, plan_len, results, SEEDSPELL_RESULT_BYTES);
+}
+
+static void expect(const char *what, uint64_t returned, uint32_t number, uint32_t second)
+{
+    if (SEEDSPELL_REFUSAL(returned) == number && SEEDSPELL_SECOND(returned) == second)
+        return;
+    printf("tests/header: %s: refusal %" PRIu32 " with %" PRIu32 ", not %" PRIu32 " with %" PRIu32 "\n", what, SEEDSPELL_REFUSAL(returned),
+           SEEDSPELL_SECOND(returned), number, second);
+    failures++;
+}
+
+int main(void)
+{
+    change(0, 0);
+    expect("slack 0", plan_set(ROOM, WORK, sizeof results), SEEDSPELL_REFUSED_BAD_SET_WORD, 0);
+    change(3, 2);
+    expect("rates 2 and 2", plan_set(ROOM, WORK, sizeof results), SEEDSPELL_REFUSED_RATE_NOT_ABOVE, 3);
+    change(6, 9999999);
+    expect("a long hyper-period", plan_set(ROOM, WORK, sizeof results), SEEDSPELL_REFUSED_HYPER_PERIOD_TOO_LONG, 11);
+    change(7, 81);
+    expect("81 cycles in 10 ticks", plan_set(ROOM, WORK, sizeof results), SEEDSPELL_REFUSED_NO_PLAN_FITS, 0);
+    change(0, 100);
+    expect("one working word", plan_set(ROOM, 1, sizeof results), SEEDSPELL_REFUSED_WORKING_LIST_SHORT, WORK);
+    expect("one plan word", plan_set(1, WORK, sizeof results), SEEDSPELL_REFUSED_RECEIVING_LIST_SHORT, 2);
+    expect("31 bytes for results", plan_set(ROOM, WORK, 31), SEEDSPELL_REFUSED_RECEIVING_LIST_SHORT, SEEDSPELL_RESULT_BYTES);
+    expect("S", plan_set(ROOM, WORK, sizeof results), 0, 0);
+    /* The planner has filled 2 of the list's words, and those are the plan. */
+    expect("the walk of all the room", walk_plan(ROOM), SEEDSPELL_REFUSED_BAD_WALK_PLAN, 2);
+    expect("the walk of the plan", walk_plan(2), 0, 0);
+    if (results[0] != 1) {
+        printf("tests/header: the walk of the plan misses\n");
+        failures++;
+    }
+    return failures > 0;
+}

@@ -1,0 +1,38 @@
+#!/usr/bin/env bash
+# Holds include/seedspell.h and the archive to what docs/CALLS.md says of them: bash tests/header.sh
+# A program that uses every name of the header (tests/c/header.c) compiles without a warning, as C99 and, where there is a
+# C++ compiler, as C++11. With the archive it links, position independent and not, and finds each refusal under its name.
+# The archive has no data that calls could share, goes into a shared object, and needs memcpy and memset alone.
+set -eu
+cd "$(dirname "$0")/.."
+
+. scripts/build.sh
+build_archive
+out=target/tests/header
+mkdir -p "$out"
+fail() {
+    echo "tests/header: $*" >&2
+    exit 1
+}
+
+languages="C99"
+cc -std=c99 -Wall -Wextra -pedantic -Werror -c tests/c/header.c -fPIE -o "$out/c.o"
+cc -std=c99 -Wall -Wextra -pedantic -Werror -c tests/c/header.c -fno-pie -o "$out/c-fixed.o"
+cc -pie "$out/c.o" "$archive" -o "$out/c"
+cc -no-pie "$out/c-fixed.o" "$archive" -o "$out/c-fixed"
+for name in c c-fixed; do
+    "$out/$name" || fail "in C, a refusal is not the one that its name says"
+done
+if command -v c++ >/dev/null 2>&1; then
+    languages="$languages and C++11"
+    c++ -x c++ -std=c++11 -Wall -Wextra -Wpedantic -Wold-style-cast -Werror -c tests/c/header.c -o "$out/cxx.o"
+    c++ "$out/cxx.o" "$archive" -o "$out/cxx"
+    "$out/cxx" || fail "in C++, a refusal is not the one that its name says"
+fi
+
+cc -shared -Wl,-z,text -Wl,--whole-archive "$archive" -Wl,--no-whole-archive -o "$out/libseedspell.so"
+written=$(size "$archive" | awk 'NR > 1 { bytes += $2 + $3 } END { print bytes + 0 }')
+[ "$written" -eq 0 ] || fail "the archive has $written bytes of data that calls could share"
+needed=$(nm -u "$archive" | sed -n 's/^ *U //p' | sort | tr '\n' ' ')
+[ "$needed" = "memcpy memset " ] || fail "the archive needs: $needed"
+echo "include/seedspell.h: as docs/CALLS.md says, in $languages"
