@@ -1,27 +1,49 @@
 #!/usr/bin/env bash
 # Holds the sheet builder to its stored sheets: bash examples/sheet/check.sh
-# A line of cases/list has a case's name, the tick, and the status that the run ends with; NAME.in is the input, NAME.out all that is
-# printed.
+# A line of cases/list has a case's name, the tick, and the status that the run ends with; NAME.in is the input, NAME.out all
+# that is printed.
 set -u
 cd "$(dirname "$0")/../.." || exit 1
 
+bash examples/sheet/build.sh || exit 1
+sheet=target/examples/sheet
 cases=examples/sheet/cases
 out=target/examples/cases
 mkdir -p "$out" || exit 1
-held=0
 failures=0
+fail() {
+    echo "examples/sheet: $*" >&2
+    failures=$((failures + 1))
+}
+
+# ---- the stored sheets
+held=0
 while read -r name tick wanted; do
     status=0
-    bash examples/sheet/run.sh "$tick" <"$cases/$name.in" >"$out/$name.out" || status=$?
+    "$sheet" "$tick" <"$cases/$name.in" >"$out/$name.out" || status=$?
     if [ "$status" -ne "$wanted" ]; then
-        echo "examples/sheet: $name ends with $status and not with $wanted" >&2
-        failures=$((failures + 1))
+        fail "$name ends with $status and not with $wanted"
     elif ! diff "$cases/$name.out" "$out/$name.out" >&2; then
-        echo "examples/sheet: $name departs from its stored sheet, $cases/$name.out" >&2
-        failures=$((failures + 1))
+        fail "$name departs from its stored sheet, $cases/$name.out"
     else
         held=$((held + 1))
     fi
 done <"$cases/list"
+[ "$held" -gt 0 ] || fail "no sheet is as stored"
+for input in "$cases"/*.in; do
+    grep -q "^$(basename "$input" .in) " "$cases/list" || fail "$input is not in $cases/list"
+done
+
+# ---- run.sh: a program that is older than its source is built again, by two runs at once too
+touch -d @1 "$sheet" || exit 1
+for k in 1 2; do
+    bash examples/sheet/run.sh 1000 <"$cases/s.in" >"$out/run-$k.out" &
+done
+wait
+for k in 1 2; do
+    diff "$cases/s.out" "$out/run-$k.out" >&2 || fail "run.sh, one of two at once, departs from $cases/s.out"
+done
+[ "$sheet" -nt examples/sheet/sheet.c ] || fail "run.sh runs a program that is older than its source"
+
 echo "examples/sheet: $held sheets as stored"
-[ "$failures" -eq 0 ] && [ "$held" -gt 0 ]
+[ "$failures" -eq 0 ]

@@ -1,13 +1,8 @@
 #!/usr/bin/env bash
-# Builds the sheet builder over the archive and runs it: bash examples/sheet/run.sh TICK <LIST
-# TICK is the length of a tick in microseconds; sheet.c says more.
-set -eu
-cd "$(dirname "$0")/../.."
+# Runs the sheet builder, and builds it first where that is needed: bash examples/sheet/run.sh TICK <LIST
+# TICK is the length of a tick in microseconds; sheet.c says more, and how it ends. Where it cannot be built the run ends with 2.
+set -u
+cd "$(dirname "$0")/../.." || exit 2
 
-archive=target/staticlib/libcapi.a
-if [ ! -f "$archive" ]; then
-    rt staticlib capi >&2
-fi
-mkdir -p target/examples
-cc -Wall -Wextra -O2 examples/sheet/sheet.c "$archive" -o target/examples/sheet
+bash examples/sheet/build.sh </dev/null >&2 || exit 2
 exec target/examples/sheet "$@"
