@@ -1,5 +1,5 @@
 #!/usr/bin/env bash
-# Holds the sheet builder to its stored sheets: bash examples/sheet/check.sh
+# Holds the sheet builder to its stored sheets, and to saying so where it cannot give one: bash examples/sheet/check.sh
 # A line of cases/list has a case's name, the tick, and the status that the run ends with; NAME.in is the input, NAME.out all
 # that is printed.
 set -u
@@ -33,6 +33,26 @@ done <"$cases/list"
 for input in "$cases"/*.in; do
     grep -q "^$(basename "$input" .in) " "$cases/list" || fail "$input is not in $cases/list"
 done
+
+# ---- no sheet: status 2, and a word on standard error
+# gives_up NAME WORDS COMMAND..: what it says begins with `sheet: WORDS`.
+gives_up() {
+    local name=$1 words=$2 status=0
+    shift 2
+    "$@" 2>"$out/said" || status=$?
+    [ "$status" -eq 2 ] || fail "$name: ends with $status and not with 2"
+    [[ $(cat "$out/said") == "sheet: $words"* ]] || fail "$name: says '$(cat "$out/said")' and not 'sheet: $words'"
+}
+full() { "$sheet" 1000 <"$cases/$1.in" >/dev/full; }
+closed() { "$sheet" 1000 <"$cases/$1.in" >&-; }
+no_numbers() { echo "100 3 two" | "$sheet" 1000; }
+no_tick() { "$sheet" 0 <"$cases/s.in"; }
+for name in s refused-7; do
+    gives_up "$name on a full disk" "the sheet cannot be written" full "$name"
+    gives_up "$name with no standard output" "the sheet cannot be written" closed "$name"
+done
+gives_up "input that is no list" "standard input has something other than numbers" no_numbers
+gives_up "a tick of 0" "the tick is a number" no_tick
 
 # ---- run.sh: a program that is older than its source is built again, by two runs at once too
 touch -d @1 "$sheet" || exit 1

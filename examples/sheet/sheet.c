@@ -5,8 +5,9 @@
    TICK is the length of a tick in microseconds, 1 to 1,000,000,000. LIST is the set's words as plain numbers with spaces or line
    ends between them; include/seedspell.h says which words those are.
 
-   Ends with 0 where there is a plan, with 1 where the planner refuses the set (and the sheet says what to mend), with 2 where the
-   input cannot be used.
+   Ends with 0 where there is a plan, with 1 where the planner refuses the set (and the sheet says what to mend), with 2
+   where there is no whole sheet, since the input cannot be used or the sheet cannot be written: then standard error says
+   which.
 
    All arithmetic is in whole numbers. What is rounded is rounded up, so that no page promises more than the battery has. */
 
@@ -38,13 +39,13 @@ static uint32_t tasks(void)
     return set[2 + rates()];
 }
 
-/* ---- Input */
-
-static _Noreturn void unusable(const char *what)
+static _Noreturn void give_up(const char *why)
 {
-    fprintf(stderr, "sheet: %s\n", what);
+    fprintf(stderr, "sheet: %s\n", why);
     exit(2);
 }
+
+/* ---- Input */
 
 /* The next number of standard input; returns 0 at its end. */
 static int read_number(uint32_t *number)
@@ -58,10 +59,10 @@ static int read_number(uint32_t *number)
         return 0;
     for (; c != EOF && !isspace(c); c = getchar()) {
         if (!isdigit(c))
-            unusable("standard input has something other than numbers with spaces or line ends between them");
+            give_up("standard input has something other than numbers with spaces or line ends between them");
         value = 10 * value + (uint64_t)(c - '0');
         if (value > UINT32_MAX)
-            unusable("standard input has a number that is no 32-bit word");
+            give_up("standard input has a number that is no 32-bit word");
     }
     *number = (uint32_t)value;
     return 1;
@@ -75,7 +76,7 @@ static void read_set(void)
         if (set_len <= MOST_WORDS)
             set[set_len++] = word;
     if (ferror(stdin))
-        unusable("standard input cannot be read");
+        give_up("standard input cannot be read");
 }
 
 static uint64_t read_tick(const char *text)
@@ -84,7 +85,7 @@ static uint64_t read_tick(const char *text)
     unsigned long long tick = strtoull(text, &end, 10);
 
     if (!isdigit((unsigned char)*text) || *end != '\0' || tick < 1 || tick > LONGEST_TICK)
-        unusable("the tick is a number of microseconds, 1 to 1000000000");
+        give_up("the tick is a number of microseconds, 1 to 1000000000");
     return tick;
 }
 
@@ -260,20 +261,30 @@ static void print_battery_page(const uint64_t *planned, const uint64_t *walked, 
     printf("              within %" PRIu32 ".%" PRIu32 " %% of the least\n", set[0] / 10, set[0] % 10);
 }
 
+/* Ends the run, once all that was printed has reached standard output: until here it may only have been collected. */
+static _Noreturn void finish(int status)
+{
+    int failed = ferror(stdout);
+
+    if (fclose(stdout) != 0 || failed)
+        give_up("the sheet cannot be written to standard output");
+    exit(status);
+}
+
 int main(int argc, char **argv)
 {
     uint8_t results[SEEDSPELL_RESULT_BYTES];
     uint64_t tick, returned, planned[4], walked[4];
 
     if (argc != 2)
-        unusable("give the length of a tick in microseconds, and the set's words on standard input");
+        give_up("give the length of a tick in microseconds, and the set's words on standard input");
     tick = read_tick(argv[1]);
     read_set();
 
     returned = seedspell_plan(set, set_len, plan, MOST_TASKS, work, WORK_WORDS, results, sizeof results);
     if (returned != 0) {
         explain(SEEDSPELL_REFUSAL(returned), SEEDSPELL_SECOND(returned));
-        return 1;
+        finish(1);
     }
     read_results(results, planned);
 
@@ -281,9 +292,9 @@ int main(int argc, char **argv)
     returned = seedspell_walk(set, set_len, plan, tasks(), results, sizeof results);
     read_results(results, walked);
     if (returned != 0 || walked[0] != 1 || walked[1] != planned[1] || walked[1] + walked[2] != planned[2])
-        unusable("the walk does not bear out the plan: host and archive do not belong together");
+        give_up("the walk does not bear out the plan: host and archive do not belong together");
 
     print_boot_table();
     print_battery_page(planned, walked, tick);
-    return 0;
+    finish(0);
 }
