@@ -45,12 +45,17 @@ gives_up() {
 }
 full() { "$sheet" 1000 <"$cases/$1.in" >/dev/full; }
 closed() { "$sheet" 1000 <"$cases/$1.in" >&-; }
+short_of_memory() (
+    ulimit -v 12000
+    "$sheet" 1000 <"$cases/$1.in"
+)
 no_numbers() { echo "100 3 two" | "$sheet" 1000; }
 no_tick() { "$sheet" 0 <"$cases/s.in"; }
 for name in s refused-7; do
     gives_up "$name on a full disk" "the sheet cannot be written" full "$name"
     gives_up "$name with no standard output" "the sheet cannot be written" closed "$name"
 done
+gives_up "most-working-words in 12 MB" "there is no memory for the 4224033 working words" short_of_memory most-working-words
 gives_up "input that is no list" "standard input has something other than numbers" no_numbers
 gives_up "a tick of 0" "the tick is a number" no_tick
 

@@ -6,8 +6,8 @@
    ends between them; include/seedspell.h says which words those are.
 
    Ends with 0 where there is a plan, with 1 where the planner refuses the set (and the sheet says what to mend), with 2
-   where there is no whole sheet, since the input cannot be used or the sheet cannot be written: then standard error says
-   which.
+   where there is no whole sheet, since the input cannot be used, there is no memory to plan with, or the sheet cannot be
+   written: then standard error says which.
 
    All arithmetic is in whole numbers. What is rounded is rounded up, so that no page promises more than the battery has. */
 
@@ -20,14 +20,13 @@
 
 #define MOST_TASKS 32
 #define MOST_WORDS (3 + 8 + MOST_TASKS * (2 + 8))       /* of a set with 8 rates and 32 tasks */
-#define WORK_WORDS 16384
 #define DAY UINT64_C(86400000000)                       /* in microseconds */
 #define LONGEST_TICK 1000000000
 
 /* One word more than the longest set: a longer list is refused by the words up to there, whatever follows. */
 static uint32_t set[MOST_WORDS + 1];
 static size_t set_len;
-static uint32_t plan[MOST_TASKS], work[WORK_WORDS];
+static uint32_t plan[MOST_TASKS];
 
 static uint32_t rates(void)
 {
@@ -206,22 +205,36 @@ static void explain(uint32_t number, uint32_t second)
         printf(", holds %" PRIu32 ": with it the least common multiple of the periods passes 10000000 ticks.\n", set[second]);
         printf("To mend: choose periods that are multiples of one another, or nearly so.\n");
         break;
-    case SEEDSPELL_REFUSED_WORKING_LIST_SHORT:
-        printf("%" PRIu32 " tasks at a slack of %" PRIu32 " thousandths need %" PRIu32 " working words, and this host has %d.\n",
-               tasks(), set[0], second, WORK_WORDS);
-        printf("To mend: raise the slack, plan fewer tasks, or build the host with more words.\n");
-        break;
-    case SEEDSPELL_REFUSED_RECEIVING_LIST_SHORT:
-        printf("A list for what the planner gives is too short: it takes %" PRIu32 " words or bytes.\n", second);
-        printf("To mend: this host lends enough for every set, so the host itself is at fault.\n");
-        break;
     case SEEDSPELL_REFUSED_NO_PLAN_FITS:
         printf("With every task at rate number %" PRIu32 ", the highest, the jobs still take more ticks than there are.\n", rates());
         printf("To mend: fewer cycles a job, longer periods, fewer tasks, or a higher rate.\n");
         break;
-    default:
-        printf("The planner has no such refusal: host and archive do not belong together.\n");
+    default:                            /* 5 and 6 too: this host lends as much as the planner asks for */
+        give_up("there is no cause for this refusal: host and archive do not belong together");
     }
+}
+
+/* ---- Planning */
+
+/* The planner says itself how many working words a set needs. It is first lent one, too few for every set, and refuses
+   with 5 and that number, unless the set itself is at fault; then it is lent as many. */
+static uint64_t plan_set(uint8_t *results)
+{
+    uint32_t one[1], *work;
+    uint64_t returned = seedspell_plan(set, set_len, plan, MOST_TASKS, one, 1, results, SEEDSPELL_RESULT_BYTES);
+    size_t needed = SEEDSPELL_SECOND(returned);
+
+    if (SEEDSPELL_REFUSAL(returned) != SEEDSPELL_REFUSED_WORKING_LIST_SHORT)
+        return returned;
+    work = malloc(needed * sizeof *work);
+    if (work == NULL) {
+        fprintf(stderr, "sheet: there is no memory for the %zu working words of %" PRIu32 " tasks at a slack of %" PRIu32 "\n",
+                needed, tasks(), set[0]);
+        exit(2);
+    }
+    returned = seedspell_plan(set, set_len, plan, MOST_TASKS, work, needed, results, SEEDSPELL_RESULT_BYTES);
+    free(work);
+    return returned;
 }
 
 /* ---- The sheet */
@@ -281,14 +294,15 @@ int main(int argc, char **argv)
     tick = read_tick(argv[1]);
     read_set();
 
-    returned = seedspell_plan(set, set_len, plan, MOST_TASKS, work, WORK_WORDS, results, sizeof results);
+    returned = plan_set(results);
     if (returned != 0) {
         explain(SEEDSPELL_REFUSAL(returned), SEEDSPELL_SECOND(returned));
         finish(1);
     }
     read_results(results, planned);
 
-    /* The walk says the same again, tick by tick; a host that finds otherwise was linked with something else. */
+    /* The walk says the same again, tick by tick; a host that finds otherwise was linked with something else. The walk
+       takes the plan's N words and no more, where the planner had room for MOST_TASKS. */
     returned = seedspell_walk(set, set_len, plan, tasks(), results, sizeof results);
     read_results(results, walked);
     if (returned != 0 || walked[0] != 1 || walked[1] != planned[1] || walked[1] + walked[2] != planned[2])
