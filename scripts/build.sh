@@ -1,11 +1,12 @@
 # shellcheck shell=bash
 # Building what is missing or older than its source. Sourced by other scripts; its functions are called in the repository's root.
 
-# up_to_date FILE SOURCE..: whether FILE is there, and no source, file or folder, has changed since it was built.
+# up_to_date FILE SOURCE..: whether FILE is there, and no source, file or folder, has changed since it was built. What
+# counts is when a source was put there, so that a copy that keeps an older time is seen too.
 up_to_date() {
     local file=$1
     shift
-    [ -f "$file" ] && [ -z "$(find "$@" -newer "$file" -print -quit)" ]
+    [ -f "$file" ] && [ -z "$(find "$@" -cnewer "$file" -print -quit)" ]
 }
 
 # build WHAT FILE WORD..: has FILE, which is WHAT, made by `rt WORD..`, unless it is up to date with the crates. rt proves first what is
