@@ -9,7 +9,9 @@
    where there is no whole sheet, since the input cannot be used, there is no memory to plan with, or the sheet cannot be
    written: then standard error says which.
 
-   All arithmetic is in whole numbers. What is rounded is rounded up, so that no page promises more than the battery has. */
+   All arithmetic is in whole numbers. What is rounded is rounded up, so that no rounding makes a page promise too much.
+   Energies are those of the jobs, as the set gives them: what is drawn while no job runs is in no word of a set, and so
+   it is not counted. */
 
 #include <ctype.h>
 #include <inttypes.h>
@@ -269,9 +271,10 @@ static void print_battery_page(const uint64_t *planned, const uint64_t *walked, 
            walked[3]);
     printf("load          %" PRIu64 ".%02" PRIu64 " %% of the hyper-period\n", per_cent / 100, per_cent % 100);
     printf("unit          %" PRIu64 " uJ\n", unit);
-    printf("energy        %" PRIu64 " uJ a hyper-period\n", energy);
+    printf("energy        %" PRIu64 " uJ a hyper-period, of the jobs alone\n", energy);
     printf("              %" PRIu64 ".%06" PRIu64 " J a day\n", per_day / 1000000, per_day % 1000000);
     printf("              within %" PRIu32 ".%" PRIu32 " %% of the least\n", set[0] / 10, set[0] % 10);
+    printf("not counted   waiting: what is drawn while no job runs\n");
 }
 
 /* Ends the run, once all that was printed has reached standard output: until here it may only have been collected. */
