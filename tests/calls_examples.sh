@@ -1,28 +1,42 @@
 #!/usr/bin/env bash
-# Holds the C examples of docs/CALLS.md to what it says that they print: builds each with the archive and compares. The second goes on from the
-# first one's beginning, as its text says.
+# Holds every C example of docs/CALLS.md to what it says that the example prints: builds each with the archive and
+# compares. An example is a block of C; each after the first goes on from what stands before main in the first, as its
+# text says. What it prints stands behind it: 'It prints `LINE`', or 'It prints' and the lines, indented.
 set -eu
 cd "$(dirname "$0")/.."
 
 . scripts/build.sh
 build_archive
 out=target/tests/calls
+rm -rf "$out"
 mkdir -p "$out"
-# The blocks of C, one file each; and of the first what stands before its main.
-awk -v out="$out" '/^```c$/ { n++; on = 1; next } /^```$/ { on = 0 } on { print > (out "/block" n ".c") }' docs/CALLS.md
-sed '/^int main/,$d' "$out/block1.c" | cat - "$out/block2.c" >"$out/plan.c"
-cp "$out/block1.c" "$out/walk.c"
-if [ -e "$out/block3.c" ]; then
-    echo "tests/calls_examples: docs/CALLS.md has an example that is not tried here" >&2
+fail() {
+    echo "tests/calls_examples: $*" >&2
     exit 1
-fi
-# What they print, from the document: the walk's in its sentence, the planner's as the lines behind 'It prints'.
-sed -n 's/^It prints `\(kept:[^`]*\)`.*/\1/p' docs/CALLS.md >"$out/walk.wanted"
-awk '/^It prints$/ { on = 1; next } on && /^    / { print substr($0, 5); seen = 1; next } on && seen { exit }' docs/CALLS.md >"$out/plan.wanted"
-for name in walk plan; do
-    [ -s "$out/$name.wanted" ] || { echo "tests/calls_examples: docs/CALLS.md does not say what the $name example prints" >&2; exit 1; }
-    cc -Wall -Wextra -Iinclude "$out/$name.c" "$archive" -o "$out/$name"
-    "$out/$name" >"$out/$name.printed"
-    cmp "$out/$name.printed" "$out/$name.wanted" >&2 || { echo "tests/calls_examples: the $name example prints something else than docs/CALLS.md says" >&2; exit 1; }
+}
+
+# Of example n: n.c, and n.wanted.
+awk -v out="$out" '
+    /^```c$/ { n++; on = 1; lines = 0; said = 0; next }
+    /^```$/ { on = 0; next }
+    on { print > (out "/" n ".c"); next }
+    n == 0 || said { next }
+    match($0, /^It prints `[^`]*`/) { print substr($0, 12, RLENGTH - 12) > (out "/" n ".wanted"); said = 1; next }
+    /^It prints$/ { lines = 1; next }
+    lines && /^    / { print substr($0, 5) > (out "/" n ".wanted"); lines = 2; next }
+    lines == 2 { said = 1 }
+' docs/CALLS.md
+
+n=1
+: >"$out/before"
+while [ -e "$out/$n.c" ]; do
+    [ -s "$out/$n.wanted" ] || fail "docs/CALLS.md does not say what its example $n prints"
+    cat "$out/before" "$out/$n.c" >"$out/whole-$n.c"
+    cc -Wall -Wextra -Iinclude "$out/whole-$n.c" "$archive" -o "$out/$n"
+    "$out/$n" >"$out/$n.printed" || fail "example $n of docs/CALLS.md ends with $?"
+    diff "$out/$n.wanted" "$out/$n.printed" >&2 || fail "example $n of docs/CALLS.md does not print what it says"
+    [ "$n" -gt 1 ] || sed '/^int main/,$d' "$out/1.c" >"$out/before"
+    n=$((n + 1))
 done
-echo "docs/CALLS.md: both examples print what it says"
+[ "$n" -gt 3 ] || fail "docs/CALLS.md has fewer than three examples"
+echo "docs/CALLS.md: all $((n - 1)) examples print what it says"

@@ -1,8 +1,8 @@
 #!/usr/bin/env bash
 # Holds include/seedspell.h and the archive to what docs/CALLS.md says of them: bash tests/header.sh
-# A program that uses every name of the header (tests/c/header.c) compiles without a warning, as C99 and, where there is a
-# C++ compiler, as C++11. With the archive it links, position independent and not, and finds each refusal under its name.
-# The archive has no data that calls could share, goes into a shared object, and needs memcpy and memset alone.
+# A program that uses every name of the header (tests/c/header.c) compiles without a warning, as C99 and, where there is
+# a C++ compiler, as C++11. With the archive it links, position independent and not, and finds each refusal under its
+# name. The archive has no data that calls could share, goes into a shared object, and needs memcpy and memset alone.
 set -eu
 cd "$(dirname "$0")/.."
 
@@ -33,6 +33,13 @@ fi
 cc -shared -Wl,-z,text -Wl,--whole-archive "$archive" -Wl,--no-whole-archive -o "$out/libseedspell.so"
 written=$(size "$archive" | awk 'NR > 1 { bytes += $2 + $3 } END { print bytes + 0 }')
 [ "$written" -eq 0 ] || fail "the archive has $written bytes of data that calls could share"
+# docs/CALLS.md has each refusal's name beside its number.
+names=0
+while read -r name number; do
+    grep -q "^| $number | \`$name\` |" docs/CALLS.md || fail "docs/CALLS.md does not name refusal $number $name"
+    names=$((names + 1))
+done < <(sed -n 's/^#define SEEDSPELL_REFUSED_\([A-Z_]*\) \([0-9]*\) .*/\1 \2/p' include/seedspell.h)
+[ "$names" -eq 8 ] || fail "the header has $names names of refusals"
 needed=$(nm -u "$archive" | sed -n 's/^ *U //p' | sort | tr '\n' ' ')
 [ "$needed" = "memcpy memset " ] || fail "the archive needs: $needed"
 echo "include/seedspell.h: as docs/CALLS.md says, in $languages"
