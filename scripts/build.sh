@@ -1,5 +1,6 @@
 # shellcheck shell=bash
-# Building what is missing or older than its source. Sourced by other scripts; its functions are called in the repository's root.
+# Building what is missing or older than its source. Sourced by other scripts; its functions are called in the
+# repository's root.
 
 # up_to_date FILE SOURCE..: whether FILE is there, and no source, file or folder, has changed since it was built. What
 # counts is when a source was put there, so that a copy that keeps an older time is seen too.
@@ -9,8 +10,9 @@ up_to_date() {
     [ -f "$file" ] && [ -z "$(find "$@" -cnewer "$file" -print -quit)" ]
 }
 
-# build WHAT FILE WORD..: has FILE, which is WHAT, made by `rt WORD..`, unless it is up to date with the crates. rt proves first what is
-# not proved yet; its progress goes to standard error. Two at once in one folder would disturb each other, so the second waits.
+# build WHAT FILE WORD..: has FILE, which is WHAT, made by `rt WORD..`, unless it is up to date with the crates. rt
+# proves first what is not proved yet; its progress goes to standard error. Two at once in one folder would disturb each
+# other, so the second waits.
 build() (
     set +e # each status is looked at here
     say() { echo "${0##*/}: $*" >&2; }
@@ -18,7 +20,7 @@ build() (
     shift 2
     up_to_date "$file" crates crates.txt && exit 0
     command -v rt >/dev/null 2>&1 || {
-        say "$what is not built, or older than its source, and rt, the command of the Rattle kit that builds it, is not on the PATH"
+        say "$what is not built, or older than its source, and rt, the command of the Rattle kit, is not on the PATH"
         exit 1
     }
     mkdir -p target || exit 1

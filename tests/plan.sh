@@ -1,6 +1,7 @@
 #!/usr/bin/env bash
 # Holds ./plan to what its --help says, on a program that is built: bash tests/plan.sh
-# Each case has the status that the run ends with, a file with all that it prints, and all that it says on standard error.
+# Each case has the status that the run ends with, a file with all that it prints, and all that it says on standard
+# error.
 set -u
 cd "$(dirname "$0")/.." || exit 1
 
@@ -14,16 +15,19 @@ mkdir -p "$out/folder" || exit 1
 
 tried=0
 failures=0
+fail() {
+    echo "tests/plan: $*" >&2
+    failures=$((failures + 1))
+}
 # try NAME STATUS PRINTED SAID COMMAND..
 try() {
-    local name=$1 wanted=$2 printed=$3 said=$4 status=0 held=1
+    local name=$1 wanted=$2 printed=$3 said=$4 status=0
     shift 4
     "$@" >"$out/printed" 2>"$out/said" || status=$?
-    [ "$status" -eq "$wanted" ] || { echo "tests/plan: $name ends with $status and not with $wanted" >&2; held=0; }
-    diff "$printed" "$out/printed" >&2 || { echo "tests/plan: $name prints something else" >&2; held=0; }
-    diff <(printf '%s' "$said") "$out/said" >&2 || { echo "tests/plan: $name says something else on standard error" >&2; held=0; }
     tried=$((tried + 1))
-    failures=$((failures + 1 - held))
+    [ "$status" -eq "$wanted" ] || fail "$name ends with $status and not with $wanted"
+    diff "$printed" "$out/printed" >&2 || fail "$name prints something else"
+    diff <(printf '%s' "$said") "$out/said" >&2 || fail "$name says something else on standard error"
 }
 
 text=crates/seedspell/stdin
@@ -32,9 +36,9 @@ sed 's/^(slack 100)/(slack 0)/' "$text" >"$out/slack-0"
 echo '(refused 2 0)' >"$out/refused"
 cat "$lines" "$out/refused" >"$out/both"
 cat "$lines" "$out/refused" "$lines" >"$out/three"
-./plan -h >"$out/usage" || failures=$((failures + 1))
+./plan -h >"$out/usage" || fail "-h does not end with 0"
 for part in '^Usage: ./plan ' '(refused N K)' 'The first run builds the program' '^Exit status: 0 '; do
-    grep -q -e "$part" "$out/usage" || { echo "tests/plan: --help does not have: $part" >&2; failures=$((failures + 1)); }
+    grep -q -e "$part" "$out/usage" || fail "--help does not have: $part"
 done
 unread='seedspell: standard input cannot be read
 '
@@ -72,5 +76,5 @@ try 'no room for several answers' 1 /dev/null "plan: $text:
 ${unwritten}plan: -:
 $unwritten" bash -c './plan "$0" - <"$0" >/dev/full' "$text"
 
-echo "./plan: $tried cases tried, $failures not as they should be"
+echo "./plan: $tried cases tried, $failures departures"
 [ "$failures" -eq 0 ]

@@ -1,6 +1,6 @@
 #!/usr/bin/env bash
-# Builds the sheet builder, target/examples/sheet, and before it the archive for C; each unless it is there and nothing that
-# it is made of has changed since. Several of these at once do not disturb each other: bash examples/sheet/build.sh
+# Builds the sheet builder, target/examples/sheet, and before it the archive for C; each unless it is there and nothing
+# that it is made of has changed since. Several of these at once do not disturb each other: bash examples/sheet/build.sh
 set -u
 cd "$(dirname "$0")/../.." || exit 1
 

@@ -1,7 +1,7 @@
 #!/usr/bin/env bash
 # Holds the sheet builder to its stored sheets, and to saying so where it cannot give one: bash examples/sheet/check.sh
-# A line of cases/list has a case's name, the tick, and the status that the run ends with; NAME.in is the input, NAME.out all
-# that is printed.
+# A line of cases/list has a case's name, the tick, and the status that the run ends with; NAME.in is the input,
+# NAME.out all that is printed.
 set -u
 cd "$(dirname "$0")/../.." || exit 1
 
@@ -55,7 +55,7 @@ for name in s refused-7; do
     gives_up "$name on a full disk" "the sheet cannot be written" full "$name"
     gives_up "$name with no standard output" "the sheet cannot be written" closed "$name"
 done
-gives_up "most-working-words in 12 MB" "there is no memory for the 4224033 working words" short_of_memory most-working-words
+gives_up "too little memory" "there is no memory for the 4224033 working words" short_of_memory most-working-words
 gives_up "input that is no list" "standard input has something other than numbers" no_numbers
 gives_up "a tick of 0" "the tick is a number" no_tick
 

@@ -1,6 +1,7 @@
 #!/usr/bin/env bash
 # Runs the sheet builder, and builds it first where that is needed: bash examples/sheet/run.sh TICK <LIST
-# TICK is the length of a tick in microseconds; sheet.c says more, and how it ends. Where it cannot be built the run ends with 2.
+# TICK is the length of a tick in microseconds; sheet.c says more, and how it ends. Where it cannot be built the run
+# ends with 2.
 set -u
 cd "$(dirname "$0")/../.." || exit 2
 

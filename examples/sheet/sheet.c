@@ -6,8 +6,8 @@
    ends between them; include/seedspell.h says which words those are.
 
    Ends with 0 where there is a plan, with 1 where the planner refuses the set (and the sheet says what to mend), with 2
-   where there is no whole sheet, since the input cannot be used, there is no memory to plan with, or the sheet cannot be
-   written: then standard error says which.
+   where there is no whole sheet, since the input cannot be used, there is no memory to plan with, or the sheet cannot
+   be written: then standard error says which.
 
    All arithmetic is in whole numbers. What is rounded is rounded up, so that no rounding makes a page promise too much.
    Energies are those of the jobs, as the set gives them: what is drawn while no job runs is in no word of a set, and so
@@ -230,8 +230,8 @@ static uint64_t plan_set(uint8_t *results)
         return returned;
     work = malloc(needed * sizeof *work);
     if (work == NULL) {
-        fprintf(stderr, "sheet: there is no memory for the %zu working words of %" PRIu32 " tasks at a slack of %" PRIu32 "\n",
-                needed, tasks(), set[0]);
+        fprintf(stderr, "sheet: there is no memory for the %zu working words of %" PRIu32 " tasks at slack %" PRIu32
+                "\n", needed, tasks(), set[0]);
         exit(2);
     }
     returned = seedspell_plan(set, set_len, plan, MOST_TASKS, work, needed, results, SEEDSPELL_RESULT_BYTES);

@@ -1,5 +1,5 @@
-/* The header as a caller has it, in C99 and in C++11 alike: every name of it is used, and the archive refuses with the number that
-   the name of each cause stands for. Ends with 0 if so, with 1 and a line for each that differs if not. */
+/* The header as a caller has it, in C99 and in C++11 alike: every name of it is used, and the archive refuses with the
+   number that the name of each cause stands for. Ends with 0 if so, with 1 and a line for each that differs if not. */
 
 #include "../../include/seedspell.h"    /* first, so that it needs nothing before it */
 
@@ -41,8 +41,8 @@ static void expect(const char *what, uint64_t returned, uint32_t number, uint32_
 {
     if (SEEDSPELL_REFUSAL(returned) == number && SEEDSPELL_SECOND(returned) == second)
         return;
-    printf("tests/header: %s: refusal %" PRIu32 " with %" PRIu32 ", not %" PRIu32 " with %" PRIu32 "\n", what, SEEDSPELL_REFUSAL(returned),
-           SEEDSPELL_SECOND(returned), number, second);
+    printf("tests/header: %s: refusal %" PRIu32 " with %" PRIu32 ", not %" PRIu32 " with %" PRIu32 "\n", what,
+           SEEDSPELL_REFUSAL(returned), SEEDSPELL_SECOND(returned), number, second);
     failures++;
 }
 
@@ -59,7 +59,7 @@ int main(void)
     change(0, 100);
     expect("one working word", plan_set(ROOM, 1, sizeof results), SEEDSPELL_REFUSED_WORKING_LIST_SHORT, WORK);
     expect("one plan word", plan_set(1, WORK, sizeof results), SEEDSPELL_REFUSED_RECEIVING_LIST_SHORT, 2);
-    expect("31 bytes for results", plan_set(ROOM, WORK, 31), SEEDSPELL_REFUSED_RECEIVING_LIST_SHORT, SEEDSPELL_RESULT_BYTES);
+    expect("31 bytes for results", plan_set(ROOM, WORK, 31), SEEDSPELL_REFUSED_RECEIVING_LIST_SHORT, 32);
     expect("S", plan_set(ROOM, WORK, sizeof results), 0, 0);
     /* The planner has filled 2 of the list's words, and those are the plan. */
     expect("the walk of all the room", walk_plan(ROOM), SEEDSPELL_REFUSED_BAD_WALK_PLAN, 2);
