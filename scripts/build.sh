@@ -7,7 +7,7 @@
 up_to_date() {
     local file=$1
     shift
-    [ -f "$file" ] && [ -z "$(find "$@" -cnewer "$file" -print -quit)" ]
+    [ -s "$file" ] && [ -z "$(find "$@" -cnewer "$file" -print -quit)" ]
 }
 
 # build WHAT FILE WORD..: has FILE, which is WHAT, made by `rt WORD..`, unless it is up to date with the crates. rt
@@ -39,6 +39,10 @@ build() (
     status=${PIPESTATUS[0]}
     [ "$status" -eq 0 ] || {
         say "rt $* ended with status $status, so $what is not built; target/build.log has all that it said"
+        exit 1
+    }
+    [ -s "$file" ] || {
+        say "rt $* ended well, but there is no $file; remove the folder target, and run this again"
         exit 1
     }
     touch -r target/build.began "$file"
