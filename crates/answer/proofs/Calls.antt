@@ -13,7 +13,7 @@ use Rattle.taskset.specs.Quantities.{problem}
 use Rattle.taskset.specs.Refusals.{number, second, NoneOk, check, Accepts, Refuses, readyChecks, plannerChecks, walkChecks}
 use Rattle.taskset.specs.declared.Refusal.{Refusal}
 use Rattle.taskset.specs.declared.Refusal.the-variants.{TooShort}
-use Rattle.taskset.specs.declared.Checked.the-variants.{Refused as NotGood}
+use Rattle.taskset.specs.declared.Checked.the-variants.{Good, Refused as NotGood}
 use Rattle.taskset.specs.declared.CopyAnswer.{CopyAnswer}
 use Rattle.taskset.specs.declared.CopyAnswer.the-variants.{Wrote, Refused as NotCopied}
 use Rattle.taskset.specs.declared.PlannerAnswer.the-variants.{Planned, Refused as NotPlanned}
@@ -68,6 +68,16 @@ set-refused s d d′ n r h put = (refusedLine (number r) (second r), steps.refus
 
 pub ready-refused : (s : List ℕ) (r : Refusal) → ReadyAnswers s planLent workLent (NotGood r) → Refuses (plannerChecks s planLent workLent) (number r) (second r)
 ready-refused s r h = refuses-front (readyChecks s planLent workLent) (check 7 (NoneOk (Fitting (problem s))) ∷ []) (number r) (second r) h
+
+-- What passes checks 2 to 6 with some words passes them with more.
+pub more-room : (s : List ℕ) (p w p′ w′ m n l : ℕ) → p ≤ p′ → w ≤ w′ → ReadyAnswers s p w (Good m n l) → ReadyAnswers s p′ w′ (Good m n l)
+more-room s p w p′ w′ m n l a b h =
+    let set = h .0 in (
+      (set .0, (set .1 .0, (set .1 .1 .0, ((λ k x. set .1 .1 .1 .0 k (omega (arith, x .0), x .1)), ((λ k x. set .1 .1 .1 .1 .0 k (omega (arith, x .0), x .1)), tt))))),
+      h .1,
+      h .2,
+      h .3,
+    )
 
 -- The plan list and the working list as the call lent them.
 module _ (s plan work plan′ work′ : List ℕ) (lp : length plan ≡ planLent) (lw : length work ≡ workLent) where

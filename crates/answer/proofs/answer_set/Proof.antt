@@ -14,7 +14,7 @@ use Rattle.planner.specs.Ready.{ReadyAnswers}
 use Rattle.answer.specs.Answer.{planLent, workLent}
 use Rattle.answer.specs.Steps.{PlanGiven}
 use Rattle.answer.proofs.Outputs.{tasks-few}
-use Rattle.answer.proofs.Calls.{set-refused, ready-refused, call-refused, call-planned}
+use Rattle.answer.proofs.Calls.{set-refused, ready-refused, more-room, call-refused, call-planned}
 use borrow.Author.Needs.{needs}
 use Rattle.answer.proofs.answer_set.Statement.{statement}
 use Rattle.answer.proofs.answer_set.Tie as tie
@@ -24,7 +24,8 @@ ready : (c : tie.After-rates) → let x = c .before .before in let a = x .before
     ReadyAnswers (now (a .set)) planLent workLent (Good (c .rates .given .0 .0) (c .rates .given .0 .1 .0) (c .rates .given .0 .1 .1 .0))
 ready c =
     let x = c .before .before in
-    subst (ReadyAnswers (now (x .before .before .args .set)) planLent workLent) (c .rates .given .1) (x .ready .ensures)
+    more-room (now (x .before .before .args .set)) _ _ planLent workLent _ _ _ (omega arith) (omega arith)
+    (subst (ReadyAnswers (now (x .before .before .args .set)) _ _) (c .rates .given .1) (x .ready .ensures))
 
 -- What the planner gave.
 abbrev at-rates : tie.After-plan-checked → tie.After-rates
