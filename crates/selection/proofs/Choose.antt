@@ -109,7 +109,7 @@ module _ (p : Problem) (d : ℕ) where
   covers : Covers (Fitting p) p d ℕ (spend (roundedTask p d)) (λ e. e)
   covers = record {
     uses = λ Q e f l. spends-of (roundedTask p d) (p .rates) (p .count) e Q (f .plan .above) (f .plan .below) l;
-    within = λ Q f. f .fits;
+    within = λ Q f. omega (arith, f .fits);
     sound = λ e Q size u w.
         let o = of-spends (roundedTask p d) (p .rates) (p .count) e Q u in
         record { plan = record { size = size; above = o .above; below = o .below }; fits = w };

@@ -127,7 +127,7 @@ module _ (p : Problem) where
       used-from : (a : ℕ) → a ≤ exponent (planEnergy p (fastest p))
           → ((b : ℕ) → a < b → b ≤ exponent (planEnergy p (fastest p)) → FallsShortOf (Fitting p) p G (2 ^ b)) → IsUsedOf (Fitting p) p G (usedFrom G a)
       unfolding usedFrom
-      used-from zero l h = record { first = exponent (planEnergy p (fastest p)); is-first = first-unit; tried = l; stops = inl refl; goes-on = λ b x y. h b x (omega arith) }
+      used-from zero l h = record { first = exponent (planEnergy p (fastest p)); is-first = first-unit; tried = l; stops = inl refl; goes-on = λ b x y. h b (omega arith) (omega arith) }
       used-from (suc a) l h = go (leb (threshold p) (G * leastEnergy (2 ^ suc a))) refl (used-from a (omega arith))
         where
           go : (t : Bool) → leb (threshold p) (G * leastEnergy (2 ^ suc a)) ≡ t
@@ -139,7 +139,7 @@ module _ (p : Problem) where
                 is-first = first-unit;
                 tried = l;
                 stops = inr (leastEnergy (2 ^ suc a), least-is (2 ^ suc a), leb-true _ _ e);
-                goes-on = λ b x y. h b x (omega arith);
+                goes-on = λ b x y. h b (omega arith) (omega arith);
               }
           go false e ih =
               ih (λ b x y.

@@ -41,7 +41,7 @@ module _ (Ok : List ℕ → Type 0) (p : Problem) (sized : (P : List ℕ) → Ok
           ⊎-elim
           (λ (z : b ≡ 0). omega arith)
           (λ q. le-of-suc-le-suc (lt-of-not-le (λ (x : a < b).
-          not-both G (2 ^ b) q (u .goes-on b x (omega (arith, v .tried, power-unique (planEnergy p (fastest p)) (u .first) (v .first) (u .is-first) (v .is-first)))))))
+          not-both G (2 ^ b) q (u .goes-on b (omega arith) (omega (arith, v .tried, power-unique (planEnergy p (fastest p)) (u .first) (v .first) (u .is-first) (v .is-first)))))))
           (v .stops)
 
   pub planned-unique : (G a b : ℕ) (P Q : List ℕ) → IsPlannedOf Ok p G a P → IsPlannedOf Ok p G b Q → (a ≡ b) × (P ≡ Q)
