@@ -94,7 +94,12 @@ rates-piece =
 pub script-piece : Piece scriptText ScriptOk (λ r. starts 40 r ≡ false) readScript
 script-piece =
     seq-piece mkScript scriptText ScriptOk (field-piece (bytes "(slack ")) (λ _ _. rates-piece)
-    (λ a b. refl) (λ a b d e. record { slack = d; rates = e .0; tasks = e .1 })
+    (λ a b. refl)
+    (λ a b d e. record {
+      slack = d;
+      rates = record { least = e .0 .least; most = omega (arith, e .0 .most); each = e .0 .each };
+      tasks = record { least = e .1 .least; most = omega (arith, e .1 .most); each = e .1 .each };
+    })
     (λ s d. (s .slack, (s .rates, s .tasks), d .slack, (d .rates, d .tasks), refl))
     (λ _ _. let t = some-tasks 2 in ((0 ∷ 0 ∷ [], t .0), (two, t .1))) (λ a b r _ _ _. refl)
 

@@ -86,7 +86,7 @@ module _ (s : List ℕ) (w : IsWhole listHead listExtra s) where
       let rates : List ℕ = each (rate listHead listExtra s) 1 m in
       let count : ℕ = taskCountPlace listHead m in
       let long : count < length s = omega (arith, w .size) in
-      rw (each-length (rate listHead listExtra s) 1 m, each-length (lineOf s) 0 n, all-lines)
+      rw (each-length (rate listHead listExtra s), each-length (lineOf s), all-lines)
       (ap (λ (l : List ℕ). slack s ∷ m ∷ rates ++ l) (sym (drop-cons s count 0 long)) ∙
       ap (λ (l : List ℕ). slack s ∷ m ∷ l) (row s (rate listHead listExtra s) 1 (λ j. refl) 1 m (omega arith)) ∙
       ap (λ (l : List ℕ). slack s ∷ l) (sym (drop-cons s 1 0 (omega arith))) ∙ sym (drop-cons s 0 0 (omega arith)))
