@@ -6,30 +6,23 @@ use mathlib.Core.List.{List, [], _∷_, _++_}
 use mathlib.Core.Logic.{inl, inr}
 use native.Mathlib.Omega.{arith}
 use lib.ListN.{length, drop}
-use Rattle.taskset.specs.Words.{listHead, listExtra}
-use Rattle.taskset.specs.Refusals.{number, second, IsShort, check, Accepts, Refuses, setChecks, walkChecks}
-use Rattle.taskset.specs.Calls.{code}
+use Rattle.layout.specs.declared.Layout.the-variants.{Ordinary}
+use Rattle.taskset.specs.Refusals.{number, second, Accepts, Refuses, roomCheck, walkChecks}
+use Rattle.taskset.specs.Calls.{code, SetAfter}
 use Rattle.taskset.specs.declared.Refusal.{Refusal}
-use Rattle.taskset.specs.declared.Refusal.the-variants.{TextDeparts, BadWord, NotAbove, TooLong, WorkShort, TooShort, NoPlan, BadPlan}
+use Rattle.taskset.specs.declared.Refusal.the-variants.{TooShort}
 use Rattle.taskset.specs.declared.Checked.the-variants.{Refused as NotGood}
 use Rattle.taskset.specs.declared.WalkAnswer.the-variants.{Kept, Missed, Refused as NotWalked}
-use Rattle.taskset.proofs.Checks.{accepts-join, refuses-front, refuses-back, not-both}
-use Rattle.taskset.proofs.Sets.{set-of}
-use Rattle.taskset.proofs.DemandThree.{keeps-iff-fits}
-use Rattle.walk.specs.Answers.{Walked, WalkReady}
+use Rattle.taskset.proofs.Checks.{accepts-next, refuses-next, refuses-before, not-both}
+use Rattle.taskset.proofs.Unique.{number-range}
+use Rattle.taskset.proofs.DemandThree.{keeps-iff-fits, walk-set}
+use Rattle.walk.specs.Answers.{Walked}
 use Rattle.capi.specs.Entry.{resultBytes, resultAt, resultSize, walkEntryChecks, WalkEntry}
 use Rattle.capi.proofs.Bytes.{result-value}
 
 -- No refusal is returned as 0.
 pub code-positive : (r : Refusal) → code r ≡ 0 → ⊥
-code-positive (TextDeparts o) e = omega arith
-code-positive (BadWord q) e = omega arith
-code-positive (NotAbove q) e = omega arith
-code-positive (TooLong q) e = omega arith
-code-positive (WorkShort w) e = omega arith
-code-positive (TooShort w) e = omega arith
-code-positive NoPlan e = omega arith
-code-positive (BadPlan k) e = omega arith
+code-positive r e = omega (arith, number-range r .0)
 
 module _ (s P d : List ℕ) where
   refused : (r : Refusal) (x : ℕ) → x ≡ code r → Refuses (walkEntryChecks s P (length d)) (number r) (second r) → WalkEntry s P d d x
@@ -40,9 +33,9 @@ module _ (s P d : List ℕ) where
   }
 
   -- A refusal of the walk's checks is the entry's.
-  pub ready-refused : (r : Refusal) (x : ℕ) → x ≡ code r → WalkReady s P (NotGood r) → WalkEntry s P d d x
+  pub ready-refused : (r : Refusal) (x : ℕ) → x ≡ code r → SetAfter (walkChecks s P) Ordinary s (NotGood r) → WalkEntry s P d d x
   ready-refused r x e h =
-      refused r x e (refuses-front (walkChecks s P) (check 6 (IsShort resultSize (length d)) ∷ []) (number r) (second r) h)
+      refused r x e (refuses-before (walkChecks s P) (roomCheck resultSize (length d)) (number r) (second r) h)
 
   -- After the checks the walk refuses nothing.
   pub walk-refused : (r : Refusal) → Accepts (walkChecks s P) → Walked s P (NotWalked r) → ⊥
@@ -51,17 +44,17 @@ module _ (s P d : List ℕ) where
   -- Too few result bytes, where the walk has an answer.
   pub results-short : (x : ℕ) → x ≡ code (TooShort 32) → Accepts (walkChecks s P) → length d < 32 → WalkEntry s P d d x
   results-short x e a l =
-      refused (TooShort 32) x e (refuses-back (walkChecks s P) (check 6 (IsShort resultSize (length d)) ∷ []) 6 32 a (inl (refl, (l, refl))))
+      refused (TooShort resultSize) x e (refuses-next (walkChecks s P) (roomCheck resultSize (length d)) resultSize a (l, refl))
 
   module _ (enough : 32 ≤ length d) (d′ : List ℕ) where
     accepts : Accepts (walkChecks s P) → Accepts (walkEntryChecks s P (length d))
-    accepts a = accepts-join (walkChecks s P) (check 6 (IsShort resultSize (length d)) ∷ []) a ((λ k h. omega (arith, h .0)), tt)
+    accepts a = accepts-next (walkChecks s P) (roomCheck resultSize (length d)) a (λ k h. omega (arith, h .0))
 
     pub entry-kept : (b i p : ℕ) → Walked s P (Kept b i p) → d′ ≡ resultBytes (1 ∷ b ∷ i ∷ p ∷ []) ++ drop 32 d → WalkEntry s P d d′ 0
     entry-kept b i p w e =
-        let set : Accepts (setChecks listHead listExtra s) = (w .answers .0 .0, (w .answers .0 .1 .0, (w .answers .0 .1 .1 .0, tt))) in
+        let set = walk-set s P (w .answers .0) in
         let load = keeps-iff-fits s set P .0 (w .owes .0) .fits in
-        let hyper = set-of listHead listExtra s set .hyper-range .1 in
+        let hyper = set .hyper-range .1 in
         let one : resultAt d′ 0 ≡ 1 = ap (λ (x : List ℕ). resultAt x 0) e ∙ result-value (1 ∷ b ∷ i ∷ p ∷ []) (drop 32 d) 0 (omega arith) (omega arith) in
         let busy : resultAt d′ 1 ≡ b = ap (λ (x : List ℕ). resultAt x 1) e ∙ result-value (1 ∷ b ∷ i ∷ p ∷ []) (drop 32 d) 1 (omega arith) (omega (arith, w .owes .1)) in
         record {

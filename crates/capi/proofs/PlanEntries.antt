@@ -7,18 +7,19 @@ use mathlib.Core.Logic.{inl, inr}
 use native.Mathlib.Omega.{arith}
 use lib.ListN.{length, getD, take, drop}
 use Rattle.selection.specs.Plan.{Fitting, planLoad}
-use Rattle.taskset.specs.Words.{listHead, listExtra, taskCount}
+use Rattle.layout.specs.Words.{taskCount}
+use Rattle.layout.specs.declared.Layout.the-variants.{Ordinary}
 use Rattle.taskset.specs.Quantities.{hyperPeriod, problem, reportedEnergy}
-use Rattle.taskset.specs.Refusals.{number, second, IsShort, NoneOk, Check, check, Accepts, Refuses, setChecks, readyChecks, lengthChecks}
+use Rattle.taskset.specs.Refusals.{number, second, Check, Accepts, Refuses, _▹_, roomCheck, noneCheck, readyChecks}
 use Rattle.taskset.specs.Calls.{code}
 use Rattle.taskset.specs.DemandThree.{PlanPromise}
 use Rattle.taskset.specs.declared.Refusal.{Refusal}
 use Rattle.taskset.specs.declared.Refusal.the-variants.{TooShort}
 use Rattle.taskset.specs.declared.PlannerAnswer.the-variants.{Planned, Refused as NotPlanned}
-use Rattle.taskset.proofs.Checks.{Without, accepts-front, accepts-back, accepts-join, refuses-front, refuses-back, refuses-rest}
-use Rattle.taskset.proofs.Sets.{set-of, plan-energy-small}
+use Rattle.taskset.proofs.Checks.{Without, without-by, accepts-but-last, accepts-next, refuses-next, refuses-before, refuses-back, refuses-rest, passed}
+use Rattle.taskset.proofs.Sets.{IsSet, plan-energy-small}
 use Rattle.taskset.proofs.Small.{planner-second-small}
-use Rattle.taskset.proofs.DemandThree.{refusal-owes}
+use Rattle.taskset.proofs.DemandThree.{refusal-owes, ready-set}
 use Rattle.planner.specs.Answers.{PlannerCall}
 use Rattle.capi.specs.Entry.{resultBytes, resultAt, resultSize, beforeSeven, planEntryChecks, PlanEntry}
 use Rattle.capi.proofs.Bytes.{result-value}
@@ -30,17 +31,20 @@ module _ (s plan work d : List ℕ) where
   ready = readyChecks s (length plan) (length work)
 
   abbrev six : Check
-  six = check 6 (IsShort resultSize (length d))
+  six = roomCheck resultSize (length d)
 
   abbrev seven : Check
-  seven = check 7 (NoneOk (Fitting (problem s)))
+  seven = noneCheck (Fitting (problem s))
 
-  -- The checks between 4 and 7.
-  abbrev lengths : List Check
-  lengths = lengthChecks s (length plan) (length work) ++ (six ∷ [])
+  abbrev before : List Check
+  before = beforeSeven s (length plan) (length work) (length d)
 
-  not-7 : Without 7 lengths
-  not-7 = ((λ e. omega arith), ((λ e. omega arith), ((λ e. omega arith), tt)))
+  -- The checks before 7 have 2, 3 and 4 among them, and no 7.
+  before-set : Accepts before → IsSet Ordinary s
+  before-set a = ready-set s (length plan) (length work) (accepts-but-last ready six a)
+
+  not-7 : Without 7 before
+  not-7 = without-by 7 before refl
 
   module _ (plan′ work′ : List ℕ) (p : plan′ ≡ plan) (w : work′ ≡ work) where
     -- Any refusal. It is not 0; and it is 7 with 0 only by the last check, as the second number does not reach into the first.
@@ -48,7 +52,7 @@ module _ (s plan work d : List ℕ) where
         → PlanEntry s plan work d plan′ work′ d x
     refused r x e small h =
         let none : x ≡ 0 → ⊥ = λ z. code-positive r (sym e ∙ z) in
-        let owes = refusal-owes s lengths not-7 (number r) (second r) h in
+        let owes = refusal-owes s before before-set not-7 (number r) (second r) h in
         record {
           gives = inr (r, h, e, p, w, refl);
           numbers = λ z. absurd (none z);
@@ -63,50 +67,49 @@ module _ (s plan work d : List ℕ) where
         → PlanEntry s plan work d plan′ work′ d x
     answer-refused r x e a enough c =
         refused r x e (planner-second-small s (length plan) (length work) (number r) (second r) (c .gives .0))
-        (refuses-back (beforeSeven s (length plan) (length work) (length d)) (seven ∷ []) (number r) (second r)
-        (accepts-join ready (six ∷ []) a ((λ k h. omega (arith, h .0)), tt))
+        (refuses-back before (seven ∷ []) (number r) (second r) (accepts-next ready six a (λ k h. omega (arith, h .0)))
         (refuses-rest ready (seven ∷ []) (number r) (second r) a (c .gives .0)))
 
   -- A refusal of checks 2 to 6 is the entry's, and its second number is small.
   pub ready-small : (r : Refusal) → Refuses ready (number r) (second r) → second r < 2 ^ 32
-  ready-small r h = planner-second-small s (length plan) (length work) (number r) (second r) (refuses-front ready (seven ∷ []) (number r) (second r) h)
+  ready-small r h = planner-second-small s (length plan) (length work) (number r) (second r) (refuses-before ready seven (number r) (second r) h)
 
   pub ready-refused : (r : Refusal) (x : ℕ) → x ≡ code r → Refuses ready (number r) (second r) → PlanEntry s plan work d plan work d x
-  ready-refused r x e h = refused plan work refl refl r x e (ready-small r h) (refuses-front ready (six ∷ seven ∷ []) (number r) (second r) h)
+  ready-refused r x e h = refused plan work refl refl r x e (ready-small r h) (refuses-before before seven (number r) (second r) (refuses-before ready six (number r) (second r) h))
 
   -- Too few result bytes, after checks 2 to 6.
   pub results-few : (x : ℕ) → x ≡ code (TooShort 32) → Accepts ready → length d < 32 → PlanEntry s plan work d plan work d x
-  results-few x e a l = refused plan work refl refl (TooShort 32) x e (omega arith) (refuses-back ready (six ∷ seven ∷ []) 6 32 a (inl (refl, (l, refl))))
+  results-few x e a l = refused plan work refl refl (TooShort resultSize) x e (omega arith) (refuses-before before seven 6 resultSize (refuses-next ready six resultSize a (l, refl)))
 
   -- A plan.
   module _ (enough : 32 ≤ length d) (plan′ work′ d′ : List ℕ) (unit load hyper energy : ℕ) (c : PlannerCall s plan work plan′ work′ (Planned unit load hyper energy))
       (bytes : d′ ≡ resultBytes (unit ∷ load ∷ hyper ∷ energy ∷ []) ++ drop 32 d) where
-    passed : Accepts ready
-    passed = accepts-front ready (seven ∷ []) (c .gives .0)
+    six-passes : Accepts before
+    six-passes = accepts-next ready six (accepts-but-last ready seven (c .gives .0)) (λ k h. omega (arith, h .0))
 
     accepted : Accepts (planEntryChecks s (length plan) (length work) (length d))
-    accepted = accepts-join ready (six ∷ seven ∷ []) passed ((λ k h. omega (arith, h .0)), accepts-back ready (seven ∷ []) (c .gives .0))
+    accepted = accepts-next before seven six-passes (passed 7 (ready ▹ seven) refl (c .gives .0))
 
     read : (k : ℕ) → k < 4 → getD (unit ∷ load ∷ hyper ∷ energy ∷ []) k 0 < 2 ^ 64 → resultAt d′ k ≡ getD (unit ∷ load ∷ hyper ∷ energy ∷ []) k 0
     read k l h = ap (λ (x : List ℕ). resultAt x k) bytes ∙ result-value (unit ∷ load ∷ hyper ∷ energy ∷ []) (drop 32 d) k l h
 
     pub entry-planned : PlanEntry s plan work d plan′ work′ d′ 0
     entry-planned =
-        let set = set-of listHead listExtra s (accepts-front (setChecks listHead listExtra s) lengths (accepts-front (beforeSeven s (length plan) (length work) (length d)) (seven ∷ []) accepted)) in
+        let set = before-set six-passes in
         let P = c .gives .1 .0 in
         let values = c .gives .1 .1 .values-are in
         let fits = c .gives .1 .1 .planned .chosen .ok in
         let load-is : load ≡ planLoad (problem s) P = cc in
-        let hyper-is : hyper ≡ hyperPeriod listHead listExtra s = cc in
+        let hyper-is : hyper ≡ hyperPeriod Ordinary s = cc in
         let energy-is : energy ≡ reportedEnergy s P = cc in
         let load-read : resultAt d′ 1 ≡ load = read 1 (omega arith) (omega (arith, load-is, fits .fits, set .hyper-range .1)) in
         let hyper-read : resultAt d′ 2 ≡ hyper = read 2 (omega arith) (omega (arith, hyper-is, set .hyper-range .1)) in
-        let energy-read : resultAt d′ 3 ≡ energy = read 3 (omega arith) (omega (arith, energy-is, plan-energy-small listHead listExtra s set P (fits .plan))) in
+        let energy-read : resultAt d′ 3 ≡ energy = read 3 (omega arith) (omega (arith, energy-is, plan-energy-small Ordinary s set P (fits .plan))) in
         record {
           gives = inl (Planned unit load hyper energy, accepted, c .gives, refl, bytes);
           numbers = λ z. c .numbers;
-          promise = λ z. subst (PlanPromise s (take (taskCount listHead s) plan′)) (sym energy-read) (c .owes);
+          promise = λ z. subst (PlanPromise s (take (taskCount Ordinary s) plan′)) (sym energy-read) (c .owes);
           load-is = λ z. load-read ∙ load-is ∙ ap (planLoad (problem s)) (sym (c .gives .1 .2 .front));
           hyper-is = λ z. hyper-read ∙ hyper-is;
-          seven-iff = ((λ z. absurd (omega arith)), (λ n. absurd (n .1 (take (taskCount listHead s) plan′) (c .owes .keeps))));
+          seven-iff = ((λ z. absurd (omega arith)), (λ n. absurd (n .1 (take (taskCount Ordinary s) plan′) (c .owes .keeps))));
         }

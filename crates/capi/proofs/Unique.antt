@@ -2,23 +2,22 @@
 -- Assumes nothing.
 use Prim.Native.Nat.{ℕ}
 use mathlib.Core.Path.{_≡_, sym, ap, _∙_}
-use mathlib.Core.List.{List, [], _∷_, _++_}
+use mathlib.Core.List.{List, _++_}
 use mathlib.Core.Logic.{⊎-elim}
 use lib.ListN.{length, drop}
 use Rattle.selection.specs.Plan.{Fitting}
 use Rattle.taskset.specs.Quantities.{problem}
-use Rattle.taskset.specs.Refusals.{number, second, IsShort, NoneOk, check, readyChecks, walkChecks}
+use Rattle.taskset.specs.Refusals.{number, second, roomCheck, noneCheck, readyChecks, walkChecks}
 use Rattle.taskset.specs.Calls.{code, plannerValues, walkValues}
 use Rattle.taskset.specs.declared.PlannerAnswer.{PlannerAnswer}
 use Rattle.taskset.specs.declared.WalkAnswer.{WalkAnswer}
-use Rattle.taskset.proofs.Checks.{AllSingle, single-join, not-both}
-use Rattle.taskset.proofs.Unique.{short-single, none-single, walk-single, planner-unique, walk-unique, refusal-unique}
-use Rattle.planner.proofs.Unique.{ready-single}
-use Rattle.capi.specs.Entry.{resultBytes, resultSize, walkEntryChecks, WalkEntryGives, planEntryChecks, PlanEntryGives}
+use Rattle.taskset.proofs.Checks.{AllSingle, not-both}
+use Rattle.taskset.proofs.Unique.{short-single, none-single, single-next, ready-single, walk-single, planner-unique, walk-unique, refusal-unique}
+use Rattle.capi.specs.Entry.{resultBytes, resultSize, walkEntryChecks, WalkEntryGives, beforeSeven, planEntryChecks, PlanEntryGives}
 
 entry-single : (s P : List ℕ) (size : ℕ) → AllSingle (walkEntryChecks s P size)
 entry-single s P size =
-    single-join (walkChecks s P) (check 6 (IsShort resultSize size) ∷ []) (walk-single s P) (short-single resultSize size, tt)
+    single-next (walkChecks s P) (roomCheck resultSize size) (walk-single s P) (short-single resultSize size)
 
 pub walk-entry-unique : (s P d d₁ d₂ : List ℕ) (x y : ℕ) → WalkEntryGives s P d d₁ x → WalkEntryGives s P d d₂ y → (x ≡ y) × (d₁ ≡ d₂)
 walk-entry-unique s P d d₁ d₂ x y =
@@ -38,8 +37,9 @@ walk-entry-unique s P d d₁ d₂ x y =
 -- ---- the planner
 plan-entry-single : (s : List ℕ) (planLength workLength size : ℕ) → AllSingle (planEntryChecks s planLength workLength size)
 plan-entry-single s pl wl size =
-    single-join (readyChecks s pl wl) (check 6 (IsShort resultSize size) ∷ check 7 (NoneOk (Fitting (problem s))) ∷ []) (ready-single s pl wl)
-    (short-single resultSize size, (none-single (Fitting (problem s)), tt))
+    single-next (beforeSeven s pl wl size) (noneCheck (Fitting (problem s)))
+    (single-next (readyChecks s pl wl) (roomCheck resultSize size) (ready-single s pl wl) (short-single resultSize size))
+    (none-single (Fitting (problem s)))
 
 pub record SameEntry (x y : ℕ) (plan₁ work₁ results₁ plan₂ work₂ results₂ : List ℕ) : Type 0 where
   pub returned : x ≡ y

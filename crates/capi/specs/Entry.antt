@@ -5,9 +5,10 @@ use mathlib.Core.List.{List, [], _∷_, _++_}
 use mathlib.Core.Logic.{_⊎_, _↔_}
 use lib.ListN.{length, getD, take, drop}
 use Rattle.selection.specs.Plan.{Fitting, planLoad}
-use Rattle.taskset.specs.Words.{listHead, listExtra, rateCount, taskCount}
+use Rattle.layout.specs.Words.{rateCount, taskCount}
+use Rattle.layout.specs.declared.Layout.the-variants.{Ordinary}
 use Rattle.taskset.specs.Quantities.{hyperPeriod, problem}
-use Rattle.taskset.specs.Refusals.{number, second, IsShort, NoneOk, Check, check, Accepts, Refuses, readyChecks, walkChecks}
+use Rattle.taskset.specs.Refusals.{number, second, Check, Accepts, Refuses, _▹_, roomCheck, noneCheck, readyChecks, walkChecks}
 use Rattle.taskset.specs.Calls.{code, plannerValues, walkValues, PlannerGives, WalkAnswers}
 use Rattle.taskset.specs.DemandThree.{Keeps, PlanPromise, NoneKeeps}
 use Rattle.taskset.specs.declared.Refusal.{Refusal}
@@ -42,7 +43,7 @@ resultSize = 32
 
 -- THE WALK FROM C.
 abbrev pub walkEntryChecks : List ℕ → List ℕ → ℕ → List Check
-walkEntryChecks s P size = walkChecks s P ++ (check 6 (IsShort resultSize size) ∷ [])
+walkEntryChecks s P size = walkChecks s P ▹ roomCheck resultSize size
 
 -- "A C call returns 0, or refusal number × 2^32 + the second number." results and results′ are the lent bytes before and after: on
 -- success only the first 32 change, on refusal none.
@@ -61,10 +62,10 @@ pub record WalkEntry (s P results results′ : List ℕ) (returned : ℕ) : Type
 -- THE PLANNER FROM C. Its own checks but 7, then the result bytes, then 7. The lengths are those of the plan list, the working list and the
 -- result bytes.
 abbrev pub beforeSeven : List ℕ → ℕ → ℕ → ℕ → List Check
-beforeSeven s planLength workLength size = readyChecks s planLength workLength ++ (check 6 (IsShort resultSize size) ∷ [])
+beforeSeven s planLength workLength size = readyChecks s planLength workLength ▹ roomCheck resultSize size
 
 abbrev pub planEntryChecks : List ℕ → ℕ → ℕ → ℕ → List Check
-planEntryChecks s planLength workLength size = beforeSeven s planLength workLength size ++ (check 7 (NoneOk (Fitting (problem s))) ∷ [])
+planEntryChecks s planLength workLength size = beforeSeven s planLength workLength size ▹ noneCheck (Fitting (problem s))
 
 -- plan, work and results are the lists as lent, plan′, work′ and results′ as given back.
 abbrev pub PlanEntryGives : (s plan work results plan′ work′ results′ : List ℕ) → ℕ → Type 0
@@ -79,8 +80,8 @@ PlanEntryGives s plan work results plan′ work′ results′ returned =
 -- plan keeps every deadline for ever.
 pub record PlanEntry (s plan work results plan′ work′ results′ : List ℕ) (returned : ℕ) : Type 0 where
   pub gives : PlanEntryGives s plan work results plan′ work′ results′ returned
-  pub numbers : returned ≡ 0 → (t : ℕ) → t < taskCount listHead s → RateNumber (rateCount listHead s) (getD plan′ t 0)
-  pub promise : returned ≡ 0 → PlanPromise s (take (taskCount listHead s) plan′) (resultAt results′ 3)
-  pub load-is : returned ≡ 0 → resultAt results′ 1 ≡ planLoad (problem s) (take (taskCount listHead s) plan′)
-  pub hyper-is : returned ≡ 0 → resultAt results′ 2 ≡ hyperPeriod listHead listExtra s
+  pub numbers : returned ≡ 0 → (t : ℕ) → t < taskCount Ordinary s → RateNumber (rateCount Ordinary s) (getD plan′ t 0)
+  pub promise : returned ≡ 0 → PlanPromise s (take (taskCount Ordinary s) plan′) (resultAt results′ 3)
+  pub load-is : returned ≡ 0 → resultAt results′ 1 ≡ planLoad (problem s) (take (taskCount Ordinary s) plan′)
+  pub hyper-is : returned ≡ 0 → resultAt results′ 2 ≡ hyperPeriod Ordinary s
   pub seven-iff : (returned ≡ 7 * 2 ^ 32) ↔ (Accepts (beforeSeven s (length plan) (length work) (length results)) × NoneKeeps s)

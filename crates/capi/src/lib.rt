@@ -18,16 +18,7 @@ fn code_of(r: Refusal) -> u64
     requires { ⌜ second r < 2 ^ 32 ⌝ }
     ensures { λ x. ⌜ x ≡ code r ⌝ }
 {
-    match r {
-        Refusal::TextDeparts(o) => 4_294_967_296 + o as u64,
-        Refusal::BadWord(q) => 8_589_934_592 + q as u64,
-        Refusal::NotAbove(q) => 12_884_901_888 + q as u64,
-        Refusal::TooLong(q) => 17_179_869_184 + q as u64,
-        Refusal::WorkShort(w) => 21_474_836_480 + w as u64,
-        Refusal::TooShort(w) => 25_769_803_776 + w as u64,
-        Refusal::NoPlan => 30_064_771_072,
-        Refusal::BadPlan(k) => 34_359_738_368 + k as u64,
-    }
+    taskset::number_of(r) * 4_294_967_296 + taskset::second_of(r)
 }
 
 // Puts the eight bytes of v, lowest first, at a place of d.

@@ -7,33 +7,36 @@ use native.Mathlib.Omega.{arith}
 use lib.ListN.{length}
 use Rattle.numbers.specs.Numbers.{ceil}
 use Rattle.numbers.proofs.Rounding.{ceil-least}
-use Rattle.taskset.specs.Words.{word, periodPlace, energyPlace, rate, period, cycles, energy}
+use Rattle.layout.specs.Words.{mostRates, mostTasks, extraSize, word, ratePlace, periodPlace, cyclesPlace, energyPlace, rate, period, cycles, energy}
+use Rattle.layout.specs.declared.Layout.{Layout}
 use Rattle.checks.specs.Steps.{OfTask}
-use Rattle.taskset.proofs.Sets.{set-of}
+use Rattle.layout.proofs.Whole.{in-list}
 
-pub record Located (head extra m t : ℕ) (s : List ℕ) : Type 0 where
-  pub few-rates : m ≤ 8
-  pub few-tasks : t ≤ 32
-  pub inside : periodPlace head extra m t + 2 ≤ length s
-  pub rates-inside : head + m < length s
-  pub energies-inside : (r : ℕ) → r ≤ m → energyPlace head extra m t r < length s
-  pub period-is : word s (periodPlace head extra m t) ≡ period head extra s t
-  pub cycles-is : word s (periodPlace head extra m t + 1) ≡ cycles head extra s t
-  pub energy-is : (r : ℕ) → word s (energyPlace head extra m t r) ≡ energy head extra s t r
-  pub cycles-range : (1 ≤ cycles head extra s t) × (cycles head extra s t ≤ 4000000000)
-  pub rate-range : (r : ℕ) → 1 ≤ r → r ≤ m → (1 ≤ rate head extra s r) × (rate head extra s r ≤ 1000000)
+pub record Located (layout : Layout) (m t : ℕ) (s : List ℕ) : Type 0 where
+  pub few-rates : m ≤ mostRates
+  pub few-tasks : t ≤ mostTasks
+  pub period-inside : periodPlace layout m t < length s
+  pub cycles-inside : cyclesPlace layout m t < length s
+  pub rates-inside : (r : ℕ) → r ≤ m → ratePlace layout r < length s
+  pub energies-inside : (r : ℕ) → r ≤ m → energyPlace layout m t r < length s
+  pub period-is : word s (periodPlace layout m t) ≡ period layout s t
+  pub cycles-is : word s (cyclesPlace layout m t) ≡ cycles layout s t
+  pub energy-is : (r : ℕ) → word s (energyPlace layout m t r) ≡ energy layout s t r
+  pub cycles-range : (1 ≤ cycles layout s t) × (cycles layout s t ≤ 4000000000)
+  pub rate-range : (r : ℕ) → 1 ≤ r → r ≤ m → (1 ≤ rate layout s r) × (rate layout s r ≤ 1000000)
 
-pub located : {head extra m t : ℕ} {s : List ℕ} → OfTask head extra m t s → Located head extra m t s
-located {head} {extra} {m} {t} {s} o =
-    let w = set-of head extra s (o .set) .whole in
-    let last = w .in-list t 1 (o .task) (omega arith) in
-    subst (λ (x : ℕ). Located head extra x t s) (sym (o .counted))
+pub located : {layout : Layout} {m t : ℕ} {s : List ℕ} → OfTask layout m t s → Located layout m t s
+located {layout} {m} {t} {s} o =
+    let w = o .set .whole in
+    let last = in-list layout s w t 1 (o .task) (omega arith) in
+    subst (λ (x : ℕ). Located layout x t s) (sym (o .counted))
     (record {
       few-rates = w .rates-range .1;
       few-tasks = omega (arith, o .task, w .tasks-range .1);
-      inside = omega arith;
-      rates-inside = omega (arith, w .size);
-      energies-inside = λ r l. w .in-list t (1 + extra + r) (o .task) (omega arith);
+      period-inside = omega arith;
+      cycles-inside = last;
+      rates-inside = λ r l. omega (arith, w .size);
+      energies-inside = λ r l. in-list layout s w t (1 + extraSize layout + r) (o .task) (omega arith);
       period-is = refl;
       cycles-is = refl;
       energy-is = λ r. refl;

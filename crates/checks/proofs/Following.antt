@@ -11,38 +11,39 @@ use lib.ListN.{length}
 use Rattle.numbers.specs.Numbers.{gcd, lcm, running}
 use Rattle.numbers.proofs.Divisors.{gcd-positive}
 use Rattle.numbers.proofs.Multiples.{running-more, running-positive}
-use Rattle.taskset.specs.Words.{word, taskSize, periodPlace, period}
+use Rattle.layout.specs.Words.{word, taskSize, periodPlace, period}
+use Rattle.layout.specs.declared.Layout.{Layout}
 use Rattle.taskset.specs.Quantities.{hyperLimit}
 use Rattle.checks.specs.Steps.{HasTasks, Passed}
 
-module _ (head extra m n : ℕ) (s : List ℕ) (h : HasTasks head extra m n s) (t : ℕ) (i : t < n) (at : ℕ) (a : at ≡ periodPlace head extra m t) where
-  pub task-in : at + taskSize extra m ≤ length s
-  task-in = omega (arith, h .words, mul-le-mul-right (taskSize extra m) i, mul-comm (suc t) (taskSize extra m), mul-suc (taskSize extra m) t, mul-comm (taskSize extra m) t)
+module _ (layout : Layout) (m n : ℕ) (s : List ℕ) (h : HasTasks layout m n s) (t : ℕ) (i : t < n) (at : ℕ) (a : at ≡ periodPlace layout m t) where
+  pub task-in : at + taskSize layout m ≤ length s
+  task-in = omega (arith, h .words, mul-le-mul-right (taskSize layout m) i, mul-comm (suc t) (taskSize layout m), mul-suc (taskSize layout m) t, mul-comm (taskSize layout m) t)
 
-  pub next-place : at + taskSize extra m ≡ periodPlace head extra m (t + 1)
-  next-place = omega (arith, ap (λ (x : ℕ). x * taskSize extra m) (add-one t), mul-comm (suc t) (taskSize extra m), mul-suc (taskSize extra m) t, mul-comm (taskSize extra m) t)
+  pub next-place : at + taskSize layout m ≡ periodPlace layout m (t + 1)
+  next-place = omega (arith, ap (λ (x : ℕ). x * taskSize layout m) (add-one t), mul-comm (suc t) (taskSize layout m), mul-suc (taskSize layout m) t, mul-comm (taskSize layout m) t)
 
-  period-is : word s at ≡ period head extra s t
-  period-is = ap (word s) a ∙ ap (λ (x : ℕ). word s (periodPlace head extra x t)) (h .counted)
+  period-is : word s at ≡ period layout s t
+  period-is = ap (word s) a ∙ ap (λ (x : ℕ). word s (periodPlace layout x t)) (h .counted)
 
-  module _ (l g : ℕ) (e : l ≡ running (period head extra s) t) (d : g ≡ gcd l (word s at)) where
-    next-is : l / g * word s at ≡ running (period head extra s) (suc t)
+  module _ (l g : ℕ) (e : l ≡ running (period layout s) t) (d : g ≡ gcd l (word s at)) where
+    next-is : l / g * word s at ≡ running (period layout s) (suc t)
     unfolding lcm
-    next-is = rw (d, e, period-is) (sym (running-more (period head extra s) t))
+    next-is = rw (d, e, period-is) (sym (running-more (period layout s) t))
 
     pub divisor-positive : 1 ≤ l → 1 ≤ g
     divisor-positive o = omega (arith, gcd-positive l (word s at) o)
 
-    pub next-running : l / g * word s at ≡ running (period head extra s) (t + 1)
+    pub next-running : l / g * word s at ≡ running (period layout s) (t + 1)
     next-running = rw (add-one t) next-is
 
     pub next-positive : 1 ≤ l / g * word s at
-    next-positive = omega (arith, next-is, running-positive (period head extra s) n (λ t l. h .periods t l .0) (suc t) i)
+    next-positive = omega (arith, next-is, running-positive (period layout s) n (λ t l. h .periods t l .0) (suc t) i)
 
-    pub next-passed : hyperLimit < l / g * word s at → Passed head extra s t
+    pub next-passed : hyperLimit < l / g * word s at → Passed layout s t
     next-passed o = omega (arith, next-is)
 
-    pub next-within : l / g * word s at ≤ hyperLimit → Passed head extra s t → ⊥
+    pub next-within : l / g * word s at ≤ hyperLimit → Passed layout s t → ⊥
     next-within o p = omega (arith, next-is)
 
 -- A running multiple within the limit times a word fits 64 bits.

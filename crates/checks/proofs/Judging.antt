@@ -1,115 +1,106 @@
 -- From what the searches of the code find to what checks 2, 3 and 4 answer.
 -- Assumes nothing.
-use Prim.Native.Nat.{ℕ, _+_, _≤_, _<_}
+use Prim.Native.Nat.{ℕ, _≤_, _<_}
 use mathlib.Core.Path.{_≡_, refl, ap, _∙_}
 use mathlib.Core.Bool.{true, false}
-use mathlib.Core.List.{List}
+use mathlib.Core.List.{List, [], _∷_}
 use mathlib.Core.Logic.{inl, inr, ⊎-elim}
 use native.Mathlib.Omega.{arith}
 use lib.ListN.{length}
 use Rattle.numbers.specs.Numbers.{running}
 use Rattle.numbers.proofs.Tests.{bool-cases}
-use Rattle.taskset.specs.Words.{word, rateCount, taskCount, wordCount, taskCountPlace, periodPlace, period, kindAt, allows}
-use Rattle.taskset.specs.Refusals.{WordFault, IsBadWord, RateFault}
-use Rattle.taskset.specs.Calls.{ShapeAnswers, SetAnswers}
+use Rattle.layout.specs.Words.{headSize, mostRates, mostTasks, rateCount, taskCount, wordCount, ratePlace, taskCountPlace, periodPlace, period, kindAt, allows, OutOfRange, WordFault}
+use Rattle.taskset.specs.Refusals.{number, second, IsBadWord, RateFault, IsTooLong, Check, Passes, Accepts, _▹_, wordCheck, wordChecks, hyperCheck}
+use Rattle.taskset.specs.Calls.{CountsAfter, SetAfter}
 use Rattle.numbers.specs.Search.{Found}
-use Rattle.checks.specs.Steps.{Bad, Falls, HasTasks, Followed}
-use Rattle.taskset.specs.declared.Refusal.the-variants.{BadWord, NotAbove, TooLong}
+use Rattle.checks.specs.Steps.{Falls, HasTasks, Followed}
+use Rattle.taskset.specs.declared.Refusal.the-variants.{BadWord, NotAbove}
 use Rattle.taskset.specs.declared.Shape.the-variants.{Whole, Refused as NotWhole}
+use Rattle.taskset.specs.declared.Checked.{Checked}
 use Rattle.taskset.specs.declared.Checked.the-variants.{Good, Refused as NotGood}
-use Rattle.taskset.proofs.Checks.{no-word-fault}
-use Rattle.taskset.proofs.Whole.{IsWhole, whole-of, rates-in, tasks-in}
+use Rattle.taskset.proofs.Checks.{no-word-fault, accepts-join, refuses-back}
+use Rattle.layout.proofs.Whole.{whole-of, rates-in, tasks-in}
+use Rattle.layout.specs.declared.Layout.{Layout}
 
-module _ (head extra : ℕ) (s : List ℕ) (b : ℕ) (found : Found (Bad head extra s) 0 (length s) b) where
+module _ (layout : Layout) (s : List ℕ) (b : ℕ) (found : Found (OutOfRange layout s) 0 (length s) b) where
   -- ---- check 2
   -- no word before the place found is at fault
-  before-found : (j : ℕ) → j < b → j < length s → WordFault head extra s j → ⊥
+  before-found : (j : ℕ) → j < b → j < length s → WordFault layout s j → ⊥
   before-found j l h f = ⊎-elim (λ w. found .none j (omega arith) l (w .1)) (λ w. absurd (omega arith)) f
 
-  pub bad-word : b < length s → ShapeAnswers head extra s (NotWhole (BadWord b))
+  pub bad-word : b < length s → CountsAfter (wordChecks layout s) layout s (NotWhole (BadWord b))
   bad-word h = inl (refl, record { here = inl (h, found .hit h); before = λ j l f. before-found j l (omega arith) f })
 
   module _ (none : length s ≤ b) where
-    pub missing-word : length s < wordCount head extra s → ShapeAnswers head extra s (NotWhole (BadWord (length s)))
+    pub missing-word : length s < wordCount layout s → CountsAfter (wordChecks layout s) layout s (NotWhole (BadWord (length s)))
     missing-word h = inl (refl, record { here = inr (refl, h); before = λ j l f. before-found j (omega arith) l f })
 
-    judged : (q : ℕ) → q < length s → allows (kindAt head extra s q) (word s q) ≡ true
+    judged : (q : ℕ) → q < length s → allows s q (kindAt layout s q) ≡ true
     judged q h =
         ⊎-elim
-        (λ (a : allows (kindAt head extra s q) (word s q) ≡ true). a)
-        (λ (a : allows (kindAt head extra s q) (word s q) ≡ false). absurd (found .none q (omega arith) (omega arith) a))
-        (bool-cases (allows (kindAt head extra s q) (word s q)))
+        (λ (a : allows s q (kindAt layout s q) ≡ true). a)
+        (λ (a : allows s q (kindAt layout s q) ≡ false). absurd (found .none q (omega arith) (omega arith) a))
+        (bool-cases (allows s q (kindAt layout s q)))
 
-    pub rates-range : head < length s → (2 ≤ rateCount head s) × (rateCount head s ≤ 8)
-    rates-range = rates-in head extra s judged
+    pub rates-range : headSize layout < length s → (2 ≤ rateCount layout s) × (rateCount layout s ≤ mostRates)
+    rates-range = rates-in layout s judged
 
-    pub tasks-range : taskCountPlace head (rateCount head s) < length s → (1 ≤ taskCount head s) × (taskCount head s ≤ 32)
-    tasks-range = tasks-in head extra s judged
+    pub tasks-range : taskCountPlace layout (rateCount layout s) < length s → (1 ≤ taskCount layout s) × (taskCount layout s ≤ mostTasks)
+    tasks-range = tasks-in layout s judged
 
-    module _ (enough : wordCount head extra s ≤ length s) where
-      words-pass : (q : ℕ) → IsBadWord head extra s q → ⊥
+    module _ (enough : wordCount layout s ≤ length s) where
+      words-pass : (q : ℕ) → IsBadWord layout s q → ⊥
       words-pass q h =
           ⊎-elim (λ w. before-found q (omega (arith, w .0)) (w .0) (h .here)) (λ w. absurd (omega arith)) (h .here)
 
       -- ---- check 3
-      module _ (f : ℕ) (fall : Found (Falls s) (head + 2) (taskCountPlace head (rateCount head s)) f) where
-        falls-before : (j : ℕ) → j < f → RateFault head extra s j → ⊥
+      module _ (f : ℕ) (fall : Found (Falls s) (ratePlace layout 2) (taskCountPlace layout (rateCount layout s)) f) where
+        falls-before : (j : ℕ) → j < f → RateFault layout s j → ⊥
         falls-before j l r = fall .none j (r .0) l (r .2)
 
-        pub not-above : f < taskCountPlace head (rateCount head s) → ShapeAnswers head extra s (NotWhole (NotAbove f))
+        pub not-above : f < taskCountPlace layout (rateCount layout s) → CountsAfter (wordChecks layout s) layout s (NotWhole (NotAbove f))
         not-above h = inr (words-pass, inl (refl, record { here = (fall .from, omega arith, fall .hit h); before = falls-before }))
 
-        pub is-shape : taskCountPlace head (rateCount head s) ≤ f → ShapeAnswers head extra s (Whole (rateCount head s) (taskCount head s))
+        pub is-shape : taskCountPlace layout (rateCount layout s) ≤ f → CountsAfter (wordChecks layout s) layout s (Whole (rateCount layout s) (taskCount layout s))
         is-shape h = ((words-pass, ((λ q r. falls-before q (omega (arith, r .here .1)) (r .here)), tt)), refl, refl)
 
--- ---- check 4, after 2 and 3
-module _ (head extra : ℕ) (s : List ℕ) (m n : ℕ) (shape : ShapeAnswers head extra s (Whole m n)) where
-  whole : IsWhole head extra s
-  whole = whole-of head extra s (no-word-fault head extra s (shape .0 .0))
+-- ---- check 4
+module _ (layout : Layout) (s : List ℕ) (m n : ℕ) where
+  -- What it asks, from the check before it.
+  pub has-tasks : Passes (wordCheck layout s) → m ≡ rateCount layout s → n ≡ taskCount layout s → HasTasks layout m n s
+  has-tasks pass a b =
+      let whole = whole-of layout s (no-word-fault layout s pass) in
+      record {
+        rates = omega (arith, a, whole .rates-range .1);
+        counted = a;
+        tasks = omega (arith, b, whole .tasks-range .1);
+        numbered = b;
+        words = rw (a, b) (omega (arith, whole .size));
+        periods = λ t l. whole .period-range t (omega (arith, b));
+      }
 
-  pub counts-range : (m ≤ 8) × (n ≤ 32)
-  counts-range = (omega (arith, shape .1, whole .rates-range .1), omega (arith, shape .2, whole .tasks-range .1))
+  module _ (h : HasTasks layout m n s) (t v : ℕ) (followed : Followed layout n s t v) where
+    pub too-long : t < n → IsTooLong layout s (periodPlace layout m t)
+    too-long l = (
+      t,
+      record {
+        here = (omega (arith, h .numbered), followed .tasks .hit l);
+        before = λ j l p. followed .tasks .none j (omega arith) l (p .1);
+      },
+      ap (λ (x : ℕ). periodPlace layout x t) (h .counted),
+    )
 
-  pub has-tasks : head ≤ 8 → extra ≤ 8 → HasTasks head extra m n s
-  has-tasks a b = record {
-    heads = a;
-    extras = b;
-    rates = counts-range .0;
-    counted = shape .1;
-    tasks = counts-range .1;
-    words = rw (shape .1, shape .2) (omega (arith, whole .size));
-    periods = λ t l. whole .period-range t (omega (arith, shape .2));
-  }
-
-  module _ (t v : ℕ) (followed : Followed head extra n s t v) where
-    pub too-long : t < n → SetAnswers head extra s (NotGood (TooLong (periodPlace head extra m t)))
-    too-long h =
-        inr (
-          shape .0 .0,
-          inr (
-            shape .0 .1 .0,
-            inl (
-              refl,
-              (
-                t,
-                record {
-                  here = (omega (arith, shape .2), followed .tasks .hit h);
-                  before = λ j l p. followed .tasks .none j (omega arith) l (p .1);
-                },
-                ap (λ (x : ℕ). periodPlace head extra x t) (shape .1),
-              ),
-            ),
-          ),
+    pub is-good : n ≤ t → SetAfter (hyperCheck layout s ∷ []) layout s (Good m n v)
+    is-good l =
+        let e : t ≡ taskCount layout s = omega (arith, h .numbered, followed .tasks .to) in (
+          ((λ q w. followed .tasks .none (w .0) (omega arith) (omega (arith, w .1 .here .0, h .numbered)) (w .1 .here .1)), tt),
+          h .counted,
+          h .numbered,
+          followed .value ∙ ap (running (period layout s)) e,
         )
 
-    pub is-good : n ≤ t → SetAnswers head extra s (Good m n v)
-    is-good h =
-        let e : t ≡ taskCount head s = omega (arith, shape .2, followed .tasks .to) in (
-          (
-            shape .0 .0,
-            (shape .0 .1 .0, ((λ q w. followed .tasks .none (w .0) (omega arith) (omega (arith, w .1 .here .0, shape .2)) (w .1 .here .1)), tt)),
-          ),
-          shape .1,
-          shape .2,
-          followed .value ∙ ap (running (period head extra s)) e,
-        )
+-- ---- check 4 after others
+module _ (cs : List Check) (layout : Layout) (s : List ℕ) where
+  pub after : Accepts cs → (a : Checked) → SetAfter (hyperCheck layout s ∷ []) layout s a → SetAfter (cs ▹ hyperCheck layout s) layout s a
+  after pass (Good m n v) h = (accepts-join cs (hyperCheck layout s ∷ []) pass (h .0), h .1, h .2, h .3)
+  after pass (NotGood r) h = refuses-back cs (hyperCheck layout s ∷ []) (number r) (second r) pass h

@@ -1,16 +1,18 @@
-// The checks of a task set in code, and the readers of its words and quantities. What each says is defined in `taskset`. A list has
-// `head` words before the rate count, and `extra` words between a task's cycles and its energies.
+// The checks of a task set in code, and the readers of its words and quantities. What each says is defined in `taskset`; what stands where
+// in a list, and what each word may be, is left to the crate layout.
 ghost use mathlib.Core.Path.{_≡_};
-ghost use Prim.Native.Nat.{_+_, _*_, _<_, _≤_};
+ghost use mathlib.Core.List.{[], _∷_};
+ghost use Prim.Native.Nat.{_*_, _<_, _≤_};
 ghost use lib.ListN.{length};
-ghost use Rattle.numbers.specs.Numbers.{between};
 ghost use Rattle.numbers.specs.Search.{Found};
-ghost use Rattle.taskset.specs.Words.{slack, rate, periodPlace, period, cycles, energy, taskKind, kindAt, allows};
+ghost use Rattle.layout.specs.Words.{ratePlace, taskCountPlace, mostRates, slack, rate, period, cycles, energy, kindAt, OutOfRange};
 ghost use Rattle.taskset.specs.Quantities.{jobTime};
-ghost use Rattle.taskset.specs.Calls.{ShapeAnswers, SetAnswers};
-ghost use Rattle.checks.specs.Steps.{Bad, Falls, HasTasks, Followed, OfTask};
+ghost use Rattle.taskset.specs.Refusals.{_▹_, wordChecks, hyperCheck};
+ghost use Rattle.taskset.specs.Calls.{CountsAfter, SetAfter};
+ghost use Rattle.checks.specs.Steps.{Falls, HasTasks, Followed, OfTask};
+use layout::Kind;
+use layout::Layout;
 use taskset::Checked;
-use taskset::Kind;
 use taskset::Refusal;
 use taskset::Shape;
 
@@ -23,64 +25,21 @@ struct Multiple {
     value: u64,
 }
 
-// The place of task t's first word, its period.
-fn period_place(head: usize, extra: usize, m: usize, t: usize) -> usize
-    requires { ⌜ (head ≤ 8) × (extra ≤ 8) × (m ≤ 8) × (t ≤ 32) ⌝ }
-    ensures { λ r. ⌜ r ≡ periodPlace head extra m t ⌝ }
-{
-    head + 2 + m + t * (2 + extra + m)
-}
-
-// Whether w is low to high.
-fn is_between(low: u32, high: u32, w: u32) -> bool
-    ensures { λ r. ⌜ r ≡ between low high w ⌝ }
-{
-    if low <= w { w <= high } else { false }
-}
-
-// Whether a word of this kind may be w.
-fn is_allowed(k: Kind, w: u32) -> bool
-    ensures { λ r. ⌜ r ≡ allows k w ⌝ }
-{
-    match k {
-        Kind::Slack => is_between(1, 1_000, w),
-        Kind::RateCount => is_between(2, 8, w),
-        Kind::Rate => is_between(1, 1_000_000, w),
-        Kind::TaskCount => is_between(1, 32, w),
-        Kind::Period => is_between(1, 10_000_000, w),
-        Kind::Cycles => is_between(1, 4_000_000_000, w),
-        Kind::Energy => is_between(1, 1_000_000, w),
-        Kind::LeftOver => false,
-    }
-}
-
-// What word k of a task stands for.
-fn task_kind(k: usize) -> Kind
-    ensures { λ r. ⌜ r ≡ taskKind k ⌝ }
-{
-    if k == 0 {
-        return Kind::Period;
-    }
-    if k == 1 {
-        return Kind::Cycles;
-    }
-    Kind::Energy
-}
-
 // What the word at place q stands for, by the words before it. The number of tasks is compared with a quotient: their words might
 // not fit a usize where the task count is bad.
-fn kind_at(s: &[u32], head: usize, extra: usize, q: usize) -> Kind
-    requires { ⌜ (head ≤ 8) × (extra ≤ 8) × (q < length (now s)) ⌝ }
-    ensures { λ r. ⌜ r ≡ kindAt head extra (now (s .entry)) q ⌝ }
+fn kind_at(s: &[u32], layout: Layout, q: usize) -> Kind
+    requires { ⌜ q < length (now s) ⌝ }
+    ensures { λ r. ⌜ r ≡ kindAt layout (now (s .entry)) q ⌝ }
 {
+    let head = layout::head_size(layout);
     if q < head {
-        return Kind::Slack;
+        return layout::head_kind(layout, q);
     }
     if q == head {
         return Kind::RateCount;
     }
     let m = s[head] as usize;
-    let c = head + 1 + m;
+    let c = layout::task_count_place(layout, m);
     if q < c {
         return Kind::Rate;
     }
@@ -89,22 +48,21 @@ fn kind_at(s: &[u32], head: usize, extra: usize, q: usize) -> Kind
     }
     let n = s[c] as usize;
     let k = q - (c + 1);
-    let size = 2 + extra + m;
+    let size = layout::task_size(layout, m);
     if n <= k / size {
         return Kind::LeftOver;
     }
-    task_kind(k % size)
+    layout::task_kind(layout, k % size)
 }
 
 // The first place whose word is out of its range or left over, or the list's length.
-fn first_bad(s: &[u32], head: usize, extra: usize) -> usize
-    requires { ⌜ (head ≤ 8) × (extra ≤ 8) ⌝ }
-    ensures { λ r. ⌜ Found (Bad head extra (now (s .entry))) 0 (length (now (s .entry))) r ⌝ }
+fn first_bad(s: &[u32], layout: Layout) -> usize
+    ensures { λ r. ⌜ Found (OutOfRange layout (now (s .entry))) 0 (length (now (s .entry))) r ⌝ }
 {
     let mut q = 0;
     while q < s.len() {
-        let k = kind_at(s, head, extra, q);
-        if !is_allowed(k, s[q]) {
+        let k = kind_at(s, layout, q);
+        if !layout::is_allowed(s, q, k) {
             return q;
         }
         q += 1;
@@ -113,12 +71,12 @@ fn first_bad(s: &[u32], head: usize, extra: usize) -> usize
 }
 
 // The place of the first of m rates that is not above the one before it, or the place after the rates.
-fn first_fall(s: &[u32], head: usize, m: usize) -> usize
-    requires { ⌜ (head ≤ 8) × (1 ≤ m) × (m ≤ 8) × (head + 1 + m ≤ length (now s)) ⌝ }
-    ensures { λ r. ⌜ Found (Falls (now (s .entry))) (head + 2) (head + 1 + m) r ⌝ }
+fn first_fall(s: &[u32], layout: Layout, m: usize) -> usize
+    requires { ⌜ (1 ≤ m) × (m ≤ mostRates) × (taskCountPlace layout m ≤ length (now s)) ⌝ }
+    ensures { λ r. ⌜ Found (Falls (now (s .entry))) (ratePlace layout 2) (taskCountPlace layout m) r ⌝ }
 {
-    let end = head + 1 + m;
-    let mut q = head + 2;
+    let end = layout::task_count_place(layout, m);
+    let mut q = layout::rate_place(layout, 2);
     while q < end {
         if s[q] <= s[q - 1] {
             return q;
@@ -129,27 +87,27 @@ fn first_fall(s: &[u32], head: usize, m: usize) -> usize
 }
 
 // Checks 2 and 3, in this order.
-pub fn check_words(s: &[u32], head: usize, extra: usize) -> Shape
-    requires { ⌜ (head ≤ 8) × (extra ≤ 8) ⌝ }
-    ensures { λ r. ⌜ ShapeAnswers head extra (now (s .entry)) r ⌝ }
+pub fn check_words(s: &[u32], layout: Layout) -> Shape
+    ensures { λ r. ⌜ CountsAfter (wordChecks layout (now (s .entry))) layout (now (s .entry)) r ⌝ }
 {
-    let b = first_bad(s, head, extra);
+    let b = first_bad(s, layout);
     if b < s.len() {
         return Shape::Refused(Refusal::BadWord(b));
     }
+    let head = layout::head_size(layout);
     if s.len() <= head {
         return Shape::Refused(Refusal::BadWord(s.len()));
     }
     let m = s[head] as usize;
-    let c = head + 1 + m;
+    let c = layout::task_count_place(layout, m);
     if s.len() <= c {
         return Shape::Refused(Refusal::BadWord(s.len()));
     }
     let n = s[c] as usize;
-    if s.len() < period_place(head, extra, m, n) {
+    if s.len() < layout::period_place(layout, m, n) {
         return Shape::Refused(Refusal::BadWord(s.len()));
     }
-    let f = first_fall(s, head, m);
+    let f = first_fall(s, layout, m);
     if f < c {
         return Shape::Refused(Refusal::NotAbove(f));
     }
@@ -157,13 +115,13 @@ pub fn check_words(s: &[u32], head: usize, extra: usize) -> Shape
 }
 
 // The running multiple of n periods, followed until it passes the limit.
-fn follow(s: &[u32], head: usize, extra: usize, m: usize, n: usize) -> Multiple
-    requires { ⌜ HasTasks head extra m n (now s) ⌝ }
-    ensures { λ r. ⌜ Followed head extra n (now (s .entry)) (r .tasks) (r .value) ⌝ }
+fn follow(s: &[u32], layout: Layout, m: usize, n: usize) -> Multiple
+    requires { ⌜ HasTasks layout m n (now s) ⌝ }
+    ensures { λ r. ⌜ Followed layout n (now (s .entry)) (r .tasks) (r .value) ⌝ }
 {
     let mut l: u64 = 1;
     let mut t = 0;
-    let mut at = head + 2 + m;
+    let mut at = layout::tasks_place(layout, m);
     while t < n {
         let p = s[at] as u64;
         let g = numbers::common_divisor(l, p);
@@ -172,32 +130,37 @@ fn follow(s: &[u32], head: usize, extra: usize, m: usize, n: usize) -> Multiple
             return Multiple { tasks: t, value: l };
         }
         l = next;
-        at += 2 + extra + m;
+        at += layout::task_size(layout, m);
         t += 1;
     }
     Multiple { tasks: t, value: l }
 }
 
-// Checks 2, 3 and 4, in this order.
-pub fn check_set(s: &[u32], head: usize, extra: usize) -> Checked
-    requires { ⌜ (head ≤ 8) × (extra ≤ 8) ⌝ }
-    ensures { λ r. ⌜ SetAnswers head extra (now (s .entry)) r ⌝ }
+// Check 4, of a list with m rates and n tasks that passes check 2.
+pub fn check_hyper(s: &[u32], layout: Layout, m: usize, n: usize) -> Checked
+    requires { ⌜ HasTasks layout m n (now s) ⌝ }
+    ensures { λ r. ⌜ SetAfter (hyperCheck layout (now (s .entry)) ∷ []) layout (now (s .entry)) r ⌝ }
 {
-    let shape = check_words(s, head, extra);
+    let h = follow(s, layout, m, n);
+    let t = h.tasks;
+    if t < n {
+        return Checked::Refused(Refusal::TooLong(layout::period_place(layout, m, t)));
+    }
+    Checked::Good {
+        rates: m,
+        tasks: n,
+        hyper: h.value,
+    }
+}
+
+// Checks 2, 3 and 4, in this order.
+pub fn check_set(s: &[u32], layout: Layout) -> Checked
+    ensures { λ r. ⌜ SetAfter (wordChecks layout (now (s .entry)) ▹ hyperCheck layout (now (s .entry))) layout (now (s .entry)) r ⌝ }
+{
+    let shape = check_words(s, layout);
     match shape {
         Shape::Refused(r) => Checked::Refused(r),
-        Shape::Whole { rates, tasks } => {
-            let h = follow(s, head, extra, rates, tasks);
-            let t = h.tasks;
-            if t < tasks {
-                return Checked::Refused(Refusal::TooLong(period_place(head, extra, rates, t)));
-            }
-            Checked::Good {
-                rates,
-                tasks,
-                hyper: h.value,
-            }
-        }
+        Shape::Whole { rates, tasks } => check_hyper(s, layout, rates, tasks),
     }
 }
 
@@ -206,50 +169,51 @@ pub fn slack_of(s: &[u32]) -> u32
     requires { ⌜ 0 < length (now s) ⌝ }
     ensures { λ r. ⌜ r ≡ slack (now (s .entry)) ⌝ }
 {
-    s[0]
+    s[layout::SLACK_PLACE]
 }
 
 // The period of the task at place t of a set.
-pub fn period_of(s: &[u32], head: usize, extra: usize, m: usize, t: usize) -> u32
-    requires { ⌜ OfTask head extra m t (now s) ⌝ }
-    ensures { λ r. ⌜ r ≡ period head extra (now (s .entry)) t ⌝ }
+pub fn period_of(s: &[u32], layout: Layout, m: usize, t: usize) -> u32
+    requires { ⌜ OfTask layout m t (now s) ⌝ }
+    ensures { λ r. ⌜ r ≡ period layout (now (s .entry)) t ⌝ }
 {
-    let at = period_place(head, extra, m, t);
+    let at = layout::period_place(layout, m, t);
     s[at]
 }
 
 // The cycles of one job of the task at place t.
-fn cycles_of(s: &[u32], head: usize, extra: usize, m: usize, t: usize) -> u32
-    requires { ⌜ OfTask head extra m t (now s) ⌝ }
-    ensures { λ r. ⌜ r ≡ cycles head extra (now (s .entry)) t ⌝ }
+fn cycles_of(s: &[u32], layout: Layout, m: usize, t: usize) -> u32
+    requires { ⌜ OfTask layout m t (now s) ⌝ }
+    ensures { λ r. ⌜ r ≡ cycles layout (now (s .entry)) t ⌝ }
 {
-    let at = period_place(head, extra, m, t) + 1;
+    let at = layout::cycles_place(layout, m, t);
     s[at]
 }
 
 // The rate with rate number r, which counts from 1, of a set of m rates that has a task at place t.
-fn rate_of(s: &[u32], head: usize, extra: usize, m: usize, t: usize, r: usize) -> u32
-    requires { ⌜ OfTask head extra m t (now s) × (1 ≤ r) × (r ≤ m) ⌝ }
-    ensures { λ x. ⌜ x ≡ rate head extra (now (s .entry)) r ⌝ }
+fn rate_of(s: &[u32], layout: Layout, m: usize, t: usize, r: usize) -> u32
+    requires { ⌜ OfTask layout m t (now s) × (1 ≤ r) × (r ≤ m) ⌝ }
+    ensures { λ x. ⌜ x ≡ rate layout (now (s .entry)) r ⌝ }
 {
-    s[head + r]
+    let at = layout::rate_place(layout, r);
+    s[at]
 }
 
 // The job time of the task at place t at rate number r: cycles over rate, rounded up.
-pub fn job_time(s: &[u32], head: usize, extra: usize, m: usize, t: usize, r: usize) -> u32
-    requires { ⌜ OfTask head extra m t (now s) × (1 ≤ r) × (r ≤ m) ⌝ }
-    ensures { λ x. ⌜ x ≡ jobTime head extra (now (s .entry)) t r ⌝ }
+pub fn job_time(s: &[u32], layout: Layout, m: usize, t: usize, r: usize) -> u32
+    requires { ⌜ OfTask layout m t (now s) × (1 ≤ r) × (r ≤ m) ⌝ }
+    ensures { λ x. ⌜ x ≡ jobTime layout (now (s .entry)) t r ⌝ }
 {
-    let c = cycles_of(s, head, extra, m, t) as u64;
-    let f = rate_of(s, head, extra, m, t, r) as u64;
+    let c = cycles_of(s, layout, m, t) as u64;
+    let f = rate_of(s, layout, m, t, r) as u64;
     ((c + (f - 1)) / f) as u32
 }
 
 // The energy of one job of the task at place t at rate number r.
-pub fn energy_of(s: &[u32], head: usize, extra: usize, m: usize, t: usize, r: usize) -> u32
-    requires { ⌜ OfTask head extra m t (now s) × (1 ≤ r) × (r ≤ m) ⌝ }
-    ensures { λ x. ⌜ x ≡ energy head extra (now (s .entry)) t r ⌝ }
+pub fn energy_of(s: &[u32], layout: Layout, m: usize, t: usize, r: usize) -> u32
+    requires { ⌜ OfTask layout m t (now s) × (1 ≤ r) × (r ≤ m) ⌝ }
+    ensures { λ x. ⌜ x ≡ energy layout (now (s .entry)) t r ⌝ }
 {
-    let at = period_place(head, extra, m, t) + (1 + extra + r);
+    let at = layout::energy_place(layout, m, t, r);
     s[at]
 }

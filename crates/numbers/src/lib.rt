@@ -3,7 +3,14 @@
 // times are left to the crates above.
 ghost use mathlib.Core.Path.{_≡_};
 ghost use Prim.Native.Nat.{_^_, _≤_};
-ghost use Rattle.numbers.specs.Numbers.{gcd, LeastPower};
+ghost use Rattle.numbers.specs.Numbers.{between, gcd, LeastPower};
+
+// Whether w is low to high.
+pub fn is_between(low: u64, high: u64, w: u64) -> bool
+    ensures { λ r. ⌜ r ≡ between low high w ⌝ }
+{
+    if low <= w { w <= high } else { false }
+}
 
 // The greatest common divisor, by Euclid's division: the second number falls at each turn.
 pub fn common_divisor(x: u64, y: u64) -> u64

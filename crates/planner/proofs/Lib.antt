@@ -1,4 +1,3 @@
 pub mod Enough
-pub mod Options
 pub mod Calls
 pub mod Unique

@@ -2,7 +2,8 @@
 use Prim.Native.Nat.{ℕ, _-_, _≤_, _<_}
 use mathlib.Core.List.{List}
 use lib.ListN.{getD}
-use Rattle.taskset.specs.Words.{listHead, rateCount, taskCount}
+use Rattle.layout.specs.Words.{rateCount, taskCount}
+use Rattle.layout.specs.declared.Layout.the-variants.{Ordinary}
 use Rattle.taskset.specs.Calls.{PlannerGives}
 use Rattle.taskset.specs.DemandThree.{PlannerOwes}
 use Rattle.taskset.specs.declared.PlannerAnswer.{PlannerAnswer}
@@ -16,7 +17,7 @@ pub record RateNumber (m w : ℕ) : Type 0 where
   pub place : w - 1 < m
 
 abbrev pub RateNumbers : List ℕ → List ℕ → PlannerAnswer → Type 0
-RateNumbers s plan′ (Planned unit load hyper energy) = (t : ℕ) → t < taskCount listHead s → RateNumber (rateCount listHead s) (getD plan′ t 0)
+RateNumbers s plan′ (Planned unit load hyper energy) = (t : ℕ) → t < taskCount Ordinary s → RateNumber (rateCount Ordinary s) (getD plan′ t 0)
 RateNumbers s plan′ (NotPlanned r) = Unit {0}
 
 -- THE CALL'S CONTRACT, where plan and work were lent, and plan′ and work′ are given back: the answer and every word are document 01's; every

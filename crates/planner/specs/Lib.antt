@@ -1,3 +1,1 @@
-pub mod Ready
 pub mod Answers
-pub mod Options

@@ -5,7 +5,6 @@ use Prim.Native.Nat.{ℕ, _*_, _^_, _≤_, _<_}
 use mathlib.Core.Path.{_≡_, refl, sym, _∙_, subst}
 use mathlib.Core.Option.{none, some}
 use mathlib.Core.List.{List, [], _∷_, append-nil}
-use mathlib.Core.Logic.{inl, inr}
 use native.Mathlib.Bridge.{le-by-compare, IsLe}
 use native.Mathlib.Omega.{arith}
 use lib.ListN.{length, replicate, drop-of-length-le}
@@ -18,10 +17,11 @@ use Rattle.selection.proofs.Fastest.{fastest-fits, fastest-least}
 use Rattle.selection.proofs.Table.{leastOf, firstOf, via, best}
 use Rattle.selection.proofs.Choose.{spend, cell}
 use Rattle.selection.proofs.Compute.{trace, leastEnergy, choose, usedFrom, usedExponent, planned-is}
-use Rattle.taskset.specs.Words.{listHead, listExtra, slack, rateCount, taskCount, headKind, taskKind, kindAt, allows}
+use Rattle.layout.specs.Words.{slack, rateCount, taskCount, headKinds, extraKinds, kindIn, headKind, taskKind, kindAt, allows}
+use Rattle.layout.specs.declared.Layout.the-variants.{Ordinary}
 use Rattle.taskset.specs.Quantities.{hyperPeriod, problem, reportedEnergy, workNeeded}
-use Rattle.taskset.specs.Refusals.{number, second, check, Accepts, setChecks, readyChecks, walkChecks, NoneOk, lengthChecks}
-use Rattle.taskset.specs.Calls.{code, plannerValues, walkValues, SetAnswers, PlannerGives, WalkAnswers}
+use Rattle.taskset.specs.Refusals.{number, second, Check, Accepts, _▹_, wordChecks, hyperCheck, workCheck, roomCheck, noneCheck, planCheck, readyChecks, plannerChecks, walkChecks}
+use Rattle.taskset.specs.Calls.{code, plannerValues, walkValues, SetAfter, PlannerGives, WalkAnswers}
 use Rattle.taskset.specs.DemandThree.{Keeps, PlanPromise}
 use Rattle.taskset.specs.declared.Refusal.{Refusal}
 use Rattle.taskset.specs.declared.Refusal.the-variants.{BadWord, NotAbove, TooLong, WorkShort, TooShort, NoPlan, BadPlan}
@@ -29,10 +29,10 @@ use Rattle.taskset.specs.declared.Checked.{Checked}
 use Rattle.taskset.specs.declared.Checked.the-variants.{Good, Refused as NotGood}
 use Rattle.taskset.specs.declared.PlannerAnswer.the-variants.{Planned, Refused as NotPlanned}
 use Rattle.taskset.specs.declared.WalkAnswer.the-variants.{Kept, Missed, Refused as NotWalked}
-use Rattle.taskset.proofs.Checks.{refuses-front}
+use Rattle.taskset.proofs.Checks.{nothing, same, refuses-early, refuses-before, accepts-next, refuses-next, passed}
 use Rattle.taskset.proofs.Verdict.{isBad, isFall, isOver, shapeOf, afterShape, checkedOf, checked-answers}
 use Rattle.taskset.proofs.PlanVerdict.{isUnfit, planVerdict, PlanSays, plan-verdict-says}
-use Rattle.taskset.proofs.Sets.{set-of, falling}
+use Rattle.taskset.proofs.Sets.{IsSet, set-of, falling}
 use Rattle.taskset.proofs.DemandThree.{walk-owes}
 
 -- "The set list S", with slack G.
@@ -65,37 +65,57 @@ Declined s r = (plan work : List ℕ) → PlannerGives s plan work plan work (No
 -- ---- from what the verdicts compute to what the calls answer
 module _ (s : List ℕ) where
   abbrev checked : Checked
-  checked = checkedOf listHead listExtra s
+  checked = checkedOf Ordinary s
 
   abbrev L : ℕ
-  L = hyperPeriod listHead listExtra s
+  L = hyperPeriod Ordinary s
 
-  answered : (x : Checked) → checked ≡ x → SetAnswers listHead listExtra s x
-  answered x e = subst (SetAnswers listHead listExtra s) e (checked-answers listHead listExtra s)
+  abbrev set : List Check
+  set = wordChecks Ordinary s ▹ hyperCheck Ordinary s
+
+  answered : (x : Checked) → checked ≡ x → SetAfter set Ordinary s x
+  answered x e = subst (SetAfter set Ordinary s) e (checked-answers Ordinary s)
 
   -- A refusal of checks 2, 3 or 4 is the planner's, whatever is lent.
   set-refused : (r : Refusal) → checked ≡ NotGood r → Declined s r
-  set-refused r e plan work = (
-    refuses-front (readyChecks s (length plan) (length work)) (check 7 (NoneOk (Fitting (problem s))) ∷ []) (number r) (second r)
-        (refuses-front (setChecks listHead listExtra s) (lengthChecks s (length plan) (length work)) (number r) (second r)
-        (answered (NotGood r) e)),
-    refl,
-    refl,
-  )
+  set-refused r e plan work = (refuses-early set (plannerChecks s (length plan) (length work)) (same (same (same nothing))) (number r) (second r) (answered (NotGood r) e), refl, refl)
 
   module _ (m n l : ℕ) (e : checked ≡ Good m n l) where
-    passes : Accepts (setChecks listHead listExtra s)
+    passes : Accepts set
     passes = answered (Good m n l) e .0
 
+    is-set : IsSet Ordinary s
+    is-set = set-of Ordinary s (passed 2 set refl passes) (passed 3 set refl passes) (passed 4 set refl passes)
+
+    -- Too few working words.
+    work-short : (plan work : List ℕ) → length work < workNeeded s → PlannerGives s plan work plan work (NotPlanned (WorkShort (workNeeded s)))
+    work-short plan work h = (
+      refuses-early (set ▹ workCheck (workNeeded s) (length work)) (plannerChecks s (length plan) (length work)) (same (same (same (same nothing)))) 5 (workNeeded s)
+          (refuses-next set (workCheck (workNeeded s) (length work)) (workNeeded s) passes (h, refl)),
+      refl,
+      refl,
+    )
+
+    -- What is lent is long enough.
+    module _ (plan work : List ℕ) where
+      abbrev upTo5 : List Check
+      upTo5 = set ▹ workCheck (workNeeded s) (length work)
+
+      work-enough : workNeeded s ≤ length work → Accepts upTo5
+      work-enough q = accepts-next set (workCheck (workNeeded s) (length work)) passes (λ k h. omega (arith, h .0))
+
+      enough : workNeeded s ≤ length work → taskCount Ordinary s ≤ length plan → Accepts (readyChecks s (length plan) (length work))
+      enough q p = accepts-next upTo5 (roomCheck (taskCount Ordinary s) (length plan)) (work-enough q) (λ k h. omega (arith, h .0))
+
     -- A plan, where just the words needed are lent.
-    planned : (P : List ℕ) (a unit load energy : ℕ) → 1 ≤ rateCount listHead s → planLoad (problem s) (fastest (problem s)) ≤ L → length P ≡ taskCount listHead s
+    planned : (P : List ℕ) (a unit load energy : ℕ) → 1 ≤ rateCount Ordinary s → planLoad (problem s) (fastest (problem s)) ≤ L → length P ≡ taskCount Ordinary s
         → usedExponent (problem s) (slack s) ≡ a → choose (problem s) (2 ^ a) ≡ P → 2 ^ a ≡ unit → planLoad (problem s) P ≡ load → planEnergy (problem s) P ≡ energy
-        → (plan work : List ℕ) → length plan ≡ taskCount listHead s → length work ≡ workNeeded s
+        → (plan work : List ℕ) → length plan ≡ taskCount Ordinary s → length work ≡ workNeeded s
         → PlannerGives s plan work P (replicate (workNeeded s) 0) (Planned unit load l energy)
     planned P a unit load energy some-rate fits size used chosen u w j plan work p q =
-        let set = passes in
         let fit : Fitting (problem s) (fastest (problem s)) = fastest-fits (problem s) some-rate fits in (
-          (set .0, (set .1 .0, (set .1 .1 .0, ((λ k h. omega (arith, h .0)), ((λ k h. omega (arith, h .0)), ((λ k h. h .1 (fastest (problem s)) fit), tt)))))),
+          accepts-next (readyChecks s (length plan) (length work)) (noneCheck (Fitting (problem s))) (enough plan work (omega arith) (omega arith))
+              (λ k h. h .1 (fastest (problem s)) fit),
           (
             P,
             record {
@@ -104,51 +124,43 @@ module _ (s : List ℕ) where
               values-are = cc (u, w, j, answered (Good m n l) e .3);
             },
             record {
-              front = take-all (taskCount listHead s) P (omega arith);
-              rest = drop-of-length-le P {i = taskCount listHead s} (omega arith) ∙ sym (drop-of-length-le plan {i = taskCount listHead s} (omega arith));
-              cleared = rw (drop-of-length-le work {i = workNeeded s} (omega arith)) (sym (append-nil (replicate (workNeeded s) 0)));
+              front = take-all (taskCount Ordinary s) P (omega arith);
+              rest = drop-of-length-le P {i = taskCount Ordinary s} (omega arith) ∙ sym (drop-of-length-le plan {i = taskCount Ordinary s} (omega arith));
             },
           ),
+          rw (drop-of-length-le work {i = workNeeded s} (omega arith)) (sym (append-nil (replicate (workNeeded s) 0))),
         )
-
-    -- Too few working words.
-    work-short : (plan work : List ℕ) → length work < workNeeded s → PlannerGives s plan work plan work (NotPlanned (WorkShort (workNeeded s)))
-    work-short plan work h = let set = passes in (inr (set .0, inr (set .1 .0, inr (set .1 .1 .0, inl (refl, (h, refl))))), refl, refl)
 
     -- Enough working words, and a plan list that is too short.
-    plan-short : (plan work : List ℕ) → workNeeded s ≤ length work → length plan < taskCount listHead s
-        → PlannerGives s plan work plan work (NotPlanned (TooShort (taskCount listHead s)))
-    plan-short plan work q p =
-        let set = passes in
-        (inr (set .0, inr (set .1 .0, inr (set .1 .1 .0, inr ((λ k h. omega (arith, h .0)), inl (refl, (p, refl)))))), refl, refl)
+    plan-short : (plan work : List ℕ) → workNeeded s ≤ length work → length plan < taskCount Ordinary s
+        → PlannerGives s plan work plan work (NotPlanned (TooShort (taskCount Ordinary s)))
+    plan-short plan work q p = (
+      refuses-before (readyChecks s (length plan) (length work)) (noneCheck (Fitting (problem s))) 6 (taskCount Ordinary s)
+          (refuses-next (upTo5 plan work) (roomCheck (taskCount Ordinary s) (length plan)) (taskCount Ordinary s) (work-enough plan work q) (p, refl)),
+      refl,
+      refl,
+    )
 
     -- No plan fits where the plan with every task at rate M does not.
-    no-plan : 1 ≤ rateCount listHead s → L < planLoad (problem s) (fastest (problem s))
-        → (plan work : List ℕ) → taskCount listHead s ≤ length plan → workNeeded s ≤ length work → PlannerGives s plan work plan work (NotPlanned NoPlan)
+    no-plan : 1 ≤ rateCount Ordinary s → L < planLoad (problem s) (fastest (problem s))
+        → (plan work : List ℕ) → taskCount Ordinary s ≤ length plan → workNeeded s ≤ length work → PlannerGives s plan work plan work (NotPlanned NoPlan)
     no-plan some-rate over plan work p q =
-        let set = passes in (
-          inr (set .0, inr (set .1 .0, inr (set .1 .1 .0, inr ((λ k h. omega (arith, h .0)), inr ((λ k h. omega (arith, h .0)), inl (refl, (refl, none-fits))))))),
-          refl,
-          refl,
-        )
+        (refuses-next (readyChecks s (length plan) (length work)) (noneCheck (Fitting (problem s))) 0 (enough plan work q p) (refl, none-fits), refl, refl)
       where
         none-fits : (P : List ℕ) → Fitting (problem s) P → ⊥
-        none-fits P f =
-            omega (arith, fastest-least (problem s) some-rate (falling listHead listExtra s (set-of listHead listExtra s passes)) P (f .plan), f .fits)
+        none-fits P f = omega (arith, fastest-least (problem s) some-rate (falling Ordinary s is-set) P (f .plan), f .fits)
 
     -- The walk of a plan that passes check 8, and of one that does not.
     module _ (P : List ℕ) where
-      walks : planVerdict (rateCount listHead s) (taskCount listHead s) P ≡ none → Accepts (walkChecks s P)
+      walks : planVerdict (rateCount Ordinary s) (taskCount Ordinary s) P ≡ none → Accepts (walkChecks s P)
       walks v =
-          let set = passes in
-          let fine = subst (PlanSays (rateCount listHead s) (taskCount listHead s) P) v (plan-verdict-says (rateCount listHead s) (taskCount listHead s) P) in
-          (set .0, (set .1 .0, (set .1 .1 .0, ((λ k h. fine k (h .here)), tt))))
+          let fine = subst (PlanSays (rateCount Ordinary s) (taskCount Ordinary s) P) v (plan-verdict-says (rateCount Ordinary s) (taskCount Ordinary s) P) in
+          accepts-next set (planCheck Ordinary s P) passes (λ k h. fine k (h .here))
 
-      plan-refused : (k : ℕ) → planVerdict (rateCount listHead s) (taskCount listHead s) P ≡ some k → WalkAnswers s P (NotWalked (BadPlan k))
+      plan-refused : (k : ℕ) → planVerdict (rateCount Ordinary s) (taskCount Ordinary s) P ≡ some k → WalkAnswers s P (NotWalked (BadPlan k))
       plan-refused k v =
-          let set = passes in
-          let bad = subst (PlanSays (rateCount listHead s) (taskCount listHead s) P) v (plan-verdict-says (rateCount listHead s) (taskCount listHead s) P) in
-          inr (set .0, inr (set .1 .0, inr (set .1 .1 .0, inl (refl, bad))))
+          let bad = subst (PlanSays (rateCount Ordinary s) (taskCount Ordinary s) P) v (plan-verdict-says (rateCount Ordinary s) (taskCount Ordinary s) P) in
+          refuses-next set (planCheck Ordinary s P) k passes bad
 
 -- ---- the cases
 pub record Cases : Type 0 where
@@ -175,7 +187,7 @@ pub record Cases : Type 0 where
   rates-4-4 : Declined (with-rates 4 4 (9 ∷ [])) (NotAbove 3)
   -- "Two rates, periods 9,999,999 and 10,000,000: refusal 4, place 9. One period of 10,000,000 passes."
   periods-too-long : Declined (two-periods 9999999 10000000) (TooLong 9)
-  period-10000000 : SetAnswers listHead listExtra (one-period 10000000) (Good 2 1 10000000)
+  period-10000000 : SetAfter (wordChecks Ordinary (one-period 10000000) ▹ hyperCheck Ordinary (one-period 10000000)) Ordinary (one-period 10000000) (Good 2 1 10000000)
   -- A rate count of 9 and a task count of 33, refused where they stand; a list that ends before its last word; a word too many.
   bad-rate-count : Declined (100 ∷ 9 ∷ 2 ∷ []) (BadWord 1)
   bad-task-count : Declined (100 ∷ 2 ∷ 2 ∷ 4 ∷ 33 ∷ 10 ∷ []) (BadWord 4)
@@ -198,7 +210,7 @@ pub record Cases : Type 0 where
   empty-plan : WalkAnswers (S 100) [] (NotWalked (BadPlan 0))
 
 pub cases : Cases
-unfolding S one-task one-period two-periods even-tasks with-rates checkedOf shapeOf afterShape isBad isFall isOver kindAt headKind taskKind allows isUnfit planVerdict seek total gcdIn gcd lcm running fastest exponent usedExponent usedFrom leastEnergy cell best leastOf firstOf via spend trace choose IsLe
+unfolding S one-task one-period two-periods even-tasks with-rates checkedOf shapeOf afterShape isBad isFall isOver headKinds extraKinds kindIn kindAt headKind taskKind allows isUnfit planVerdict seek total gcdIn gcd lcm running fastest exponent usedExponent usedFrom leastEnergy cell best leastOf firstOf via spend trace choose IsLe
 cases = record {
   planned-100 = planned (S 100) 3 2 30 refl (2 ∷ 1 ∷ []) 0 1 29 41 (le-by-compare _ _ tt) (le-by-compare _ _ tt) refl refl refl refl refl refl;
   work-242 = λ plan work h. work-short (S 100) 3 2 30 refl plan work (omega arith);

@@ -1,17 +1,23 @@
 -- Laws on the order of checks, and that every cause can be decided and holds with at most one second number.
 -- Assumes nothing.
 use Prim.Native.Nat.{ℕ, suc, _-_}
-use mathlib.Core.Path.{_≡_, refl, sym, ap, _∙_}
+use mathlib.Core.Path.{_≡_, refl, sym, ap, subst, _∙_}
+use mathlib.Core.Bool.{Bool, true, false, cond, not, _&&_, true≢false}
+use mathlib.Core.Option.{Option, none, some}
 use mathlib.Core.List.{List, [], _∷_, _++_}
-use mathlib.Core.Logic.{inl, inr, ⊎-elim}
+use mathlib.Core.Logic.{_⊎_, inl, inr, ⊎-elim}
+use native.Mathlib.Omega.{arith}
+use lib.Dec.{eqb}
+use borrow.Author.Tests.{eq-eqb, not-true}
 use native.Mathlib.Decide.{ℕ-discrete, decLe, decLt}
 use lib.ListN.{length, getD}
 use Rattle.numbers.specs.Numbers.{between, running, Lowest}
-use Rattle.numbers.proofs.Tests.{dec-both, dec-three, dec-either, dec-false}
+use Rattle.numbers.proofs.Tests.{and-true, dec-both, dec-three, dec-either, dec-false}
 use Rattle.numbers.proofs.Search.{lowest-unique, no-lowest}
-use Rattle.taskset.specs.Words.{word, rateCount, taskCount, wordCount, ratePlace, periodPlace, period, kindAt, allows}
+use Rattle.layout.specs.Words.{word, rateCount, taskCount, wordCount, ratePlace, periodPlace, period, kindAt, allows, WordFault}
+use Rattle.layout.specs.declared.Layout.{Layout}
 use Rattle.taskset.specs.Quantities.{hyperLimit}
-use Rattle.taskset.specs.Refusals.{WordFault, IsBadWord, RateFault, IsNotAbove, PassesLimit, IsTooLong, PlanFault, IsBadPlan, Check, Accepts, Refuses}
+use Rattle.taskset.specs.Refusals.{IsBadWord, RateFault, IsNotAbove, PassesLimit, IsTooLong, PlanFault, IsBadPlan, Check, Passes, Accepts, Refuses, _▹_}
 
 -- ---- lists of checks
 pub accepts-join : (cs ds : List Check) → Accepts cs → Accepts ds → Accepts (cs ++ ds)
@@ -30,6 +36,15 @@ pub refuses-front : (cs ds : List Check) (n k : ℕ) → Refuses cs n k → Refu
 refuses-front [] ds n k r = absurd r
 refuses-front (c ∷ cs) ds n k r = ⊎-elim (λ h. inl h) (λ h. inr (h .0, refuses-front cs ds n k (h .1))) r
 
+-- ds begins with the checks cs, whatever follows them: what these refuse, ds does.
+pub data Front : List Check → List Check → Type 1 where
+  nothing : {ds : List Check} → Front [] ds
+  same : {c : Check} {cs ds : List Check} → Front cs ds → Front (c ∷ cs) (c ∷ ds)
+
+pub refuses-early : (cs ds : List Check) → Front cs ds → (n k : ℕ) → Refuses cs n k → Refuses ds n k
+refuses-early cs ds (nothing {ds = _}) n k r = absurd r
+refuses-early _ _ (same {c = c} {cs = cs} {ds = ds} f) n k r = ⊎-elim (λ h. inl h) (λ h. inr (h .0, refuses-early cs ds f n k (h .1))) r
+
 pub refuses-back : (cs ds : List Check) (n k : ℕ) → Accepts cs → Refuses ds n k → Refuses (cs ++ ds) n k
 refuses-back [] ds n k a r = r
 refuses-back (c ∷ cs) ds n k a r = inr (a .0, refuses-back cs ds n k (a .1) r)
@@ -39,12 +54,68 @@ pub refuses-rest : (cs ds : List Check) (n k : ℕ) → Accepts cs → Refuses (
 refuses-rest [] ds n k a r = r
 refuses-rest (c ∷ cs) ds n k a r = ⊎-elim (λ h. absurd (a .0 k (h .1))) (λ h. refuses-rest cs ds n k (a .1) (h .1)) r
 
+-- ---- one more check
+module _ (cs : List Check) (c : Check) where
+  -- All pass, and so does the next.
+  pub accepts-next : Accepts cs → Passes c → Accepts (cs ▹ c)
+  accepts-next a p = accepts-join cs (c ∷ []) a (p, tt)
+
+  -- All pass, and the next holds.
+  pub refuses-next : (k : ℕ) → Accepts cs → c .cause k → Refuses (cs ▹ c) (c .number) k
+  refuses-next k a h = refuses-back cs (c ∷ []) (c .number) k a (inl (refl, h))
+
+  -- One of them holds before it.
+  pub refuses-before : (n k : ℕ) → Refuses cs n k → Refuses (cs ▹ c) n k
+  refuses-before n k r = refuses-front cs (c ∷ []) n k r
+
+  pub accepts-but-last : Accepts (cs ▹ c) → Accepts cs
+  accepts-but-last a = accepts-front cs (c ∷ []) a
+
+  -- A refusal is one of these checks', or all of them pass and the next holds.
+  pub refuses-cases : (n k : ℕ) → Refuses (cs ▹ c) n k → Refuses cs n k ⊎ (Accepts cs × (n ≡ c .number) × c .cause k)
+  refuses-cases n k r = go cs r
+    where
+      go : (ds : List Check) → Refuses (ds ▹ c) n k → Refuses ds n k ⊎ (Accepts ds × (n ≡ c .number) × c .cause k)
+      go [] r = ⊎-elim (λ h. inr (tt, h .0, h .1)) (λ h. absurd (h .1)) r
+      go (d ∷ ds) r =
+          ⊎-elim (λ h. inl (inl h)) (λ h. ⊎-elim (λ x. inl (inr (h .0, x))) (λ x. inr ((h .0, x .0), x .1, x .2)) (go ds (h .1))) r
+
+-- ---- a check by its number
+-- The first check with the number n.
+abbrev pub numbered : ℕ → List Check → Option Check
+numbered n [] = none
+numbered n (c ∷ cs) = cond (eqb n (c .number)) (some c) (numbered n cs)
+
+-- Where all checks pass, the one numbered n does.
+pub passed : (n : ℕ) (cs : List Check) {c : Check} → numbered n cs ≡ some c → Accepts cs → Passes c
+passed n [] e a = absurd (none-some e)
+  where
+    none-some : {c : Check} → none ≡ some c → ⊥
+    none-some e = let z : _≡_ {A = ℕ} 0 1 = cc in omega arith
+passed n (d ∷ ds) {c} e a = go (eqb n (d .number)) (λ h. passed n ds h (a .1)) e
+  where
+    go : (b : Bool) → (numbered n ds ≡ some c → Passes c) → cond b (some d) (numbered n ds) ≡ some c → Passes c
+    go true later e = let same : d ≡ c = cc in subst Passes same (a .0)
+    go false later e = later e
+
+-- ---- the last check
 -- A refusal whose number no check but the last has is the last's, after all others have passed.
 abbrev pub Without : ℕ → List Check → Type 0
 Without n [] = Unit {0}
 Without n (c ∷ cs) = (n ≡ c .number → ⊥) × Without n cs
 
-pub refuses-last : (cs : List Check) (c : Check) (n k : ℕ) → Without n cs → Refuses (cs ++ (c ∷ [])) n k → Accepts cs × c .cause k
+-- By computing: no number of the list is n.
+abbrev pub lacks : ℕ → List Check → Bool
+lacks n [] = true
+lacks n (c ∷ cs) = not (eqb n (c .number)) && lacks n cs
+
+pub without-by : (n : ℕ) (cs : List Check) → lacks n cs ≡ true → Without n cs
+without-by n [] e = tt
+without-by n (c ∷ cs) e =
+    let b = and-true (not (eqb n (c .number))) (lacks n cs) e in
+    ((λ h. true≢false (sym (eq-eqb n (c .number) h) ∙ not-true _ (b .0))), without-by n cs (b .1))
+
+pub refuses-last : (cs : List Check) (c : Check) (n k : ℕ) → Without n cs → Refuses (cs ▹ c) n k → Accepts cs × c .cause k
 refuses-last [] c n k w r = ⊎-elim (λ h. (tt, h .1)) (λ h. absurd (h .1)) r
 refuses-last (d ∷ cs) c n k w r =
     ⊎-elim (λ h. absurd (w .0 (h .0))) (λ h. let l = refuses-last cs c n k (w .1) (h .1) in ((h .0, l .0), l .1)) r
@@ -78,26 +149,26 @@ single-join (c ∷ cs) ds a b = (a .0, single-join cs ds (a .1) b)
 pub lowest-single : {P : ℕ → Type 0} (j k : ℕ) → Lowest P j → Lowest P k → j ≡ k
 lowest-single j k a b = lowest-unique a b
 
-module _ (head extra : ℕ) (s : List ℕ) where
-  pub too-long-single : (j k : ℕ) → IsTooLong head extra s j → IsTooLong head extra s k → j ≡ k
-  too-long-single j k a b = a .2 ∙ ap (periodPlace head extra (rateCount head s)) (lowest-unique (a .1) (b .1)) ∙ sym (b .2)
+module _ (layout : Layout) (s : List ℕ) where
+  pub too-long-single : (j k : ℕ) → IsTooLong layout s j → IsTooLong layout s k → j ≡ k
+  too-long-single j k a b = a .2 ∙ ap (periodPlace layout (rateCount layout s)) (lowest-unique (a .1) (b .1)) ∙ sym (b .2)
 
   -- Where a check passes, its fault stands nowhere.
-  pub no-word-fault : ((q : ℕ) → IsBadWord head extra s q → ⊥) → (q : ℕ) → WordFault head extra s q → ⊥
-  no-word-fault = no-lowest (WordFault head extra s) (λ q.
+  pub no-word-fault : ((q : ℕ) → IsBadWord layout s q → ⊥) → (q : ℕ) → WordFault layout s q → ⊥
+  no-word-fault = no-lowest (WordFault layout s) (λ q.
       dec-either
-      (dec-both (decLt q (length s)) (dec-false (allows (kindAt head extra s q) (word s q))))
-      (dec-both (ℕ-discrete q (length s)) (decLt (length s) (wordCount head extra s))))
+      (dec-both (decLt q (length s)) (dec-false (allows s q (kindAt layout s q))))
+      (dec-both (ℕ-discrete q (length s)) (decLt (length s) (wordCount layout s))))
 
-  pub no-rate-fault : ((q : ℕ) → IsNotAbove head extra s q → ⊥) → (q : ℕ) → RateFault head extra s q → ⊥
-  no-rate-fault = no-lowest (RateFault head extra s) (λ q.
-      dec-three (decLe (ratePlace head 2) q) (decLe q (ratePlace head (rateCount head s))) (decLe (word s q) (word s (q - 1))))
+  pub no-rate-fault : ((q : ℕ) → IsNotAbove layout s q → ⊥) → (q : ℕ) → RateFault layout s q → ⊥
+  no-rate-fault = no-lowest (RateFault layout s) (λ q.
+      dec-three (decLe (ratePlace layout 2) q) (decLe q (ratePlace layout (rateCount layout s))) (decLe (word s q) (word s (q - 1))))
 
-  pub none-passes : ((q : ℕ) → IsTooLong head extra s q → ⊥) → (t : ℕ) → PassesLimit head extra s t → ⊥
+  pub none-passes : ((q : ℕ) → IsTooLong layout s q → ⊥) → (t : ℕ) → PassesLimit layout s t → ⊥
   none-passes h =
-      no-lowest (PassesLimit head extra s)
-      (λ t. dec-both (decLt t (taskCount head s)) (decLt hyperLimit (running (period head extra s) (suc t))))
-      (λ t l. h (periodPlace head extra (rateCount head s) t) (t, l, refl))
+      no-lowest (PassesLimit layout s)
+      (λ t. dec-both (decLt t (taskCount layout s)) (decLt hyperLimit (running (period layout s) (suc t))))
+      (λ t l. h (periodPlace layout (rateCount layout s) t) (t, l, refl))
 
 pub no-plan-fault : (m n : ℕ) (P : List ℕ) → ((k : ℕ) → IsBadPlan m n P k → ⊥) → (k : ℕ) → PlanFault m n P k → ⊥
 no-plan-fault m n P = no-lowest (PlanFault m n P) (λ k.

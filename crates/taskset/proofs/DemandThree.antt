@@ -5,7 +5,7 @@
 use Prim.Native.Nat.{ℕ, _+_, _≤_, _<_}
 use mathlib.Core.Path.{_≡_, refl, sym, subst, _∙_}
 use mathlib.Core.Bool.{true, false, true≢false}
-use mathlib.Core.List.{List, [], _∷_, _++_}
+use mathlib.Core.List.{List, [], _∷_}
 use mathlib.Core.Logic.{inl, inr, ⊎-elim, _↔_}
 use native.Mathlib.Omega.{arith}
 use lib.ListN.{length, getD}
@@ -16,28 +16,26 @@ use Rattle.schedule.specs.Counted.{Outcome, IsKept, walk, kept, missed}
 use Rattle.schedule.proofs.Finite.{kept-iff-keeps, kept-counts}
 use Rattle.selection.specs.Plan.{Fitting, IsPlan, planLoad}
 use Rattle.selection.proofs.Bounds.{planned-within}
-use Rattle.taskset.specs.Words.{listHead, listExtra, slack, rateCount, taskCount}
-use Rattle.taskset.specs.Quantities.{hyperPeriod, problem, tasks, reportedEnergy}
-use Rattle.taskset.specs.Refusals.{number, second, Check, check, Accepts, Refuses, setChecks, NoneOk, PlanFault, IsBadPlan, lengthChecks}
+use Rattle.layout.specs.Words.{slack, rateCount, taskCount}
+use Rattle.taskset.specs.Quantities.{hyperPeriod, problem, endlessTasks, walkTasks, reportedEnergy}
+use Rattle.taskset.specs.Refusals.{number, second, Check, Accepts, Refuses, _▹_, NoneOk, PlanFault, IsBadPlan, noneCheck, readyChecks, walkChecks}
 use Rattle.taskset.specs.Calls.{plannerValues, Selected, PlannerGives, outcomeValues, WalkAnswers}
 use Rattle.taskset.specs.DemandThree.{Keeps, PlanPromise, NoneKeeps, PlannerOwes, WalkOwes}
 use Rattle.taskset.specs.declared.PlannerAnswer.{PlannerAnswer}
 use Rattle.taskset.specs.declared.PlannerAnswer.the-variants.{Planned, Refused as NotPlanned}
 use Rattle.taskset.specs.declared.WalkAnswer.{WalkAnswer}
 use Rattle.taskset.specs.declared.WalkAnswer.the-variants.{Kept, Missed, Refused as NotWalked}
-use Rattle.taskset.proofs.Checks.{no-plan-fault, Without, accepts-front, refuses-last, refuses-back, refuses-rest}
-use Rattle.taskset.proofs.Whole.{slack-in}
+use Rattle.taskset.proofs.Checks.{no-plan-fault, Without, without-by, accepts-but-last, refuses-next, refuses-cases, refuses-last, passed, not-both}
+use Rattle.layout.proofs.Whole.{slack-in}
+use Rattle.layout.specs.declared.Layout.the-variants.{Ordinary}
 use Rattle.taskset.proofs.Sets.{IsSet, set-of, regular, walk-load, keeps-iff-load}
 
-module _ (s : List ℕ) (passes : Accepts (setChecks listHead listExtra s)) where
-  set : IsSet listHead listExtra s
-  set = set-of listHead listExtra s passes
-
+module _ (s : List ℕ) (set : IsSet Ordinary s) where
   -- A plan keeps every deadline for ever exactly when it fits.
   pub keeps-iff-fits : (Q : List ℕ) → Keeps s Q ↔ Fitting (problem s) Q
   keeps-iff-fits Q = (
-    λ k. record { plan = k .plan; fits = keeps-iff-load listHead listExtra s set Q .0 (k .for-ever) },
-    λ f. record { plan = f .plan; for-ever = keeps-iff-load listHead listExtra s set Q .1 (f .fits) },
+    λ k. record { plan = k .plan; fits = keeps-iff-load Ordinary s set Q .0 (k .for-ever) },
+    λ f. record { plan = f .plan; for-ever = keeps-iff-load Ordinary s set Q .1 (f .fits) },
   )
 
   -- A plan given keeps demand 3's promise.
@@ -50,7 +48,7 @@ module _ (s : List ℕ) (passes : Accepts (setChecks listHead listExtra s)) wher
         own = own;
         within = λ Q k.
             rw own
-            (planned-within (Fitting (problem s)) (problem s) (slack s) (c .exponent) (slack-in listHead listExtra s (omega arith) (set .whole) .1) P (c .planned) Q (keeps-iff-fits Q .0 k));
+            (planned-within (Fitting (problem s)) (problem s) (slack s) (c .exponent) (slack-in Ordinary s (set .whole) .1) P (c .planned) Q (keeps-iff-fits Q .0 k));
       }
 
   -- No plan fits exactly when no plan keeps every deadline for ever.
@@ -59,57 +57,58 @@ module _ (s : List ℕ) (passes : Accepts (setChecks listHead listExtra s)) wher
 
   -- The walk of any list of rate numbers says 'kept' exactly when it keeps every deadline for ever, and then its busy ticks are the
   -- load.
-  pub walk-decides : (P : List ℕ) → IsKept (walk (tasks s P) (hyperPeriod listHead listExtra s)) ↔ KeepsForEver (tasks s P)
-  walk-decides P = kept-iff-keeps (tasks s P) (hyperPeriod listHead listExtra s) (set .hyper-range .0) (regular listHead listExtra s set P)
+  pub walk-decides : (P : List ℕ) → IsKept (walk (walkTasks Ordinary s P) (hyperPeriod Ordinary s)) ↔ KeepsForEver (endlessTasks Ordinary s P)
+  walk-decides P = kept-iff-keeps (endlessTasks Ordinary s P) (hyperPeriod Ordinary s) (set .hyper-range .0) (regular Ordinary s set P)
 
-  pub walk-busy : (P : List ℕ) (busy idle preempted : ℕ) → walk (tasks s P) (hyperPeriod listHead listExtra s) ≡ kept busy idle preempted
-      → (busy ≡ planLoad (problem s) P) × (busy + idle ≡ hyperPeriod listHead listExtra s)
+  pub walk-busy : (P : List ℕ) (busy idle preempted : ℕ) → walk (walkTasks Ordinary s P) (hyperPeriod Ordinary s) ≡ kept busy idle preempted
+      → (busy ≡ planLoad (problem s) P) × (busy + idle ≡ hyperPeriod Ordinary s)
   walk-busy P busy idle preempted e =
-      let c = kept-counts (tasks s P) (hyperPeriod listHead listExtra s) (set .hyper-range .0) (regular listHead listExtra s set P) busy idle preempted e in
-      (omega (arith, c .busy-is-load, walk-load listHead listExtra s set P), c .rest-is-idle)
+      let c = kept-counts (walkTasks Ordinary s P) (hyperPeriod Ordinary s) (set .hyper-range .0) (regular Ordinary s set P) busy idle preempted e in
+      (omega (arith, c .busy-is-load, walk-load Ordinary s set P), c .rest-is-idle)
 
--- A call that checks 2, 3 and 4 first, then others, cs, and 7 last, refuses with 7 exactly when all before it pass and no plan keeps every
+-- A call whose checks are cs, 2, 3 and 4 among them, and 7 last, refuses with 7 exactly when all before it pass and no plan keeps every
 -- deadline for ever.
-module _ (s : List ℕ) (cs : List Check) (others : Without 7 cs) where
+module _ (s : List ℕ) (cs : List Check) (sets : Accepts cs → IsSet Ordinary s) (others : Without 7 cs) where
   abbrev last : Check
-  last = check 7 (NoneOk (Fitting (problem s)))
+  last = noneCheck (Fitting (problem s))
 
-  abbrev before : List Check
-  before = setChecks listHead listExtra s ++ cs
-
-  passes-set : Accepts before → Accepts (setChecks listHead listExtra s)
-  passes-set = accepts-front (setChecks listHead listExtra s) cs
-
-  refused-7 : (k : ℕ) → Refuses (before ++ (last ∷ [])) 7 k → Accepts before × NoneKeeps s
+  refused-7 : (k : ℕ) → Refuses (cs ▹ last) 7 k → Accepts cs × NoneKeeps s
   refused-7 k r =
-      let l = refuses-last before last 7 k ((λ e. omega arith), ((λ e. omega arith), ((λ e. omega arith), others))) r in
-      (l .0, none-fits-iff-none-keeps s (passes-set (l .0)) .0 (refl, l .1 .1))
+      let l = refuses-last cs last 7 k others r in
+      (l .0, none-fits-iff-none-keeps s (sets (l .0)) .0 (refl, l .1 .1))
 
-  pub refused-7-iff : Refuses (before ++ (last ∷ [])) 7 0 ↔ (Accepts before × NoneKeeps s)
+  pub refused-7-iff : Refuses (cs ▹ last) 7 0 ↔ (Accepts cs × NoneKeeps s)
   refused-7-iff = (
     refused-7 0,
-    λ h. refuses-back before (last ∷ []) 7 0 (h .0) (inl (refl, none-fits-iff-none-keeps s (passes-set (h .0)) .1 (h .1))),
+    λ h. refuses-next cs last 0 (h .0) (none-fits-iff-none-keeps s (sets (h .0)) .1 (h .1)),
   )
 
   -- So the number of any refusal is 7 in that case, then with 0, and in no other.
-  pub refusal-owes : (n k : ℕ) → Refuses (before ++ (last ∷ [])) n k
-      → (n ≡ 7 → Accepts before × NoneKeeps s) × (Accepts before × NoneKeeps s → (n ≡ 7) × (k ≡ 0))
+  pub refusal-owes : (n k : ℕ) → Refuses (cs ▹ last) n k → (n ≡ 7 → Accepts cs × NoneKeeps s) × (Accepts cs × NoneKeeps s → (n ≡ 7) × (k ≡ 0))
   refusal-owes n k h = (
-    λ e. refused-7 k (subst (λ (x : ℕ). Refuses (before ++ (last ∷ [])) x k) e h),
-    λ w. ⊎-elim (λ x. (x .0, x .1 .0)) (λ x. absurd (x .1)) (refuses-rest before (last ∷ []) n k (w .0) h),
+    λ e. refused-7 k (subst (λ (x : ℕ). Refuses (cs ▹ last) x k) e h),
+    λ w. ⊎-elim (λ x. absurd (not-both cs n k (w .0) x)) (λ x. (x .1, x .2 .0)) (refuses-cases cs last n k h),
   )
+
+-- The planner's checks have 2, 3 and 4 among them, and 7 last alone.
+pub ready-set : (s : List ℕ) (planLength workLength : ℕ) → Accepts (readyChecks s planLength workLength) → IsSet Ordinary s
+ready-set s pl wl a =
+    set-of Ordinary s (passed 2 (readyChecks s pl wl) refl a) (passed 3 (readyChecks s pl wl) refl a) (passed 4 (readyChecks s pl wl) refl a)
+
+pub ready-not-7 : (s : List ℕ) (planLength workLength : ℕ) → Without 7 (readyChecks s planLength workLength)
+ready-not-7 s pl wl = without-by 7 (readyChecks s pl wl) refl
 
 -- Whatever meets the planner's definition keeps what demand 3 asks of it.
 module _ (s plan work : List ℕ) where
-  not-7 : Without 7 (lengthChecks s (length plan) (length work))
-  not-7 = ((λ e. omega arith), ((λ e. omega arith), tt))
+  abbrev before : List Check
+  before = readyChecks s (length plan) (length work)
 
   pub answer-owes : (plan′ work′ : List ℕ) (a : PlannerAnswer) → PlannerGives s plan work plan′ work′ a → PlannerOwes s plan work plan′ a
   answer-owes plan′ work′ (Planned unit load hyper energy) g =
       rw (g .1 .2 .front)
-      (plan-given s (accepts-front (setChecks listHead listExtra s) (lengthChecks s (length plan) (length work) ++ (last s (lengthChecks s (length plan) (length work)) not-7 ∷ [])) (g .0)) (g .1 .0) unit load hyper energy (g .1 .1))
+      (plan-given s (ready-set s (length plan) (length work) (accepts-but-last before (noneCheck (Fitting (problem s))) (g .0))) (g .1 .0) unit load hyper energy (g .1 .1))
   answer-owes plan′ work′ (NotPlanned r) g =
-      let owes = refusal-owes s (lengthChecks s (length plan) (length work)) not-7 (number r) (second r) (g .0) in
+      let owes = refusal-owes s before (ready-set s (length plan) (length work)) (ready-not-7 s (length plan) (length work)) (number r) (second r) (g .0) in
       (owes .0, (λ w. owes .1 w .0))
 
 -- ---- the walk's answer
@@ -123,7 +122,7 @@ outcome-missed (kept b i p) t k e = let z : _≡_ {A = ℕ} 0 1 = cc in absurd (
 outcome-missed (missed t′ k′) t k e = cc
 
 -- A plan without a fault is one rate number, 1 to M, for each task.
-pub plan-of : (s P : List ℕ) → ((k : ℕ) → IsBadPlan (rateCount listHead s) (taskCount listHead s) P k → ⊥) → IsPlan (problem s) P
+pub plan-of : (s P : List ℕ) → ((k : ℕ) → IsBadPlan (rateCount Ordinary s) (taskCount Ordinary s) P k → ⊥) → IsPlan (problem s) P
 plan-of s P pass =
     record {
       size = size;
@@ -131,47 +130,51 @@ plan-of s P pass =
       below = λ t l. number-of t l .1;
     }
   where
-    none : (k : ℕ) → PlanFault (rateCount listHead s) (taskCount listHead s) P k → ⊥
-    none = no-plan-fault (rateCount listHead s) (taskCount listHead s) P pass
+    none : (k : ℕ) → PlanFault (rateCount Ordinary s) (taskCount Ordinary s) P k → ⊥
+    none = no-plan-fault (rateCount Ordinary s) (taskCount Ordinary s) P pass
 
-    size : length P ≡ taskCount listHead s
+    size : length P ≡ taskCount Ordinary s
     size =
         ⊎-elim
-        (λ (l : length P < taskCount listHead s). absurd (none (length P) (inr (inl (refl, l)))))
-        (λ (l : taskCount listHead s ≤ length P).
+        (λ (l : length P < taskCount Ordinary s). absurd (none (length P) (inr (inl (refl, l)))))
+        (λ (l : taskCount Ordinary s ≤ length P).
         ⊎-elim
-        (λ (m : taskCount listHead s < length P). absurd (none (taskCount listHead s) (inr (inr (refl, m)))))
-        (λ (m : length P ≤ taskCount listHead s). omega arith)
-        (lt-or-le (taskCount listHead s) (length P)))
-        (lt-or-le (length P) (taskCount listHead s))
+        (λ (m : taskCount Ordinary s < length P). absurd (none (taskCount Ordinary s) (inr (inr (refl, m)))))
+        (λ (m : length P ≤ taskCount Ordinary s). omega arith)
+        (lt-or-le (taskCount Ordinary s) (length P)))
+        (lt-or-le (length P) (taskCount Ordinary s))
 
-    number-of : (t : ℕ) → t < taskCount listHead s → (1 ≤ getD P t 0) × (getD P t 0 ≤ rateCount listHead s)
+    number-of : (t : ℕ) → t < taskCount Ordinary s → (1 ≤ getD P t 0) × (getD P t 0 ≤ rateCount Ordinary s)
     number-of t l =
         ⊎-elim
-        (λ (e : between 1 (rateCount listHead s) (getD P t 0) ≡ true). between-true 1 (rateCount listHead s) (getD P t 0) e)
-        (λ (e : between 1 (rateCount listHead s) (getD P t 0) ≡ false). absurd (none t (inl (omega (arith, size), e))))
-        (bool-cases (between 1 (rateCount listHead s) (getD P t 0)))
+        (λ (e : between 1 (rateCount Ordinary s) (getD P t 0) ≡ true). between-true 1 (rateCount Ordinary s) (getD P t 0) e)
+        (λ (e : between 1 (rateCount Ordinary s) (getD P t 0) ≡ false). absurd (none t (inl (omega (arith, size), e))))
+        (bool-cases (between 1 (rateCount Ordinary s) (getD P t 0)))
 
 -- And such a plan has no fault.
-pub sound-plan : (s P : List ℕ) → IsPlan (problem s) P → (k : ℕ) → IsBadPlan (rateCount listHead s) (taskCount listHead s) P k → ⊥
+pub sound-plan : (s P : List ℕ) → IsPlan (problem s) P → (k : ℕ) → IsBadPlan (rateCount Ordinary s) (taskCount Ordinary s) P k → ⊥
 sound-plan s P p k bad =
     ⊎-elim
-    (λ (x : (k < length P) × (between 1 (rateCount listHead s) (getD P k 0) ≡ false)).
-    true≢false (sym (true-between 1 (rateCount listHead s) (getD P k 0) (p .above k (omega (arith, x .0, p .size))) (p .below k (omega (arith, x .0, p .size)))) ∙ x .1))
+    (λ (x : (k < length P) × (between 1 (rateCount Ordinary s) (getD P k 0) ≡ false)).
+    true≢false (sym (true-between 1 (rateCount Ordinary s) (getD P k 0) (p .above k (omega (arith, x .0, p .size))) (p .below k (omega (arith, x .0, p .size)))) ∙ x .1))
     (⊎-elim
-    (λ (x : (k ≡ length P) × (length P < taskCount listHead s)). omega (arith, x .1, p .size))
-    (λ (x : (k ≡ taskCount listHead s) × (taskCount listHead s < length P)). omega (arith, x .1, p .size)))
+    (λ (x : (k ≡ length P) × (length P < taskCount Ordinary s)). omega (arith, x .1, p .size))
+    (λ (x : (k ≡ taskCount Ordinary s) × (taskCount Ordinary s < length P)). omega (arith, x .1, p .size)))
     (bad .here)
+
+-- The walk's checks have 2, 3 and 4 among them.
+pub walk-set : (s P : List ℕ) → Accepts (walkChecks s P) → IsSet Ordinary s
+walk-set s P a = set-of Ordinary s (passed 2 (walkChecks s P) refl a) (passed 3 (walkChecks s P) refl a) (passed 4 (walkChecks s P) refl a)
 
 -- Whatever meets the walk's definition keeps what the walk owes.
 pub walk-owes : (s P : List ℕ) (a : WalkAnswer) → WalkAnswers s P a → WalkOwes s P a
 walk-owes s P (Kept b i p) h =
-    let set : Accepts (setChecks listHead listExtra s) = (h .0 .0, (h .0 .1 .0, (h .0 .1 .1 .0, tt))) in
-    let o = outcome-kept (walk (tasks s P) (hyperPeriod listHead listExtra s)) b i p (h .1) in
-    (record { plan = plan-of s P (h .0 .1 .1 .1 .0); for-ever = walk-decides s set P .0 (rw o tt) }, walk-busy s set P b i p o .0)
+    let set = walk-set s P (h .0) in
+    let o = outcome-kept (walk (walkTasks Ordinary s P) (hyperPeriod Ordinary s)) b i p (h .1) in
+    (record { plan = plan-of s P (passed 8 (walkChecks s P) refl (h .0)); for-ever = walk-decides s set P .0 (rw o tt) }, walk-busy s set P b i p o .0)
 walk-owes s P (Missed t k) h =
     λ keeps.
-    let set : Accepts (setChecks listHead listExtra s) = (h .0 .0, (h .0 .1 .0, (h .0 .1 .1 .0, tt))) in
-    let o = outcome-missed (walk (tasks s P) (hyperPeriod listHead listExtra s)) t k (h .1) in
+    let set = walk-set s P (h .0) in
+    let o = outcome-missed (walk (walkTasks Ordinary s P) (hyperPeriod Ordinary s)) t k (h .1) in
     subst IsKept o (walk-decides s set P .1 keeps)
 walk-owes s P (NotWalked r) h = tt

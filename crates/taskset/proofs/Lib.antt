@@ -1,6 +1,4 @@
 pub mod Checks
-pub mod Places
-pub mod Whole
 pub mod Verdict
 pub mod PlanVerdict
 pub mod Sets

@@ -1,18 +1,21 @@
 -- Each call's answer is one: two answers, with what they leave in the lists, that meet the definitions on the same lent lists are
 -- equal.
 -- Assumes nothing.
-use Prim.Native.Nat.{ℕ}
+use Prim.Native.Nat.{ℕ, _≤_}
+use native.Mathlib.Bridge.{le-by-compare, IsLe}
 use mathlib.Core.Path.{_≡_, refl, sym, ap, _∙_}
 use mathlib.Core.Bool.{cond}
-use mathlib.Core.List.{List}
+use mathlib.Core.List.{List, [], _∷_}
 use lib.Dec.{eqb}
 use lib.ListN.{length, take-append-drop}
 use Rattle.selection.specs.Plan.{Fitting}
 use Rattle.selection.proofs.Unique.{planned-unique}
-use Rattle.taskset.specs.Words.{listHead, listExtra, slack, taskCount}
-use Rattle.taskset.specs.Quantities.{problem}
-use Rattle.taskset.specs.Refusals.{number, second, IsShort, NoneOk, Check, Refuses, wordChecks, setChecks, plannerChecks, walkChecks}
-use Rattle.taskset.specs.Calls.{ShapeAnswers, SetAnswers, Selected, PlannerGives, WalkAnswers}
+use Rattle.layout.specs.Words.{slack, taskCount}
+use Rattle.layout.specs.declared.Layout.{Layout}
+use Rattle.layout.specs.declared.Layout.the-variants.{Ordinary}
+use Rattle.taskset.specs.Quantities.{problem, workNeeded}
+use Rattle.taskset.specs.Refusals.{number, second, IsShort, NoneOk, Check, Refuses, _▹_, wordChecks, hyperCheck, workCheck, roomCheck, noneCheck, planCheck, readyChecks, plannerChecks, walkChecks}
+use Rattle.taskset.specs.Calls.{CountsAfter, SetAfter, Selected, PlannerGives, WalkAnswers}
 use Rattle.taskset.specs.declared.Refusal.{Refusal}
 use Rattle.taskset.specs.declared.Refusal.the-variants.{TextDeparts, BadWord, NotAbove, TooLong, WorkShort, TooShort, NoPlan, BadPlan}
 use Rattle.taskset.specs.declared.Shape.{Shape}
@@ -23,7 +26,7 @@ use Rattle.taskset.specs.declared.PlannerAnswer.{PlannerAnswer}
 use Rattle.taskset.specs.declared.PlannerAnswer.the-variants.{Planned, Refused as NotPlanned}
 use Rattle.taskset.specs.declared.WalkAnswer.{WalkAnswer}
 use Rattle.taskset.specs.declared.WalkAnswer.the-variants.{Kept, Missed, Refused as NotWalked}
-use Rattle.taskset.proofs.Checks.{AllSingle, lowest-single, too-long-single, not-both, refuses-unique}
+use Rattle.taskset.proofs.Checks.{Single, AllSingle, single-join, lowest-single, too-long-single, not-both, refuses-unique}
 
 -- A refusal is its number and its second number.
 refusal : ℕ → ℕ → Refusal
@@ -47,6 +50,18 @@ refusal-of (TooShort w) = refl
 refusal-of NoPlan = refl
 refusal-of (BadPlan k) = refl
 
+-- A refusal's number is above 0, and small.
+pub number-range : (r : Refusal) → (1 ≤ number r) × (number r ≤ 100)
+unfolding IsLe
+number-range (TextDeparts o) = (le-by-compare _ _ tt, le-by-compare _ _ tt)
+number-range (BadWord q) = (le-by-compare _ _ tt, le-by-compare _ _ tt)
+number-range (NotAbove q) = (le-by-compare _ _ tt, le-by-compare _ _ tt)
+number-range (TooLong q) = (le-by-compare _ _ tt, le-by-compare _ _ tt)
+number-range (WorkShort w) = (le-by-compare _ _ tt, le-by-compare _ _ tt)
+number-range (TooShort w) = (le-by-compare _ _ tt, le-by-compare _ _ tt)
+number-range NoPlan = (le-by-compare _ _ tt, le-by-compare _ _ tt)
+number-range (BadPlan k) = (le-by-compare _ _ tt, le-by-compare _ _ tt)
+
 -- Two refusals of the same checks are one.
 pub refusal-unique : (cs : List Check) → AllSingle cs → (p r : Refusal) → Refuses cs (number p) (second p) → Refuses cs (number r) (second r) → p ≡ r
 refusal-unique cs a p r x y =
@@ -59,31 +74,45 @@ short-single needed lent j k a b = a .1 ∙ sym (b .1)
 pub none-single : (Ok : List ℕ → Type 0) (j k : ℕ) → NoneOk Ok j → NoneOk Ok k → j ≡ k
 none-single Ok j k a b = a .0 ∙ sym (b .0)
 
+-- ---- the checks of each call: every cause has one second number
+pub single-next : (cs : List Check) (c : Check) → AllSingle cs → Single c → AllSingle (cs ▹ c)
+single-next cs c a b = single-join cs (c ∷ []) a (b, tt)
+
+pub word-single : (layout : Layout) (s : List ℕ) → AllSingle (wordChecks layout s)
+word-single layout s = (lowest-single, (lowest-single, tt))
+
+pub set-single : (layout : Layout) (s : List ℕ) → AllSingle (wordChecks layout s ▹ hyperCheck layout s)
+set-single layout s = single-next (wordChecks layout s) (hyperCheck layout s) (word-single layout s) (too-long-single layout s)
+
+pub ready-single : (s : List ℕ) (planLength workLength : ℕ) → AllSingle (readyChecks s planLength workLength)
+ready-single s pl wl =
+    single-next (set ▹ workCheck (workNeeded s) wl) (roomCheck (taskCount Ordinary s) pl)
+    (single-next set (workCheck (workNeeded s) wl) (set-single Ordinary s) (short-single (workNeeded s) wl))
+    (short-single (taskCount Ordinary s) pl)
+  where
+    set : List Check
+    set = wordChecks Ordinary s ▹ hyperCheck Ordinary s
+
 pub planner-single : (s : List ℕ) (planLength workLength : ℕ) → AllSingle (plannerChecks s planLength workLength)
 planner-single s pl wl =
-    (lowest-single, (lowest-single, (too-long-single listHead listExtra s, (short-single _ wl, (short-single _ pl, (none-single (Fitting (problem s)), tt))))))
+    single-next (readyChecks s pl wl) (noneCheck (Fitting (problem s))) (ready-single s pl wl) (none-single (Fitting (problem s)))
 
 pub walk-single : (s P : List ℕ) → AllSingle (walkChecks s P)
-walk-single s P = (lowest-single, (lowest-single, (too-long-single listHead listExtra s, (lowest-single, tt))))
+walk-single s P = single-next (wordChecks Ordinary s ▹ hyperCheck Ordinary s) (planCheck Ordinary s P) (set-single Ordinary s) lowest-single
 
-pub set-single : (head extra : ℕ) (s : List ℕ) → AllSingle (setChecks head extra s)
-set-single head extra s = (lowest-single, (lowest-single, (too-long-single head extra s, tt)))
+-- ---- what checks answer
+module _ (cs : List Check) (single : AllSingle cs) (layout : Layout) (s : List ℕ) where
+  pub counts-unique : (a b : Shape) → CountsAfter cs layout s a → CountsAfter cs layout s b → a ≡ b
+  counts-unique (Whole m n) (Whole m′ n′) x y = cc (x .1, y .1, x .2, y .2)
+  counts-unique (Whole m n) (NotWhole r) x y = absurd (not-both cs (number r) (second r) (x .0) y)
+  counts-unique (NotWhole r) (Whole m n) x y = absurd (not-both cs (number r) (second r) (y .0) x)
+  counts-unique (NotWhole q) (NotWhole r) x y = ap NotWhole (refusal-unique cs single q r x y)
 
-pub word-single : (head extra : ℕ) (s : List ℕ) → AllSingle (wordChecks head extra s)
-word-single head extra s = (lowest-single, (lowest-single, tt))
-
--- ---- the checks of a list
-pub shape-unique : (head extra : ℕ) (s : List ℕ) (a b : Shape) → ShapeAnswers head extra s a → ShapeAnswers head extra s b → a ≡ b
-shape-unique head extra s (Whole m n) (Whole m′ n′) x y = cc (x .1, y .1, x .2, y .2)
-shape-unique head extra s (Whole m n) (NotWhole r) x y = absurd (not-both (wordChecks head extra s) (number r) (second r) (x .0) y)
-shape-unique head extra s (NotWhole r) (Whole m n) x y = absurd (not-both (wordChecks head extra s) (number r) (second r) (y .0) x)
-shape-unique head extra s (NotWhole q) (NotWhole r) x y = ap NotWhole (refusal-unique (wordChecks head extra s) (word-single head extra s) q r x y)
-
-pub set-unique : (head extra : ℕ) (s : List ℕ) (a b : Checked) → SetAnswers head extra s a → SetAnswers head extra s b → a ≡ b
-set-unique head extra s (Good m n l) (Good m′ n′ l′) x y = cc (x .1, y .1, x .2, y .2, x .3, y .3)
-set-unique head extra s (Good m n l) (NotGood r) x y = absurd (not-both (setChecks head extra s) (number r) (second r) (x .0) y)
-set-unique head extra s (NotGood r) (Good m n l) x y = absurd (not-both (setChecks head extra s) (number r) (second r) (y .0) x)
-set-unique head extra s (NotGood q) (NotGood r) x y = ap NotGood (refusal-unique (setChecks head extra s) (set-single head extra s) q r x y)
+  pub set-unique : (a b : Checked) → SetAfter cs layout s a → SetAfter cs layout s b → a ≡ b
+  set-unique (Good m n l) (Good m′ n′ l′) x y = cc (x .1, y .1, x .2, y .2, x .3, y .3)
+  set-unique (Good m n l) (NotGood r) x y = absurd (not-both cs (number r) (second r) (x .0) y)
+  set-unique (NotGood r) (Good m n l) x y = absurd (not-both cs (number r) (second r) (y .0) x)
+  set-unique (NotGood q) (NotGood r) x y = ap NotGood (refusal-unique cs single q r x y)
 
 -- ---- the planner
 pub record SameGiven (a b : PlannerAnswer) (plan₁ work₁ plan₂ work₂ : List ℕ) : Type 0 where
@@ -99,7 +128,7 @@ selected-unique s P Q v w x y =
 pub planner-unique : (s plan work plan₁ work₁ plan₂ work₂ : List ℕ) (a b : PlannerAnswer)
     → PlannerGives s plan work plan₁ work₁ a → PlannerGives s plan work plan₂ work₂ b → SameGiven a b plan₁ work₁ plan₂ work₂
 planner-unique s plan work p₁ w₁ p₂ w₂ (Planned u l h e) (Planned u′ l′ h′ e′) x y =
-    let n : ℕ = taskCount listHead s in
+    let n : ℕ = taskCount Ordinary s in
     let same = selected-unique s (x .1 .0) (y .1 .0) _ _ (x .1 .1) (y .1 .1) in
     let values = same .1 in
     let f = x .1 .2 in
@@ -107,7 +136,7 @@ planner-unique s plan work p₁ w₁ p₂ w₂ (Planned u l h e) (Planned u′ l
     record {
       answer = cc;
       plan = sym (take-append-drop n p₁) ∙ cc (f .front, g .front, same .0, f .rest, g .rest) ∙ take-append-drop n p₂;
-      work = f .cleared ∙ sym (g .cleared);
+      work = x .2 ∙ sym (y .2);
     }
 planner-unique s plan work p₁ w₁ p₂ w₂ (Planned u l h e) (NotPlanned r) x y = absurd (not-both (plannerChecks s (length plan) (length work)) (number r) (second r) (x .0) (y .0))
 planner-unique s plan work p₁ w₁ p₂ w₂ (NotPlanned r) (Planned u l h e) x y = absurd (not-both (plannerChecks s (length plan) (length work)) (number r) (second r) (y .0) (x .0))

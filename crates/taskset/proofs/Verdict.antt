@@ -3,7 +3,7 @@
 use Prim.Native.Nat.{ℕ, suc, _-_, _≤_, _<_}
 use mathlib.Core.Path.{_≡_, refl, sym, _∙_, subst}
 use mathlib.Core.Bool.{Bool, cond, not, true≢false}
-use mathlib.Core.List.{List, [], _∷_}
+use mathlib.Core.List.{List}
 use mathlib.Core.Logic.{inl, inr, ⊎-elim}
 use native.Mathlib.Omega.{arith}
 use borrow.Author.Tests.{lt-ltb, le-ltb, leb-true, le-leb, ltb-true, not-true, not-false}
@@ -12,26 +12,27 @@ use lib.ListN.{length}
 use Rattle.numbers.specs.Numbers.{running}
 use Rattle.numbers.proofs.Tests.{lt-or-le, cond-true, cond-false}
 use Rattle.numbers.proofs.Search.{first, first-from, first-holds, first-before}
-use Rattle.taskset.specs.Words.{word, rateCount, taskCount, ratePlace, taskCountPlace, periodPlace, wordCount, period, kindAt, allows}
+use Rattle.layout.specs.Words.{word, rateCount, taskCount, ratePlace, taskCountPlace, periodPlace, wordCount, period, kindAt, allows, WordFault}
+use Rattle.layout.specs.declared.Layout.{Layout}
 use Rattle.taskset.specs.Quantities.{hyperLimit, hyperPeriod}
-use Rattle.taskset.specs.Refusals.{WordFault, IsBadWord, RateFault, IsNotAbove, PassesLimit, IsTooLong, number, second, check, wordChecks}
-use Rattle.taskset.specs.Calls.{ShapeAnswers, SetAnswers}
+use Rattle.taskset.specs.Refusals.{IsBadWord, RateFault, IsNotAbove, PassesLimit, IsTooLong, number, second, _▹_, hyperCheck, wordChecks}
+use Rattle.taskset.specs.Calls.{CountsAfter, SetAfter}
 use Rattle.taskset.specs.declared.Refusal.the-variants.{BadWord, NotAbove, TooLong}
 use Rattle.taskset.specs.declared.Shape.{Shape}
 use Rattle.taskset.specs.declared.Shape.the-variants.{Whole, Refused as NotWhole}
 use Rattle.taskset.specs.declared.Checked.{Checked}
 use Rattle.taskset.specs.declared.Checked.the-variants.{Good, Refused as NotGood}
-use Rattle.taskset.proofs.Checks.{refuses-front}
+use Rattle.taskset.proofs.Checks.{accepts-next, refuses-next, refuses-before}
 
-module _ (head extra : ℕ) (s : List ℕ) where
+module _ (layout : Layout) (s : List ℕ) where
   unfoldable pub isBad : ℕ → Bool
-  isBad q = not (allows (kindAt head extra s q) (word s q))
+  isBad q = not (allows s q (kindAt layout s q))
 
   unfoldable pub isFall : ℕ → Bool
   isFall q = leb (word s q) (word s (q - 1))
 
   unfoldable pub isOver : ℕ → Bool
-  isOver t = ltb hyperLimit (running (period head extra s) (suc t))
+  isOver t = ltb hyperLimit (running (period layout s) (suc t))
 
   -- The first bad or left-over word, the first rate that is not above the one before it, the first task whose period takes the
   -- running multiple past the limit; the end of the stretch where there is none.
@@ -39,22 +40,22 @@ module _ (head extra : ℕ) (s : List ℕ) where
   firstBad = first isBad 0 (length s)
 
   abbrev pub firstFall : ℕ
-  firstFall = first isFall (ratePlace head 2) (taskCountPlace head (rateCount head s))
+  firstFall = first isFall (ratePlace layout 2) (taskCountPlace layout (rateCount layout s))
 
   abbrev pub firstOver : ℕ
-  firstOver = first isOver 0 (taskCount head s)
+  firstOver = first isOver 0 (taskCount layout s)
 
   unfoldable pub shapeOf : Shape
   shapeOf =
       cond (ltb firstBad (length s)) (NotWhole (BadWord firstBad))
-      (cond (ltb (length s) (wordCount head extra s)) (NotWhole (BadWord (length s)))
-      (cond (ltb firstFall (taskCountPlace head (rateCount head s))) (NotWhole (NotAbove firstFall))
-      (Whole (rateCount head s) (taskCount head s))))
+      (cond (ltb (length s) (wordCount layout s)) (NotWhole (BadWord (length s)))
+      (cond (ltb firstFall (taskCountPlace layout (rateCount layout s))) (NotWhole (NotAbove firstFall))
+      (Whole (rateCount layout s) (taskCount layout s))))
 
   unfoldable pub afterShape : Shape → Checked
   afterShape (Whole m n) =
-      cond (ltb firstOver (taskCount head s)) (NotGood (TooLong (periodPlace head extra (rateCount head s) firstOver)))
-      (Good m n (hyperPeriod head extra s))
+      cond (ltb firstOver (taskCount layout s)) (NotGood (TooLong (periodPlace layout (rateCount layout s) firstOver)))
+      (Good m n (hyperPeriod layout s))
   afterShape (NotWhole r) = NotGood r
 
   unfoldable pub checkedOf : Checked
@@ -62,7 +63,7 @@ module _ (head extra : ℕ) (s : List ℕ) where
 
   -- ---- check 2
   -- No word before a place that the search has passed is bad.
-  passed : (q : ℕ) → q < firstBad → q < length s → WordFault head extra s q → ⊥
+  passed : (q : ℕ) → q < firstBad → q < length s → WordFault layout s q → ⊥
   unfolding isBad
   passed q l h f =
       ⊎-elim
@@ -70,89 +71,89 @@ module _ (head extra : ℕ) (s : List ℕ) where
       (λ w. absurd (omega arith))
       f
 
-  bad-word : firstBad < length s → IsBadWord head extra s firstBad
+  bad-word : firstBad < length s → IsBadWord layout s firstBad
   unfolding isBad
   bad-word h = record {
     here = inl (h, not-true _ (first-holds isBad 0 (length s) h));
     before = λ j l f. passed j l (omega arith) f;
   }
 
-  missing-word : length s ≤ firstBad → length s < wordCount head extra s → IsBadWord head extra s (length s)
+  missing-word : length s ≤ firstBad → length s < wordCount layout s → IsBadWord layout s (length s)
   missing-word a h = record { here = inr (refl, h); before = λ j l f. passed j (omega arith) l f }
 
-  words-pass : length s ≤ firstBad → wordCount head extra s ≤ length s → (q : ℕ) → WordFault head extra s q → ⊥
+  words-pass : length s ≤ firstBad → wordCount layout s ≤ length s → (q : ℕ) → WordFault layout s q → ⊥
   words-pass a h q f = ⊎-elim (λ w. passed q (omega (arith, w .0)) (w .0) f) (λ w. absurd (omega arith)) f
 
   -- ---- check 3
-  rates-before : (q : ℕ) → q < firstFall → RateFault head extra s q → ⊥
+  rates-before : (q : ℕ) → q < firstFall → RateFault layout s q → ⊥
   unfolding isFall
-  rates-before q l f = true≢false (sym (le-leb _ _ (f .2)) ∙ first-before isFall (ratePlace head 2) (taskCountPlace head (rateCount head s)) q (f .0) l)
+  rates-before q l f = true≢false (sym (le-leb _ _ (f .2)) ∙ first-before isFall (ratePlace layout 2) (taskCountPlace layout (rateCount layout s)) q (f .0) l)
 
-  not-above : firstFall < taskCountPlace head (rateCount head s) → IsNotAbove head extra s firstFall
+  not-above : firstFall < taskCountPlace layout (rateCount layout s) → IsNotAbove layout s firstFall
   unfolding isFall
   not-above h = record {
     here = (
-      first-from isFall (ratePlace head 2) (taskCountPlace head (rateCount head s)),
+      first-from isFall (ratePlace layout 2) (taskCountPlace layout (rateCount layout s)),
       omega arith,
-      leb-true _ _ (first-holds isFall (ratePlace head 2) (taskCountPlace head (rateCount head s)) h),
+      leb-true _ _ (first-holds isFall (ratePlace layout 2) (taskCountPlace layout (rateCount layout s)) h),
     );
     before = rates-before;
   }
 
-  rates-pass : taskCountPlace head (rateCount head s) ≤ firstFall → (q : ℕ) → RateFault head extra s q → ⊥
+  rates-pass : taskCountPlace layout (rateCount layout s) ≤ firstFall → (q : ℕ) → RateFault layout s q → ⊥
   rates-pass h q f = rates-before q (omega (arith, f .1)) f
 
   -- ---- check 4
-  limit-before : (t : ℕ) → t < firstOver → PassesLimit head extra s t → ⊥
+  limit-before : (t : ℕ) → t < firstOver → PassesLimit layout s t → ⊥
   unfolding isOver
-  limit-before t l f = true≢false (sym (lt-ltb _ _ (f .1)) ∙ first-before isOver 0 (taskCount head s) t (omega arith) l)
+  limit-before t l f = true≢false (sym (lt-ltb _ _ (f .1)) ∙ first-before isOver 0 (taskCount layout s) t (omega arith) l)
 
-  too-long : firstOver < taskCount head s → IsTooLong head extra s (periodPlace head extra (rateCount head s) firstOver)
+  too-long : firstOver < taskCount layout s → IsTooLong layout s (periodPlace layout (rateCount layout s) firstOver)
   unfolding isOver
-  too-long h = (firstOver, record { here = (h, ltb-true _ _ (first-holds isOver 0 (taskCount head s) h)); before = limit-before }, refl)
+  too-long h = (firstOver, record { here = (h, ltb-true _ _ (first-holds isOver 0 (taskCount layout s) h)); before = limit-before }, refl)
 
-  limit-pass : taskCount head s ≤ firstOver → (t : ℕ) → PassesLimit head extra s t → ⊥
+  limit-pass : taskCount layout s ≤ firstOver → (t : ℕ) → PassesLimit layout s t → ⊥
   limit-pass h t f = limit-before t (omega (arith, f .0)) f
 
   -- ---- the verdicts
-  pub shape-answers : ShapeAnswers head extra s shapeOf
+  pub shape-answers : CountsAfter (wordChecks layout s) layout s shapeOf
   unfolding shapeOf
   shape-answers =
       ⊎-elim
       (λ (a : firstBad < length s). answer (cond-true _ _ _ (lt-ltb _ _ a)) (inl (refl, bad-word a)))
       (λ (a : length s ≤ firstBad).
       ⊎-elim
-      (λ (b : length s < wordCount head extra s).
+      (λ (b : length s < wordCount layout s).
       answer (cond-false _ _ _ (le-ltb _ _ a) ∙ cond-true _ _ _ (lt-ltb _ _ b)) (inl (refl, missing-word a b)))
-      (λ (b : wordCount head extra s ≤ length s).
+      (λ (b : wordCount layout s ≤ length s).
       let so-far = cond-false _ _ _ (le-ltb _ _ a) ∙ cond-false _ _ _ (le-ltb _ _ b) in
-      let pass : (q : ℕ) → IsBadWord head extra s q → ⊥ = λ q h. words-pass a b q (h .here) in
+      let pass : (q : ℕ) → IsBadWord layout s q → ⊥ = λ q h. words-pass a b q (h .here) in
       ⊎-elim
-      (λ (c : firstFall < taskCountPlace head (rateCount head s)).
+      (λ (c : firstFall < taskCountPlace layout (rateCount layout s)).
       answer (so-far ∙ cond-true _ _ _ (lt-ltb _ _ c)) (inr (pass, inl (refl, not-above c))))
-      (λ (c : taskCountPlace head (rateCount head s) ≤ firstFall).
+      (λ (c : taskCountPlace layout (rateCount layout s) ≤ firstFall).
       answer (so-far ∙ cond-false _ _ _ (le-ltb _ _ c)) ((pass, ((λ q h. rates-pass c q (h .here)), tt)), refl, refl))
-      (lt-or-le firstFall (taskCountPlace head (rateCount head s))))
-      (lt-or-le (length s) (wordCount head extra s)))
+      (lt-or-le firstFall (taskCountPlace layout (rateCount layout s))))
+      (lt-or-le (length s) (wordCount layout s)))
       (lt-or-le firstBad (length s))
     where
-      answer : {x : Shape} → shapeOf ≡ x → ShapeAnswers head extra s x → ShapeAnswers head extra s shapeOf
-      answer {x} e h = subst (ShapeAnswers head extra s) (sym e) h
+      answer : {x : Shape} → shapeOf ≡ x → CountsAfter (wordChecks layout s) layout s x → CountsAfter (wordChecks layout s) layout s shapeOf
+      answer {x} e h = subst (CountsAfter (wordChecks layout s) layout s) (sym e) h
 
-  after-shape : (x : Shape) → ShapeAnswers head extra s x → SetAnswers head extra s (afterShape x)
+  after-shape : (x : Shape) → CountsAfter (wordChecks layout s) layout s x → SetAfter (wordChecks layout s ▹ hyperCheck layout s) layout s (afterShape x)
   unfolding afterShape
   after-shape (Whole m n) h =
       ⊎-elim
-      (λ (d : firstOver < taskCount head s).
-      answer (cond-true _ _ _ (lt-ltb _ _ d)) (inr (h .0 .0, inr (h .0 .1 .0, inl (refl, too-long d)))))
-      (λ (d : taskCount head s ≤ firstOver).
-      answer (cond-false _ _ _ (le-ltb _ _ d)) ((h .0 .0, (h .0 .1 .0, ((λ q w. limit-pass d (w .0) (w .1 .here)), tt))), h .1, h .2, refl))
-      (lt-or-le firstOver (taskCount head s))
+      (λ (d : firstOver < taskCount layout s).
+      answer (cond-true _ _ _ (lt-ltb _ _ d)) (refuses-next (wordChecks layout s) (hyperCheck layout s) _ (h .0) (too-long d)))
+      (λ (d : taskCount layout s ≤ firstOver).
+      answer (cond-false _ _ _ (le-ltb _ _ d)) (accepts-next (wordChecks layout s) (hyperCheck layout s) (h .0) (λ q w. limit-pass d (w .0) (w .1 .here)), h .1, h .2, refl))
+      (lt-or-le firstOver (taskCount layout s))
     where
-      answer : {x : Checked} → afterShape (Whole m n) ≡ x → SetAnswers head extra s x → SetAnswers head extra s (afterShape (Whole m n))
-      answer {x} e w = subst (SetAnswers head extra s) (sym e) w
-  after-shape (NotWhole r) h = refuses-front (wordChecks head extra s) (check 4 (IsTooLong head extra s) ∷ []) (number r) (second r) h
+      answer : {x : Checked} → afterShape (Whole m n) ≡ x → SetAfter (wordChecks layout s ▹ hyperCheck layout s) layout s x → SetAfter (wordChecks layout s ▹ hyperCheck layout s) layout s (afterShape (Whole m n))
+      answer {x} e w = subst (SetAfter (wordChecks layout s ▹ hyperCheck layout s) layout s) (sym e) w
+  after-shape (NotWhole r) h = refuses-before (wordChecks layout s) (hyperCheck layout s) (number r) (second r) h
 
-  pub checked-answers : SetAnswers head extra s checkedOf
+  pub checked-answers : SetAfter (wordChecks layout s ▹ hyperCheck layout s) layout s checkedOf
   unfolding checkedOf
   checked-answers = after-shape shapeOf shape-answers

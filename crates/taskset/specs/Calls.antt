@@ -5,9 +5,11 @@ use mathlib.Core.List.{List, [], _∷_, _++_}
 use lib.ListN.{length, take, drop, replicate}
 use Rattle.schedule.specs.Counted.{Outcome, missed, kept, walk}
 use Rattle.selection.specs.Plan.{planLoad, IsPlanned}
-use Rattle.taskset.specs.Words.{listHead, listExtra, slack, rateCount, taskCount}
-use Rattle.taskset.specs.Quantities.{hyperPeriod, problem, tasks, reportedEnergy, workNeeded}
-use Rattle.taskset.specs.Refusals.{number, second, Accepts, Refuses, wordChecks, setChecks, plannerChecks, walkChecks}
+use Rattle.layout.specs.Words.{slack, rateCount, taskCount}
+use Rattle.layout.specs.declared.Layout.{Layout}
+use Rattle.layout.specs.declared.Layout.the-variants.{Ordinary}
+use Rattle.taskset.specs.Quantities.{hyperPeriod, problem, walkTasks, reportedEnergy, workNeeded}
+use Rattle.taskset.specs.Refusals.{number, second, Check, Accepts, Refuses, plannerChecks, walkChecks}
 use Rattle.taskset.specs.declared.Refusal.{Refusal}
 use Rattle.taskset.specs.declared.Shape.{Shape}
 use Rattle.taskset.specs.declared.Shape.the-variants.{Whole, Refused as NotWhole}
@@ -44,34 +46,39 @@ pub record Copied (ws d d′ : List ℕ) (a : CopyAnswer) : Type 0 where
   pub values-are : copyValues a ≡ length ws ∷ []
   pub list-is : d′ ≡ ws ++ drop (length ws) d
 
--- THE CHECKS OF A LIST. After 2 and 3 its rate count and task count, after 4 its hyper-period too.
-abbrev pub ShapeAnswers : ℕ → ℕ → List ℕ → Shape → Type 0
-ShapeAnswers head extra s (Whole rates tasks) = Accepts (wordChecks head extra s) × (rates ≡ rateCount head s) × (tasks ≡ taskCount head s)
-ShapeAnswers head extra s (NotWhole r) = Refuses (wordChecks head extra s) (number r) (second r)
+-- WHAT CHECKS ANSWER. cs are the checks that a call makes of a list, in their order: a refusal is the first that holds; where none holds, the
+-- counts are the list's own, and with check 4 among them the hyper-period too.
+abbrev pub CountsAfter : List Check → Layout → List ℕ → Shape → Type 0
+CountsAfter cs layout s (Whole rates tasks) = Accepts cs × (rates ≡ rateCount layout s) × (tasks ≡ taskCount layout s)
+CountsAfter cs layout s (NotWhole r) = Refuses cs (number r) (second r)
 
-abbrev pub SetAnswers : ℕ → ℕ → List ℕ → Checked → Type 0
-SetAnswers head extra s (Good rates tasks hyper) =
-    Accepts (setChecks head extra s) × (rates ≡ rateCount head s) × (tasks ≡ taskCount head s) × (hyper ≡ hyperPeriod head extra s)
-SetAnswers head extra s (NotGood r) = Refuses (setChecks head extra s) (number r) (second r)
+abbrev pub SetAfter : List Check → Layout → List ℕ → Checked → Type 0
+SetAfter cs layout s (Good rates tasks hyper) =
+    Accepts cs × (rates ≡ rateCount layout s) × (tasks ≡ taskCount layout s) × (hyper ≡ hyperPeriod layout s)
+SetAfter cs layout s (NotGood r) = Refuses cs (number r) (second r)
 
 -- THE PLANNER. "The call returns unit, load, L and energy": P is the plan that document 01 selects, the values are its own.
 pub record Selected (s P values : List ℕ) : Type 0 where
   pub exponent : ℕ
   pub planned : IsPlanned (problem s) (slack s) exponent P
-  pub values-are : values ≡ 2 ^ exponent ∷ planLoad (problem s) P ∷ hyperPeriod listHead listExtra s ∷ reportedEnergy s P ∷ []
+  pub values-are : values ≡ 2 ^ exponent ∷ planLoad (problem s) P ∷ hyperPeriod Ordinary s ∷ reportedEnergy s P ∷ []
 
--- "On success the first N words of the plan list hold the plan, the first W working words hold 0, and every other word stays." plan and
--- work are the lists as lent, plan′ and work′ as given back: P stands in the first n words, w words hold 0.
-pub record Filled (n w : ℕ) (P plan work plan′ work′ : List ℕ) : Type 0 where
+-- "On success the first N words of the plan list hold the plan, .. and every other word stays." plan is the list as lent, plan′ as given
+-- back: P stands in the first n words.
+pub record HoldsPlan (n : ℕ) (P plan plan′ : List ℕ) : Type 0 where
   pub front : take n plan′ ≡ P
   pub rest : drop n plan′ ≡ drop n plan
-  pub cleared : work′ ≡ replicate w 0 ++ drop w work
+
+-- "the first W working words hold 0, and every other word stays": w of the list work, which is work′ then.
+abbrev pub Cleared : ℕ → List ℕ → List ℕ → Type 0
+Cleared w work work′ = work′ ≡ replicate w 0 ++ drop w work
 
 -- On refusal 'all' is "As before the call".
 abbrev pub PlannerGives : (s plan work plan′ work′ : List ℕ) → PlannerAnswer → Type 0
 PlannerGives s plan work plan′ work′ (Planned unit load hyper energy) =
     Accepts (plannerChecks s (length plan) (length work)) ×
-    ((P : List ℕ) × Selected s P (plannerValues (Planned unit load hyper energy)) × Filled (taskCount listHead s) (workNeeded s) P plan work plan′ work′)
+    ((P : List ℕ) × Selected s P (plannerValues (Planned unit load hyper energy)) × HoldsPlan (taskCount Ordinary s) P plan plan′) ×
+    Cleared (workNeeded s) work work′
 PlannerGives s plan work plan′ work′ (NotPlanned r) =
     Refuses (plannerChecks s (length plan) (length work)) (number r) (second r) × (plan′ ≡ plan) × (work′ ≡ work)
 
@@ -82,7 +89,7 @@ outcomeValues (missed tick task) = 0 ∷ tick ∷ task ∷ 0 ∷ []
 
 -- The outcome's values are the answer's.
 abbrev pub Walks : List ℕ → List ℕ → WalkAnswer → Type 0
-Walks s P a = Accepts (walkChecks s P) × (walkValues a ≡ outcomeValues (walk (tasks s P) (hyperPeriod listHead listExtra s)))
+Walks s P a = Accepts (walkChecks s P) × (walkValues a ≡ outcomeValues (walk (walkTasks Ordinary s P) (hyperPeriod Ordinary s)))
 
 abbrev pub WalkAnswers : List ℕ → List ℕ → WalkAnswer → Type 0
 WalkAnswers s P (Kept busy idle preempted) = Walks s P (Kept busy idle preempted)

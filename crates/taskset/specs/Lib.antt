@@ -1,4 +1,3 @@
-pub mod Words
 pub mod Quantities
 pub mod Refusals
 pub mod Calls

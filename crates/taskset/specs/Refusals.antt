@@ -7,7 +7,9 @@ use mathlib.Core.Logic.{_⊎_}
 use lib.ListN.{length, getD}
 use Rattle.numbers.specs.Numbers.{between, running, Lowest}
 use Rattle.selection.specs.Plan.{Fitting}
-use Rattle.taskset.specs.Words.{word, listHead, listExtra, rateCount, taskCount, wordCount, ratePlace, periodPlace, period, kindAt, allows}
+use Rattle.layout.specs.Words.{word, rateCount, taskCount, ratePlace, periodPlace, period, WordFault}
+use Rattle.layout.specs.declared.Layout.{Layout}
+use Rattle.layout.specs.declared.Layout.the-variants.{Ordinary}
 use Rattle.taskset.specs.Quantities.{hyperLimit, problem, workNeeded}
 use Rattle.taskset.specs.declared.Refusal.{Refusal}
 use Rattle.taskset.specs.declared.Refusal.the-variants.{TextDeparts, BadWord, NotAbove, TooLong, WorkShort, TooShort, NoPlan, BadPlan}
@@ -35,29 +37,24 @@ second (BadPlan k) = k
 
 -- CAUSES. Each says when it holds with a second number k.
 
-module _ (head extra : ℕ) (s : List ℕ) where
+module _ (layout : Layout) (s : List ℕ) where
   -- 2: "Set word out of its range, missing or left over"; "place of the first such word; the list's length if missing".
-  abbrev pub WordFault : ℕ → Type 0
-  WordFault q =
-      ((q < length s) × (allows (kindAt head extra s q) (word s q) ≡ false)) ⊎
-      ((q ≡ length s) × (length s < wordCount head extra s))
-
   abbrev pub IsBadWord : ℕ → Type 0
-  IsBadWord = Lowest WordFault
+  IsBadWord = Lowest (WordFault layout s)
 
   -- 3: "A rate not above the one before it"; "its place". Of several, the first.
   abbrev pub RateFault : ℕ → Type 0
-  RateFault q = (ratePlace head 2 ≤ q) × (q ≤ ratePlace head (rateCount head s)) × (word s q ≤ word s (q - 1))
+  RateFault q = (ratePlace layout 2 ≤ q) × (q ≤ ratePlace layout (rateCount layout s)) × (word s q ≤ word s (q - 1))
 
   abbrev pub IsNotAbove : ℕ → Type 0
   IsNotAbove = Lowest RateFault
 
   -- 4: "Hyper-period over 10,000,000"; "place of the period at which the running multiple passes it".
   abbrev pub PassesLimit : ℕ → Type 0
-  PassesLimit t = (t < taskCount head s) × (hyperLimit < running (period head extra s) (suc t))
+  PassesLimit t = (t < taskCount layout s) × (hyperLimit < running (period layout s) (suc t))
 
   abbrev pub IsTooLong : ℕ → Type 0
-  IsTooLong q = (t : ℕ) × Lowest PassesLimit t × (q ≡ periodPlace head extra (rateCount head s) t)
+  IsTooLong q = (t : ℕ) × Lowest PassesLimit t × (q ≡ periodPlace layout (rateCount layout s) t)
 
 -- 5: "Working list shorter than W"; "W". 6: "Receiving list or buffer too short"; "words or bytes needed".
 abbrev pub IsShort : ℕ → ℕ → ℕ → Type 0
@@ -101,23 +98,45 @@ abbrev pub Refuses : List Check → ℕ → ℕ → Type 0
 Refuses [] n k = ⊥
 Refuses (c ∷ cs) n k = ((n ≡ c .number) × c .cause k) ⊎ (Passes c × Refuses cs n k)
 
--- Checks 2 and 3 of a list; and 4 after them.
-abbrev pub wordChecks : ℕ → ℕ → List ℕ → List Check
-wordChecks head extra s = check 2 (IsBadWord head extra s) ∷ check 3 (IsNotAbove head extra s) ∷ []
+-- These checks, then one more, c.
+infixl 4 _▹_
+abbrev pub _▹_ : List Check → Check → List Check
+cs ▹ c = cs ++ (c ∷ [])
 
-abbrev pub setChecks : ℕ → ℕ → List ℕ → List Check
-setChecks head extra s = wordChecks head extra s ++ (check 4 (IsTooLong head extra s) ∷ [])
+-- Each check of a list, and of what is lent with it. Of check 7, Ok says which plans count.
+abbrev pub wordCheck : Layout → List ℕ → Check
+wordCheck layout s = check 2 (IsBadWord layout s)
+
+abbrev pub rateCheck : Layout → List ℕ → Check
+rateCheck layout s = check 3 (IsNotAbove layout s)
+
+abbrev pub hyperCheck : Layout → List ℕ → Check
+hyperCheck layout s = check 4 (IsTooLong layout s)
+
+abbrev pub workCheck : ℕ → ℕ → Check
+workCheck needed lent = check 5 (IsShort needed lent)
+
+abbrev pub roomCheck : ℕ → ℕ → Check
+roomCheck needed lent = check 6 (IsShort needed lent)
+
+abbrev pub noneCheck : (List ℕ → Type 0) → Check
+noneCheck Ok = check 7 (NoneOk Ok)
+
+abbrev pub planCheck : Layout → List ℕ → List ℕ → Check
+planCheck layout s P = check 8 (IsBadPlan (rateCount layout s) (taskCount layout s) P)
+
+-- 2 and 3, with which every call on a list begins.
+abbrev pub wordChecks : Layout → List ℕ → List Check
+wordChecks layout s = wordCheck layout s ∷ rateCheck layout s ∷ []
 
 -- "Planner: 2, 3, 4, 5, 6, 7." The lengths are those of the plan list and the working list.
-abbrev pub lengthChecks : List ℕ → ℕ → ℕ → List Check
-lengthChecks s planLength workLength = check 5 (IsShort (workNeeded s) workLength) ∷ check 6 (IsShort (taskCount listHead s) planLength) ∷ []
-
 abbrev pub readyChecks : List ℕ → ℕ → ℕ → List Check
-readyChecks s planLength workLength = setChecks listHead listExtra s ++ lengthChecks s planLength workLength
+readyChecks s planLength workLength =
+    wordChecks Ordinary s ▹ hyperCheck Ordinary s ▹ workCheck (workNeeded s) workLength ▹ roomCheck (taskCount Ordinary s) planLength
 
 abbrev pub plannerChecks : List ℕ → ℕ → ℕ → List Check
-plannerChecks s planLength workLength = readyChecks s planLength workLength ++ (check 7 (NoneOk (Fitting (problem s))) ∷ [])
+plannerChecks s planLength workLength = readyChecks s planLength workLength ▹ noneCheck (Fitting (problem s))
 
 -- "Walk: 2, 3, 4, 8."
 abbrev pub walkChecks : List ℕ → List ℕ → List Check
-walkChecks s P = setChecks listHead listExtra s ++ (check 8 (IsBadPlan (rateCount listHead s) (taskCount listHead s) P) ∷ [])
+walkChecks s P = wordChecks Ordinary s ▹ hyperCheck Ordinary s ▹ planCheck Ordinary s P

@@ -1,18 +1,8 @@
-// A task set as a list of words: what stands where, its quantities, and what each call answers. Here are the types of the answers;
-// specs/ defines what document 01 says of each, proofs/ has the theory. The checks in code, tables and texts are left to the crates
-// above. A list has `head` words before the rate count, and `extra` words between a task's cycles and its energies.
-
-// What a word of a set's list stands for.
-pub enum Kind {
-    Slack,
-    RateCount,
-    Rate,
-    TaskCount,
-    Period,
-    Cycles,
-    Energy,
-    LeftOver,
-}
+// What a task set comes to and what each call answers. Here are the types of the answers, and the table of refusals in code; specs/ defines
+// what document 01 says of each, proofs/ has the theory. What stands where in a set's list is left to the crate layout, the checks in code,
+// tables and texts to the crates above.
+ghost use mathlib.Core.Path.{_≡_};
+ghost use Rattle.taskset.specs.Refusals.{number, second};
 
 // Why a call declines: a case for each row of document 01's table, numbers 1 to 8 in this order, with what is returned beside
 // the number.
@@ -35,13 +25,45 @@ pub enum Refusal {
     BadPlan(usize),
 }
 
-// What checks 2 and 3 answer: rate count and task count of a list, or a refusal.
+// The number of a refusal.
+pub fn number_of(f: Refusal) -> u64
+    ensures { λ r. ⌜ r ≡ number f ⌝ }
+{
+    match f {
+        Refusal::TextDeparts(_) => 1,
+        Refusal::BadWord(_) => 2,
+        Refusal::NotAbove(_) => 3,
+        Refusal::TooLong(_) => 4,
+        Refusal::WorkShort(_) => 5,
+        Refusal::TooShort(_) => 6,
+        Refusal::NoPlan => 7,
+        Refusal::BadPlan(_) => 8,
+    }
+}
+
+// The number that is returned beside it.
+pub fn second_of(f: Refusal) -> u64
+    ensures { λ r. ⌜ r ≡ second f ⌝ }
+{
+    match f {
+        Refusal::TextDeparts(k) => k as u64,
+        Refusal::BadWord(k) => k as u64,
+        Refusal::NotAbove(k) => k as u64,
+        Refusal::TooLong(k) => k as u64,
+        Refusal::WorkShort(k) => k as u64,
+        Refusal::TooShort(k) => k as u64,
+        Refusal::NoPlan => 0,
+        Refusal::BadPlan(k) => k as u64,
+    }
+}
+
+// What checks answer that do not look at periods: rate count and task count of a list, or a refusal.
 pub enum Shape {
     Whole { rates: usize, tasks: usize },
     Refused(Refusal),
 }
 
-// What checks 2, 3 and 4 answer, and the planner's 2 to 6: rate count, task count and hyper-period of a set, or a refusal.
+// What checks answer with check 4 among them: rate count, task count and hyper-period of a set, or a refusal.
 pub enum Checked {
     Good {
         rates: usize,
@@ -81,8 +103,3 @@ pub enum CopyAnswer {
     Wrote(usize),
     Refused(Refusal),
 }
-
-// Document 01's own list: the slack alone before the rate count, energies straight after the cycles.
-pub const LIST_HEAD: usize = 1;
-
-pub const LIST_EXTRA: usize = 0;

@@ -2,20 +2,20 @@
 -- Assumes nothing.
 use Prim.Native.Nat.{ℕ, _≤_}
 use mathlib.Core.Path.{_≡_, refl, sym, ap, _∙_, subst}
-use mathlib.Core.List.{List, _++_}
+use mathlib.Core.List.{List, [], _∷_, _++_}
 use native.Mathlib.Omega.{arith}
 use lib.ListN.{length, take, drop}
-use Rattle.taskset.specs.Words.{listHead, listExtra}
-use Rattle.taskset.specs.Refusals.{number, second, IsBadWord, IsShort}
+use Rattle.taskset.specs.Refusals.{number, second, IsShort, Passes, Accepts, roomCheck, wordCheck, wordChecks}
 use Rattle.taskset.specs.declared.CopyAnswer.{CopyAnswer}
 use Rattle.taskset.specs.declared.CopyAnswer.the-variants.{Wrote, Refused as NotCopied}
-use Rattle.taskset.proofs.Checks.{AllSingle, lowest-single, not-both, no-word-fault}
-use Rattle.taskset.proofs.Whole.{IsWhole, whole-of}
+use Rattle.taskset.proofs.Checks.{AllSingle, accepts-next, passed, not-both, no-word-fault}
+use Rattle.layout.proofs.Whole.{IsWhole, whole-of}
+use Rattle.layout.specs.declared.Layout.the-variants.{Ordinary}
 use Rattle.taskset.specs.Calls.{Copied}
-use Rattle.taskset.proofs.Unique.{refusal-unique, short-single}
+use Rattle.taskset.proofs.Unique.{refusal-unique, short-single, single-next, word-single}
 use Rattle.taskset.proofs.Copied.{SameCopied, copied, front-is, copied-one}
 use Rattle.text.specs.Text.{Script, scriptText, IsTextOf, WellFormed, FirstBad, words, scriptOf}
-use Rattle.text.specs.Calls.{readerChecks, ReaderGives, writerChecks, WriterGives}
+use Rattle.text.specs.Calls.{formCheck, wordsCheck, readerChecks, ReaderGives, writerChecks, WriterGives}
 use Rattle.text.proofs.Reading.{Res, got, bad, readText}
 use Rattle.text.proofs.Pieces.{first-bad-one, no-first-bad}
 use Rattle.text.proofs.Grammar.{Answer, read-render, read-right}
@@ -42,10 +42,16 @@ refuses t o h = go (readText t) (read-right t)
 pub one-script : (s r : Script) (t : List ℕ) → IsTextOf s t → IsTextOf r t → s ≡ r
 one-script s r t h k = let e : got s (length t) ≡ got r (length t) = sym (reads s t h) ∙ reads r t k in cc
 
+-- A script's text is taken wherever the list lent has room for its words.
+pub takes : (s : Script) (t : List ℕ) (lent : ℕ) → IsTextOf s t → length (words s) ≤ lent → Accepts (readerChecks t lent)
+takes s t lent is room =
+    accepts-next (formCheck t ∷ []) (wordsCheck t lent) ((λ o h. no-first-bad WellFormed t o (s, is) h), tt)
+    (λ k h. omega (arith, h .2 .0, ap (λ (r : Script). length (words r)) (one-script (h .0) s t (h .1) is)))
+
 -- A list that passes check 2 has a text, which says its words.
-module _ (s : List ℕ) (pass : (q : ℕ) → IsBadWord listHead listExtra s q → ⊥) where
-  whole : IsWhole listHead listExtra s
-  whole = whole-of listHead listExtra s (no-word-fault listHead listExtra s pass)
+module _ (s : List ℕ) (pass : Passes (wordCheck Ordinary s)) where
+  whole : IsWhole Ordinary s
+  whole = whole-of Ordinary s (no-word-fault Ordinary s pass)
 
   pub list-text : IsTextOf (scriptOf s) (scriptText (scriptOf s))
   list-text = record { script = script-of-list s whole; text = refl }
@@ -54,7 +60,7 @@ module _ (s : List ℕ) (pass : (q : ℕ) → IsBadWord listHead listExtra s q �
   list-words = words-of-list s whole
 
 -- ---- each answer is one
-reader-single : (t : List ℕ) (lent : ℕ) → AllSingle (readerChecks t lent)
+pub reader-single : (t : List ℕ) (lent : ℕ) → AllSingle (readerChecks t lent)
 reader-single t lent = (first-bad-one WellFormed t, (short, tt))
   where
     short : (j k : ℕ) → (s : Script) × IsTextOf s t × IsShort (length (words s)) lent j
@@ -62,7 +68,8 @@ reader-single t lent = (first-bad-one WellFormed t, (short, tt))
     short j k x y = x .2 .1 ∙ ap (λ (s : Script). length (words s)) (one-script (x .0) (y .0) t (x .1) (y .1)) ∙ sym (y .2 .1)
 
 writer-single : (s : List ℕ) (lent : ℕ) → AllSingle (writerChecks s lent)
-writer-single s lent = (lowest-single, (lowest-single, (short-single (length (scriptText (scriptOf s))) lent, tt)))
+writer-single s lent =
+    single-next (wordChecks Ordinary s) (roomCheck (length (scriptText (scriptOf s))) lent) (word-single Ordinary s) (short-single (length (scriptText (scriptOf s))) lent)
 
 pub reader-unique : (t d d₁ d₂ : List ℕ) (a b : CopyAnswer) → ReaderGives t d d₁ a → ReaderGives t d d₂ b → SameCopied a b d₁ d₂
 reader-unique t d d₁ d₂ (Wrote n) (Wrote k) x y =
@@ -86,24 +93,18 @@ writer-unique s d d₁ d₂ (NotCopied q) (NotCopied r) x y = record {
 
 -- ---- written and read back
 module _ (s d d′ e : List ℕ) (n : ℕ) (wrote : WriterGives s d d′ (Wrote n)) (room : length s ≤ length e) where
+  passes : Passes (wordCheck Ordinary s)
+  passes = passed 2 (writerChecks s (length d)) refl (wrote .0)
+
   written : take n d′ ≡ scriptText (scriptOf s)
   written = front-is (scriptText (scriptOf s)) d d′ n (wrote .1)
 
   -- The list that was written, all of it, is what the reader may answer.
   back : ReaderGives (take n d′) e (s ++ drop (length s) e) (Wrote (length s))
   back =
-      let is : IsTextOf (scriptOf s) (take n d′) = rw written (list-text s (wrote .0 .0)) in
-      let same : words (scriptOf s) ≡ s = list-words s (wrote .0 .0) in (
-        (
-          (λ o h. no-first-bad WellFormed (take n d′) o (scriptOf s, is) h),
-          (
-            (λ k h.
-                let one : h .0 ≡ scriptOf s = one-script (h .0) (scriptOf s) (take n d′) (h .1) is in
-                let size : length (words (h .0)) ≡ length s = ap (λ (r : Script). length (words r)) one ∙ ap length same in
-                omega (arith, h .2 .0)),
-            tt,
-          ),
-        ),
+      let is : IsTextOf (scriptOf s) (take n d′) = rw written (list-text s passes) in
+      let same : words (scriptOf s) ≡ s = list-words s passes in (
+        takes (scriptOf s) (take n d′) (length e) is (rw same room),
         (scriptOf s, is, rw same (copied s e (s ++ drop (length s) e) (length s) refl refl)),
       )
 

@@ -8,13 +8,14 @@ use native.Mathlib.Omega.{arith}
 use lib.ListN.{length, drop, drop-of-length-le}
 use lib.Seq.{drop-cons}
 use Rattle.numbers.specs.Numbers.{All}
-use Rattle.taskset.specs.Words.{word, listHead, listExtra, slack, rateCount, taskCountPlace, taskCount, taskSize, periodPlace, rate, energy}
-use Rattle.taskset.proofs.Whole.{IsWhole, slack-in}
-use Rattle.text.specs.Text.{joined, Word, TaskLineOk, ScriptOk, taskWords, words, each, lineOf, scriptOf}
+use Rattle.layout.specs.Words.{headKinds, extraKinds, headSize, extraSize, word, slack, rateCount, taskCountPlace, taskCount, taskSize, periodPlace, rate, energy}
+use Rattle.layout.proofs.Whole.{IsWhole, in-list, slack-in}
+use Rattle.layout.specs.declared.Layout.the-variants.{Ordinary}
+use Rattle.text.specs.Text.{joined, Word, TaskLineOk, ScriptOk, headWords, extraWords, taskWords, words, each, lineOf, scriptOf}
 
 -- ---- each
 module _ {A : Type 0} (f : ℕ → A) where
-  each-length : (i n : ℕ) → length (each f i n) ≡ n
+  pub each-length : (i n : ℕ) → length (each f i n) ≡ n
   each-length i zero = refl
   each-length i (suc n) = ap suc (each-length (suc i) n)
 
@@ -24,7 +25,7 @@ module _ {A : Type 0} (f : ℕ → A) where
 
 -- Words that stand in a row of a list, and what follows them.
 module _ (s : List ℕ) (f : ℕ → ℕ) (p : ℕ) (stands : (j : ℕ) → f j ≡ word s (p + j)) where
-  row : (i n : ℕ) → p + i + n ≤ length s → each f i n ++ drop (p + i + n) s ≡ drop (p + i) s
+  pub row : (i n : ℕ) → p + i + n ≤ length s → each f i n ++ drop (p + i + n) s ≡ drop (p + i) s
   row i zero h = ap (λ (k : ℕ). drop k s) (add-zero (p + i))
   row i (suc n) h =
       let there : p + i + suc n ≡ p + suc i + n = omega arith in
@@ -33,34 +34,57 @@ module _ (s : List ℕ) (f : ℕ → ℕ) (p : ℕ) (stands : (j : ℕ) → f j 
       ap (λ (l : List ℕ). f i ∷ l) (ap (λ (k : ℕ). each f (suc i) n ++ drop k s) there ∙ rest ∙ ap (λ (k : ℕ). drop k s) here) ∙
       ap (λ (x : ℕ). x ∷ drop (suc (p + i)) s) (stands i) ∙ sym (drop-cons s (p + i) 0 (omega arith))
 
-module _ (s : List ℕ) (w : IsWhole listHead listExtra s) where
+module _ (s : List ℕ) (w : IsWhole Ordinary s) where
   abbrev m : ℕ
-  m = rateCount listHead s
+  m = rateCount Ordinary s
 
   abbrev n : ℕ
-  n = taskCount listHead s
+  n = taskCount Ordinary s
 
   -- Where the task at t begins.
   abbrev place : ℕ → ℕ
-  place t = periodPlace listHead listExtra m t
+  place t = periodPlace Ordinary m t
 
-  after-place : (t : ℕ) → place (suc t) ≡ place t + (2 + m)
-  after-place t = omega (arith, suc-mul t (taskSize listExtra m))
+  after-place : (t : ℕ) → place (suc t) ≡ place t + taskSize Ordinary m
+  after-place t = omega (arith, suc-mul t (taskSize Ordinary m))
 
   -- ---- the words
-  energies-words : (t : ℕ) → t < n → each (energy listHead listExtra s t) 1 m ++ drop (place (suc t)) s ≡ drop (suc (suc (place t))) s
+  -- Those of the head, and those between a task's cycles and its energies, are the words that stand there.
+  head-words : headWords (scriptOf s) ≡ each (word s) 0 (headSize Ordinary)
+  unfolding scriptOf headKinds
+  head-words = refl
+
+  extra-words : (t : ℕ) → extraWords (lineOf s t) ≡ each (λ k. word s (place t + 2 + k)) 0 (extraSize Ordinary)
+  unfolding extraKinds
+  extra-words t = refl
+
+  energies-words : (t : ℕ) → t < n → each (energy Ordinary s t) 1 m ++ drop (place (suc t)) s ≡ drop (place t + 2 + extraSize Ordinary) s
   energies-words t h =
-      let end : place (suc t) ≡ place t + 1 + 1 + m = omega (arith, after-place t) in
-      let two : place t + 1 + 1 ≡ suc (suc (place t)) = omega arith in
-      ap (λ (k : ℕ). each (energy listHead listExtra s t) 1 m ++ drop k s) end ∙
-      row s (energy listHead listExtra s t) (place t + 1) (λ j. ap (word s) (omega arith)) 1 m (omega (arith, w .in-list t (1 + m) h (omega arith))) ∙
+      let end : place (suc t) ≡ place t + (1 + extraSize Ordinary) + 1 + m = omega (arith, after-place t) in
+      let begin : place t + (1 + extraSize Ordinary) + 1 ≡ place t + 2 + extraSize Ordinary = omega arith in
+      ap (λ (k : ℕ). each (energy Ordinary s t) 1 m ++ drop k s) end ∙
+      row s (energy Ordinary s t) (place t + (1 + extraSize Ordinary)) (λ j. ap (word s) (omega arith)) 1 m
+      (omega (arith, in-list Ordinary s w t (1 + extraSize Ordinary + m) h (omega arith))) ∙
+      ap (λ (k : ℕ). drop k s) begin
+
+  after-cycles : (t : ℕ) → t < n → (extraWords (lineOf s t) ++ each (energy Ordinary s t) 1 m) ++ drop (place (suc t)) s ≡ drop (suc (suc (place t))) s
+  after-cycles t h =
+      let e : List ℕ = each (λ k. word s (place t + 2 + k)) 0 (extraSize Ordinary) in
+      let two : place t + 2 + 0 ≡ suc (suc (place t)) = omega arith in
+      let all : place t + 2 + 0 + extraSize Ordinary ≡ place t + 2 + extraSize Ordinary = omega arith in
+      append-assoc (extraWords (lineOf s t)) (each (energy Ordinary s t) 1 m) (drop (place (suc t)) s) ∙
+      ap (λ (l : List ℕ). extraWords (lineOf s t) ++ l) (energies-words t h) ∙
+      ap (λ (l : List ℕ). l ++ drop (place t + 2 + extraSize Ordinary) s) (extra-words t) ∙
+      ap (λ (k : ℕ). e ++ drop k s) (sym all) ∙
+      row s (λ k. word s (place t + 2 + k)) (place t + 2) (λ j. refl) 0 (extraSize Ordinary)
+      (omega (arith, in-list Ordinary s w t (1 + extraSize Ordinary + m) h (omega arith))) ∙
       ap (λ (k : ℕ). drop k s) two
 
   line-words : (t : ℕ) → t < n → taskWords (lineOf s t) ++ drop (place (suc t)) s ≡ drop (place t) s
   line-words t h =
-      let last : place t + (1 + m) < length s = w .in-list t (1 + m) h (omega arith) in
+      let last : place t + (1 + extraSize Ordinary + m) < length s = in-list Ordinary s w t (1 + extraSize Ordinary + m) h (omega arith) in
       let one : place t + 1 ≡ suc (place t) = omega arith in
-      ap (λ (l : List ℕ). word s (place t) ∷ word s (place t + 1) ∷ l) (energies-words t h) ∙
+      ap (λ (l : List ℕ). word s (place t) ∷ word s (place t + 1) ∷ l) (after-cycles t h) ∙
       ap (λ (k : ℕ). word s (place t) ∷ word s k ∷ drop (suc (suc (place t))) s) one ∙
       sym (drop-cons s (place t) 0 (omega arith) ∙ ap (λ (l : List ℕ). word s (place t) ∷ l) (drop-cons s (suc (place t)) 0 (omega arith)))
 
@@ -73,23 +97,30 @@ module _ (s : List ℕ) (w : IsWhole listHead listExtra s) where
       append-assoc (taskWords (lineOf s t)) (joined taskWords (each (lineOf s) (suc t) k)) (drop (place (suc t + k)) s) ∙
       ap (λ (l : List ℕ). taskWords (lineOf s t) ++ l) rest ∙ line-words t (omega arith)
 
-  all-lines : joined taskWords (each (lineOf s) 0 n) ≡ drop (suc (taskCountPlace listHead m)) s
+  all-lines : joined taskWords (each (lineOf s) 0 n) ≡ drop (suc (taskCountPlace Ordinary m)) s
   all-lines =
       let lines : List ℕ = joined taskWords (each (lineOf s) 0 n) in
       let past : drop (place (0 + n)) s ≡ [] = rw zero-add (drop-of-length-le s {i = place n} (omega (arith, w .size))) in
-      let begin : place 0 ≡ suc (taskCountPlace listHead m) = omega arith in
+      let begin : place 0 ≡ suc (taskCountPlace Ordinary m) = omega arith in
       sym (append-nil lines) ∙ ap (λ (l : List ℕ). lines ++ l) (sym past) ∙ lines-words 0 n (omega arith) ∙ ap (λ (k : ℕ). drop k s) begin
 
   pub words-of-list : words (scriptOf s) ≡ s
   unfolding words scriptOf
   words-of-list =
-      let rates : List ℕ = each (rate listHead listExtra s) 1 m in
-      let count : ℕ = taskCountPlace listHead m in
+      let rates : List ℕ = each (rate Ordinary s) 1 m in
+      let count : ℕ = taskCountPlace Ordinary m in
+      let head : List ℕ = each (word s) 0 (headSize Ordinary) in
       let long : count < length s = omega (arith, w .size) in
-      rw (each-length (rate listHead listExtra s), each-length (lineOf s), all-lines)
-      (ap (λ (l : List ℕ). slack s ∷ m ∷ rates ++ l) (sym (drop-cons s count 0 long)) ∙
-      ap (λ (l : List ℕ). slack s ∷ m ∷ l) (row s (rate listHead listExtra s) 1 (λ j. refl) 1 m (omega arith)) ∙
-      ap (λ (l : List ℕ). slack s ∷ l) (sym (drop-cons s 1 0 (omega arith))) ∙ sym (drop-cons s 0 0 (omega arith)))
+      let first : 0 + 0 + headSize Ordinary ≡ headSize Ordinary = omega arith in
+      let after : headSize Ordinary + 1 ≡ suc (headSize Ordinary) = omega arith in
+      let end : headSize Ordinary + 1 + m ≡ count = omega arith in
+      rw (each-length (rate Ordinary s), each-length (lineOf s), all-lines)
+      (ap (λ (l : List ℕ). headWords (scriptOf s) ++ (m ∷ (rates ++ l))) (sym (drop-cons s count 0 long)) ∙
+      ap (λ (l : List ℕ). l ++ (m ∷ (rates ++ drop count s))) head-words ∙
+      ap (λ (l : List ℕ). head ++ (m ∷ l)) (row s (rate Ordinary s) (headSize Ordinary) (λ j. refl) 1 m (omega arith) ∙ ap (λ (k : ℕ). drop k s) after) ∙
+      ap (λ (l : List ℕ). head ++ l) (sym (drop-cons s (headSize Ordinary) 0 (omega arith))) ∙
+      ap (λ (k : ℕ). head ++ drop k s) (sym first) ∙
+      row s (word s) 0 (λ j. ap (word s) (sym (zero-add j))) 0 (headSize Ordinary) (omega arith))
 
   -- ---- the script
   line-ok : (t : ℕ) → t < n → TaskLineOk m (lineOf s t)
@@ -97,23 +128,23 @@ module _ (s : List ℕ) (w : IsWhole listHead listExtra s) where
     period = omega (arith, w .period-range t h .1);
     cycles = omega (arith, w .cycles-range t h .1);
     energies = record {
-      least = omega (arith, each-length (energy listHead listExtra s t) 1 m);
-      most = omega (arith, each-length (energy listHead listExtra s t) 1 m);
-      each = each-all (energy listHead listExtra s t) Word 1 m (λ j a b. omega (arith, w .energy-range t j h a (omega arith) .1));
+      least = omega (arith, each-length (energy Ordinary s t) 1 m);
+      most = omega (arith, each-length (energy Ordinary s t) 1 m);
+      each = each-all (energy Ordinary s t) Word 1 m (λ j a b. omega (arith, w .energy-range t j h a (omega arith) .1));
     };
   }
 
   pub script-of-list : ScriptOk (scriptOf s)
   unfolding scriptOf
   script-of-list =
-      let r = each-length (rate listHead listExtra s) 1 m in
+      let r = each-length (rate Ordinary s) 1 m in
       let t = each-length (lineOf s) 0 n in
       record {
-        slack = omega (arith, slack-in listHead listExtra s (omega arith) w .1);
+        slack = omega (arith, slack-in Ordinary s w .1);
         rates = record {
           least = omega (arith, w .rates-range .0);
           most = omega (arith, w .rates-range .1);
-          each = each-all (rate listHead listExtra s) Word 1 m (λ j a b. omega (arith, w .rate-range j a (omega arith) .1));
+          each = each-all (rate Ordinary s) Word 1 m (λ j a b. omega (arith, w .rate-range j a (omega arith) .1));
         };
         tasks = record {
           least = omega (arith, w .tasks-range .0);

@@ -5,8 +5,9 @@ use mathlib.Core.Path.{_≡_, refl, sym, _∙_}
 use mathlib.Core.List.{List, [], _∷_, _++_}
 use mathlib.Core.Logic.{_↔_, _⊎_, inl, inr}
 use lib.ListN.{length, take, drop, replicate}
-use Rattle.taskset.specs.Words.{listHead, listExtra}
-use Rattle.taskset.specs.Refusals.{Accepts, wordChecks}
+use Rattle.layout.specs.Words.{headKinds, extraKinds}
+use Rattle.layout.specs.declared.Layout.the-variants.{Ordinary}
+use Rattle.taskset.specs.Refusals.{Passes, wordCheck}
 use Rattle.taskset.specs.declared.CopyAnswer.{CopyAnswer}
 use Rattle.taskset.specs.declared.CopyAnswer.the-variants.{Wrote}
 use Rattle.taskset.proofs.Copied.{SameCopied}
@@ -67,8 +68,8 @@ pub record ReadsBack (s : List ℕ) : Type 0 where
   pub script : readText (scriptText (scriptOf s)) ≡ got (scriptOf s) (length (scriptText (scriptOf s)))
   pub list : words (scriptOf s) ≡ s
 
-pub round-trip : (s : List ℕ) → Accepts (wordChecks listHead listExtra s) → ReadsBack s
-round-trip s a = record { text = list-text s (a .0); script = read-render (scriptOf s) (list-text s (a .0) .script); list = list-words s (a .0) }
+pub round-trip : (s : List ℕ) → Passes (wordCheck Ordinary s) → ReadsBack s
+round-trip s a = record { text = list-text s a; script = read-render (scriptOf s) (list-text s a .script); list = list-words s a }
 
 -- ---- calls
 -- Of one text and lent list the reader has one answer, and of one set and lent buffer the writer.
@@ -92,11 +93,11 @@ unfoldable pub example : List ℕ
 example = bytes "(slack 100)\n(rates 2 4 8)\n(task (period 10) (cycles 12) (energy 4 9 20))\n(task (period 15) (cycles 20) (energy 7 15 30))\n"
 
 pub example-text : IsTextOf (scriptOf S) example
-unfolding example readText number more literal many scriptOf
+unfolding example readText number more literal many scriptOf headKinds extraKinds
 example-text = accepts-well-formed (scriptOf S) example .0 refl
 
 pub example-words : words (scriptOf S) ≡ S
-unfolding words scriptOf
+unfolding words scriptOf headKinds extraKinds
 example-words = refl
 
 -- Two rates, and n tasks all alike.

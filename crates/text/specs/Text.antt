@@ -11,7 +11,8 @@ use mathlib.Core.Bool.{cond}
 use lib.ListN.{length, take}
 use lib.Dec.{ltb}
 use Rattle.numbers.specs.Numbers.{All}
-use Rattle.taskset.specs.Words.{listHead, listExtra, slack, rateCount, taskCount, rate, period, cycles, energy}
+use Rattle.layout.specs.Words.{slack, rateCount, taskCount, rate, period, cycles, energy}
+use Rattle.layout.specs.declared.Layout.the-variants.{Ordinary}
 
 -- A task's line, and a whole text: "The order is slack, rates, then 1 to 32 tasks."
 pub record TaskLine : Type 0 where
@@ -98,12 +99,18 @@ pub record FirstBad (Form : List ℕ → Type 0) (t : List ℕ) (o : ℕ) : Type
   pub early : o ≡ length t → Form t → ⊥
 
 -- THE WORDS OF A SCRIPT: "the slack G ..; the rate count M ..; M rates ..; the task count N ..; then for each task the period p .., the cycles c .., and M
--- energies".
+-- energies": the words of the ordinary list's head, and of what it has between a task's cycles and its energies, stand by themselves.
+abbrev pub headWords : Script → List ℕ
+headWords s = s .slack ∷ []
+
+abbrev pub extraWords : TaskLine → List ℕ
+extraWords t = []
+
 abbrev pub taskWords : TaskLine → List ℕ
-taskWords t = t .period ∷ t .cycles ∷ t .energies
+taskWords t = t .period ∷ t .cycles ∷ (extraWords t ++ t .energies)
 
 unfoldable pub words : Script → List ℕ
-words s = s .slack ∷ length (s .rates) ∷ (s .rates ++ length (s .tasks) ∷ joined taskWords (s .tasks))
+words s = headWords s ++ (length (s .rates) ∷ (s .rates ++ length (s .tasks) ∷ joined taskWords (s .tasks)))
 
 -- THE SCRIPT OF A LIST OF WORDS: what the writer writes. Every number in its own place, as the list has it.
 abbrev pub each : {A : Type 0} → (ℕ → A) → ℕ → ℕ → List A
@@ -112,10 +119,10 @@ each f i (suc n) = f i ∷ each f (suc i) n
 
 abbrev pub lineOf : List ℕ → ℕ → TaskLine
 lineOf s t = record {
-  period = period listHead listExtra s t;
-  cycles = cycles listHead listExtra s t;
-  energies = each (energy listHead listExtra s t) 1 (rateCount listHead s);
+  period = period Ordinary s t;
+  cycles = cycles Ordinary s t;
+  energies = each (energy Ordinary s t) 1 (rateCount Ordinary s);
 }
 
 unfoldable pub scriptOf : List ℕ → Script
-scriptOf s = record { slack = slack s; rates = each (rate listHead listExtra s) 1 (rateCount listHead s); tasks = each (lineOf s) 0 (taskCount listHead s) }
+scriptOf s = record { slack = slack s; rates = each (rate Ordinary s) 1 (rateCount Ordinary s); tasks = each (lineOf s) 0 (taskCount Ordinary s) }

@@ -8,6 +8,7 @@ use lib.Dec.{ltb, eqb}
 use lib.ListN.{length, getD, set, replicate}
 use Rattle.schedule.specs.Walk.{Task, Job, periodic, choice, tasksFrom}
 use Rattle.schedule.specs.Counted.{count, kept, missed, walk}
+use Rattle.layout.specs.Words.{longestPeriod}
 use Rattle.taskset.specs.declared.WalkAnswer.{WalkAnswer}
 use Rattle.taskset.specs.declared.WalkAnswer.the-variants.{Kept, Missed, Refused}
 use Rattle.ticks.specs.declared.State.{State}
@@ -88,7 +89,7 @@ pub record Given (p c : List ℕ) (n end : ℕ) : Type 0 where
   pub few : n ≤ 32
   pub periods : length p ≡ 32
   pub times : length c ≡ 32
-  pub period : (i : ℕ) → i < n → (0 < getD p i 0) × (getD p i 0 ≤ 10000000)
+  pub period : (i : ℕ) → i < n → (0 < getD p i 0) × (getD p i 0 ≤ longestPeriod)
   pub time : (i : ℕ) → i < n → 0 < getD c i 0
   pub ends : end ≤ 200000000
 

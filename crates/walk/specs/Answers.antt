@@ -3,13 +3,13 @@ use Prim.Native.Nat.{ℕ, _≤_, _<_}
 use mathlib.Core.Path.{_≡_}
 use mathlib.Core.List.{List}
 use lib.ListN.{length, getD}
-use Rattle.taskset.specs.Words.{listHead, listExtra, rateCount, taskCount}
-use Rattle.taskset.specs.Quantities.{jobTime, hyperPeriod}
-use Rattle.taskset.specs.Refusals.{number, second, IsBadPlan, Accepts, Refuses, setChecks, walkChecks}
+use Rattle.layout.specs.Words.{mostTasks, rateCount, taskCount}
+use Rattle.layout.specs.declared.Layout.the-variants.{Ordinary}
+use Rattle.taskset.specs.Quantities.{jobTime}
+use Rattle.taskset.specs.Refusals.{IsBadPlan}
 use Rattle.taskset.specs.Calls.{WalkAnswers}
 use Rattle.taskset.specs.DemandThree.{WalkOwes}
-use Rattle.taskset.specs.declared.Checked.{Checked}
-use Rattle.taskset.specs.declared.Checked.the-variants.{Good, Refused as NotGood}
+use Rattle.taskset.proofs.Sets.{IsSet}
 use Rattle.taskset.specs.declared.WalkAnswer.{WalkAnswer}
 use Rattle.walk.specs.declared.PlanCheck.{PlanCheck}
 use Rattle.walk.specs.declared.PlanCheck.the-variants.{At, Sound}
@@ -21,23 +21,17 @@ pub record Walked (s P : List ℕ) (a : WalkAnswer) : Type 0 where
 
 -- BELOW THE CALL.
 
--- Checks 2, 3, 4 and 8.
-abbrev pub WalkReady : List ℕ → List ℕ → Checked → Type 0
-WalkReady s P (Good rates tasks hyper) =
-    Accepts (walkChecks s P) × (rates ≡ rateCount listHead s) × (tasks ≡ taskCount listHead s) × (hyper ≡ hyperPeriod listHead listExtra s)
-WalkReady s P (NotGood r) = Refuses (walkChecks s P) (number r) (second r)
-
 -- Check 8.
 abbrev pub PlanAnswers : ℕ → ℕ → List ℕ → PlanCheck → Type 0
 PlanAnswers m n P (At k) = IsBadPlan m n P k
 PlanAnswers m n P Sound = (k : ℕ) → IsBadPlan m n P k → ⊥
 
--- A set of m rates and n tasks that passes checks 2, 3 and 4; a plan that passes check 8.
+-- A set of m rates and n tasks; a plan that passes check 8.
 pub record SetGiven (m n : ℕ) (s : List ℕ) : Type 0 where
-  pub set : Accepts (setChecks listHead listExtra s)
-  pub rates : m ≡ rateCount listHead s
-  pub tasks : n ≡ taskCount listHead s
-  pub few : n ≤ 32
+  pub set : IsSet Ordinary s
+  pub rates : m ≡ rateCount Ordinary s
+  pub tasks : n ≡ taskCount Ordinary s
+  pub few : n ≤ mostTasks
 
 pub record PlanGiven (m n : ℕ) (P : List ℕ) : Type 0 where
   pub size : length P ≡ n
@@ -51,4 +45,4 @@ pub record Holds (f : ℕ → ℕ) (n : ℕ) (r : List ℕ) : Type 0 where
 
 -- The job time of the task at t under plan P.
 abbrev pub timeAt : List ℕ → List ℕ → ℕ → ℕ
-timeAt s P t = jobTime listHead listExtra s t (getD P t 0)
+timeAt s P t = jobTime Ordinary s t (getD P t 0)

@@ -1,13 +1,13 @@
 // The walk: a set and a plan, tick by tick from 0 to the hyper-period under the rule of the earliest deadline. Its answer is the
 // definition's walk, with what that says of the endless walk. Which plan is selected, and texts, are left to others.
-ghost use mathlib.Core.Path.{_≡_};
-ghost use Rattle.numbers.specs.Numbers.{between};
-ghost use Rattle.taskset.specs.Words.{listHead, listExtra, period};
+ghost use Rattle.layout.specs.Words.{period};
+ghost use Rattle.layout.specs.declared.Layout.the-variants.{Ordinary};
+ghost use Rattle.taskset.specs.Refusals.{walkChecks};
+ghost use Rattle.taskset.specs.Calls.{SetAfter};
 ghost use Rattle.taskset.specs.declared.Checked.the-variants.{Good};
-ghost use Rattle.walk.specs.Answers.{WalkReady, PlanAnswers, Holds, SetGiven, PlanGiven, timeAt, Walked};
+ghost use Rattle.walk.specs.Answers.{PlanAnswers, Holds, SetGiven, PlanGiven, timeAt, Walked};
+use layout::Layout;
 use taskset::Checked;
-use taskset::LIST_EXTRA;
-use taskset::LIST_HEAD;
 use taskset::Refusal;
 use taskset::WalkAnswer;
 
@@ -15,13 +15,6 @@ use taskset::WalkAnswer;
 enum PlanCheck {
     At(usize),
     Sound,
-}
-
-// Whether r is 1 to m.
-fn is_rate_number(m: usize, r: usize) -> bool
-    ensures { λ x. ⌜ x ≡ between 1 m r ⌝ }
-{
-    if 1 <= r { r <= m } else { false }
 }
 
 // Check 8: the first word that is not 1 to m, the plan's length if it is short, n if it is long.
@@ -33,8 +26,8 @@ fn check_plan(plan: &[u32], m: usize, n: usize) -> PlanCheck
         if n <= k {
             return PlanCheck::At(n);
         }
-        let r = plan[k] as usize;
-        if !is_rate_number(m, r) {
+        let r = plan[k] as u64;
+        if !numbers::is_between(1, m as u64, r) {
             return PlanCheck::At(k);
         }
         k += 1;
@@ -48,12 +41,12 @@ fn check_plan(plan: &[u32], m: usize, n: usize) -> PlanCheck
 // The periods of a set's n tasks.
 fn periods(set: &[u32], m: usize, n: usize) -> [u32; 32]
     requires { ⌜ SetGiven m n (now set) ⌝ }
-    ensures { λ r. ⌜ Holds (period listHead listExtra (now (set .entry))) n r ⌝ }
+    ensures { λ r. ⌜ Holds (period Ordinary (now (set .entry))) n r ⌝ }
 {
     let mut p = [0u32; 32];
     let mut t: usize = 0;
     while t < n {
-        p[t] = checks::period_of(set, LIST_HEAD, LIST_EXTRA, m, t);
+        p[t] = checks::period_of(set, Layout::Ordinary, m, t);
         t += 1;
     }
     p
@@ -69,7 +62,7 @@ fn times(set: &[u32], plan: &[u32], m: usize, n: usize) -> [u32; 32]
     let mut t: usize = 0;
     while t < n {
         let r = plan[t] as usize;
-        c[t] = checks::job_time(set, LIST_HEAD, LIST_EXTRA, m, t, r);
+        c[t] = checks::job_time(set, Layout::Ordinary, m, t, r);
         t += 1;
     }
     c
@@ -77,9 +70,9 @@ fn times(set: &[u32], plan: &[u32], m: usize, n: usize) -> [u32; 32]
 
 // Checks 2, 3, 4 and 8, in this order: rate count, task count and hyper-period, or a refusal.
 pub fn ready(set: &[u32], plan: &[u32]) -> Checked
-    ensures { λ r. ⌜ WalkReady (now (set .entry)) (now (plan .entry)) r ⌝ }
+    ensures { λ r. ⌜ SetAfter (walkChecks (now (set .entry)) (now (plan .entry))) Ordinary (now (set .entry)) r ⌝ }
 {
-    let checked = checks::check_set(set, LIST_HEAD, LIST_EXTRA);
+    let checked = checks::check_set(set, Layout::Ordinary);
     match checked {
         Checked::Refused(r) => Checked::Refused(r),
         Checked::Good {
@@ -102,7 +95,7 @@ pub fn ready(set: &[u32], plan: &[u32]) -> Checked
 
 // What the walk from 0 to the hyper-period says, of a set and a plan that have passed the checks.
 pub fn walk_checked(set: &[u32], plan: &[u32], rates: usize, tasks: usize, hyper: u64) -> WalkAnswer
-    requires { ⌜ WalkReady (now set) (now plan) (Good rates tasks hyper) ⌝ }
+    requires { ⌜ SetAfter (walkChecks (now set) (now plan)) Ordinary (now set) (Good rates tasks hyper) ⌝ }
     ensures { λ r. ⌜ Walked (now (set .entry)) (now (plan .entry)) r ⌝ }
 {
     let p = periods(set, rates, tasks);

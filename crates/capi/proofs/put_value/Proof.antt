@@ -12,8 +12,6 @@ use Rattle.capi.proofs.Bytes.{placed-none, placed-set, bytes-step, byte
 use borrow.Author.Needs.{needs}
 use Rattle.capi.proofs.put_value.Statement.{statement}
 use Rattle.capi.proofs.put_value.Tie as tie
-use Rattle.capi.proofs.put_value.Reads as reads
-use Rattle.capi.proofs.put_value.Lts as lts
 
 abbrev Inv-loop : tie.InvT-loop
 Inv-loop d₀ at v rest₀ i₀ d rest i = (i ≤ 8) × (length d ≡ length d₀) × (placed (at + i) (bytesOf (8 - i) rest) d ≡ placed at (bytesOf 8 v) d₀)

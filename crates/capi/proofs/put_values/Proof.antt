@@ -2,9 +2,6 @@ use Rattle.capi.proofs.Bytes.{four}
 use borrow.Author.Needs.{needs}
 use Rattle.capi.proofs.put_values.Statement.{statement}
 use Rattle.capi.proofs.put_values.Tie as tie
-use Rattle.capi.proofs.put_values.Reads as reads
-use Rattle.capi.proofs.put_values.Lts as lts
-use Rattle.capi.proofs.put_value.Reads as put-value-reads
 
 put-value-requires : tie.Need-put-value-requires
 put-value-requires c κs = search needs

@@ -2,21 +2,16 @@
 -- Assumes nothing.
 use mathlib.Core.Path.{subst}
 use lib.ListN.{length}
-use Rattle.taskset.specs.Refusals.{number, second}
+use Rattle.taskset.specs.Refusals.{number, second, readyChecks}
 use Rattle.taskset.proofs.Small.{planner-second-small}
-use Rattle.planner.specs.Ready.{ReadyAnswers}
+use Rattle.layout.specs.declared.Layout.the-variants.{Ordinary}
+use Rattle.taskset.specs.Calls.{SetAfter}
 use Rattle.planner.specs.Answers.{PlannerCall}
 use Rattle.capi.proofs.PlanEntries.{ready-small, ready-refused, results-few, answer-refused, entry-planned}
 use native.Mathlib.Omega.{arith}
 use borrow.Author.Needs.{needs}
 use Rattle.capi.proofs.seedspell_plan.Statement.{statement}
 use Rattle.capi.proofs.seedspell_plan.Tie as tie
-use Rattle.capi.proofs.seedspell_plan.Reads as reads
-use Rattle.capi.proofs.seedspell_plan.Lts as lts
-use Rattle.capi.proofs.code_of.Reads as code-of-reads
-use Rattle.capi.proofs.put_values.Reads as put-values-reads
-use Rattle.planner.proofs.plan_checked.Reads as plan-checked-reads
-use Rattle.planner.proofs.ready.Reads as ready-reads
 
 ready-requires : tie.Need-ready-requires
 ready-requires c κs = search needs
@@ -28,7 +23,7 @@ code-of-requires : tie.Need-code-of-requires
 code-of-requires c κs =
     let y = c .before .before .before in
     let a = y .before .before .before .before .before .args in
-    let h = subst (ReadyAnswers (a .set .now) (length (a .plan .now)) (length (a .work .now))) (c .before .checked .given .1) (y .ready .ensures) in
+    let h = subst (SetAfter (readyChecks (a .set .now) (length (a .plan .now)) (length (a .work .now))) Ordinary (a .set .now)) (c .before .checked .given .1) (y .ready .ensures) in
     ready-small (a .set .now) (a .plan .now) (a .work .now) (a .results .now) (c .before .checked .given .0 .0) h
 
 enum-known-checked-2 : tie.Need-enum-known-checked-2
@@ -42,7 +37,7 @@ returns c =
     let k = c .before .before in
     let y = k .before .before .before in
     let a = y .before .before .before .before .before .args in
-    let h = subst (ReadyAnswers (a .set .now) (length (a .plan .now)) (length (a .work .now))) (k .before .checked2 .given .1) (y .ready .ensures) in
+    let h = subst (SetAfter (readyChecks (a .set .now) (length (a .plan .now)) (length (a .work .now))) Ordinary (a .set .now)) (k .before .checked2 .given .1) (y .ready .ensures) in
     results-few (a .set .now) (a .plan .now) (a .work .now) (a .results .now) _ (c .code-of2 .ensures) (h .0) (c .before .if1 .taken)
 
 plan-checked-requires : tie.Need-plan-checked-requires
@@ -51,7 +46,7 @@ plan-checked-requires c κs =
     let y = k .before .before .before in
     let z = y .before .before .before .before .before in
     let a = z .args in
-    let h = subst (ReadyAnswers (a .set .now) (length (a .plan .now)) (length (a .work .now))) (k .before .checked2 .given .1) (y .ready .ensures) in
+    let h = subst (SetAfter (readyChecks (a .set .now) (length (a .plan .now)) (length (a .work .now))) Ordinary (a .set .now)) (k .before .checked2 .given .1) (y .ready .ensures) in
     h
 
 enum-known-answer : tie.Need-enum-known-answer
@@ -77,7 +72,7 @@ returns-2 c =
     let k = c .before in
     let y = k .before .before .before in
     let a = y .before .before .before .before .before .args in
-    let h = subst (ReadyAnswers (a .set .now) (length (a .plan .now)) (length (a .work .now))) (k .before .checked .given .1) (y .ready .ensures) in
+    let h = subst (SetAfter (readyChecks (a .set .now) (length (a .plan .now)) (length (a .work .now))) Ordinary (a .set .now)) (k .before .checked .given .1) (y .ready .ensures) in
     ready-refused (a .set .now) (a .plan .now) (a .work .now) (a .results .now) (k .before .checked .given .0 .0) _ (c .code-of .ensures) h
 
 same-length : tie.Need-same-length
@@ -93,7 +88,7 @@ returns-3 c =
     let k = q .before .before .before .before in
     let y = k .before .before .before in
     let a = y .before .before .before .before .before .args in
-    let g = subst (ReadyAnswers (a .set .now) (length (a .plan .now)) (length (a .work .now))) (k .before .checked2 .given .1) (y .ready .ensures) in
+    let g = subst (SetAfter (readyChecks (a .set .now) (length (a .plan .now)) (length (a .work .now))) Ordinary (a .set .now)) (k .before .checked2 .given .1) (y .ready .ensures) in
     let h = subst (PlannerCall (a .set .now) (a .plan .now) (a .work .now) _ _) (m .answer .given .1) (q .plan-checked .ensures) in
     answer-refused (a .set .now) (a .plan .now) (a .work .now) (a .results .now) _ _ (h .gives .1) (h .gives .2) (m .answer .given .0 .0) _ (c .code-of3 .ensures)
     (g .0) (omega (arith, q .before .before .before .if1 .left)) h

@@ -2,10 +2,12 @@
 -- Assumes nothing.
 use mathlib.Core.Path.{subst}
 use native.Mathlib.Omega.{arith}
-use Rattle.taskset.specs.Refusals.{number, second}
+use Rattle.taskset.specs.Refusals.{number, second, walkChecks}
 use Rattle.taskset.specs.declared.Checked.the-variants.{Good}
 use Rattle.taskset.proofs.Small.{walk-second-small}
-use Rattle.walk.specs.Answers.{Walked, WalkReady}
+use Rattle.layout.specs.declared.Layout.the-variants.{Ordinary}
+use Rattle.taskset.specs.Calls.{SetAfter}
+use Rattle.walk.specs.Answers.{Walked}
 use Rattle.capi.proofs.Entries.{ready-refused, walk-refused, results-short, entry-kept, entry-missed}
 use borrow.Author.Needs.{needs}
 use Rattle.capi.proofs.seedspell_walk.Statement.{statement}
@@ -16,11 +18,11 @@ abbrev start : tie.After-ready → tie.Start
 start r = r .before .before .before .before
 
 given : (c : tie.After-checked2) → let a = start (c .before .before) .args in
-    WalkReady (a .set .now) (a .plan .now) (Good (c .checked2 .given .0 .0) (c .checked2 .given .0 .1 .0) (c .checked2 .given .0 .1 .1 .0))
+    SetAfter (walkChecks (a .set .now) (a .plan .now)) Ordinary (a .set .now) (Good (c .checked2 .given .0 .0) (c .checked2 .given .0 .1 .0) (c .checked2 .given .0 .1 .1 .0))
 given c =
     let r = c .before .before in
     let a = start r .args in
-    subst (WalkReady (a .set .now) (a .plan .now)) (c .checked2 .given .1) (r .ready .ensures)
+    subst (SetAfter (walkChecks (a .set .now) (a .plan .now)) Ordinary (a .set .now)) (c .checked2 .given .1) (r .ready .ensures)
 
 -- Where the walk was made.
 abbrev checked : tie.After-walk-checked → tie.After-checked2
@@ -39,7 +41,7 @@ code-of-requires c κs =
     let a = start r .args in
     let f = k .checked .given .0 .0 in
     walk-second-small (a .set .now) (a .plan .now) (number f) (second f)
-    (subst (WalkReady (a .set .now) (a .plan .now)) (k .checked .given .1) (r .ready .ensures))
+    (subst (SetAfter (walkChecks (a .set .now) (a .plan .now)) Ordinary (a .set .now)) (k .checked .given .1) (r .ready .ensures))
 
 enum-known-checked-2 : tie.Need-enum-known-checked-2
 enum-known-checked-2 c = search needs
@@ -86,7 +88,7 @@ returns-2 c =
     let r = k .before .before in
     let a = start r .args in
     ready-refused (a .set .now) (a .plan .now) (a .results .now) (k .checked .given .0 .0) _ (c .code-of .ensures)
-    (subst (WalkReady (a .set .now) (a .plan .now)) (k .checked .given .1) (r .ready .ensures))
+    (subst (SetAfter (walkChecks (a .set .now) (a .plan .now)) Ordinary (a .set .now)) (k .checked .given .1) (r .ready .ensures))
 
 returns-3 : tie.Need-returns-3
 returns-3 c =

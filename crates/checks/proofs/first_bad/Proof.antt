@@ -3,26 +3,20 @@
 use mathlib.Core.Path.{sym, ap, _∙_}
 use mathlib.Core.Bool.{true≢false}
 use borrow.Author.Tests.{not-true, not-false}
-use Rattle.taskset.specs.Words.{word, allows}
-use Rattle.taskset.specs.declared.Kind.{Kind}
+use Rattle.layout.specs.Words.{allows, OutOfRange}
 use Rattle.numbers.proofs.Searches.{found-here, found-end, none-more}
 use Prim.Native.Nat.{ℕ, _≤_, _<_, _-_}
 use lib.ListN.{length}
 use native.Mathlib.Omega.{arith}
-use Rattle.checks.specs.Steps.{Bad}
 use borrow.Author.Needs.{needs}
 use Rattle.checks.proofs.first_bad.Statement.{statement}
 use Rattle.checks.proofs.first_bad.Tie as tie
-use Rattle.checks.proofs.first_bad.Reads as reads
-use Rattle.checks.proofs.first_bad.Lts as lts
-use Rattle.checks.proofs.is_allowed.Reads as is-allowed-reads
-use Rattle.checks.proofs.kind_at.Reads as kind-at-reads
 
 abbrev Inv-loop : tie.InvT-loop
-Inv-loop s head extra q₀ q = (q ≤ length s) × ((k : ℕ) → 0 ≤ k → k < q → Bad head extra s k → ⊥)
+Inv-loop s layout q₀ q = (q ≤ length s) × ((k : ℕ) → 0 ≤ k → k < q → OutOfRange layout s k → ⊥)
 
 abbrev μ-loop : tie.MeasureT-loop
-μ-loop s head extra q₀ q = length s - q
+μ-loop s layout q₀ q = length s - q
 
 loop-holds : tie.Need-loop-holds Inv-loop μ-loop
 loop-holds c = (omega arith, (λ k a b. absurd (omega arith)))
@@ -30,20 +24,14 @@ loop-holds c = (omega arith, (λ k a b. absurd (omega arith)))
 kind-at-requires : tie.Need-kind-at-requires Inv-loop μ-loop
 kind-at-requires c κs = search needs
 
-mul-is-allowed : tie.Need-mul-is-allowed Inv-loop μ-loop
-mul-is-allowed c = search needs
-
-shared-slice-read-is-allowed : tie.Need-shared-slice-read-is-allowed Inv-loop μ-loop
-shared-slice-read-is-allowed c = search needs
-
 is-allowed-requires : tie.Need-is-allowed-requires Inv-loop μ-loop
 is-allowed-requires c κs = search needs
 
 returns : tie.Need-returns Inv-loop μ-loop
 returns c =
-    let b = c .before .before .before .before .before in
+    let b = c .before .before .before .before in
     let start = b .before .before in
-    let k = c .before .is-allowed .ensures ∙ ap (λ (k : Kind). allows k (word (start .args .s .now) (b .loop .q))) (c .before .before .before .kind-at .ensures) in
+    let k = c .before .is-allowed .ensures ∙ ap (allows (start .args .s .now) (b .loop .q)) (c .before .before .kind-at .ensures) in
     found-here (omega arith) (b .loop .inv .1) (omega arith) (sym k ∙ not-true _ (c .if1 .taken))
 
 add-q : tie.Need-add-q Inv-loop μ-loop
@@ -54,9 +42,9 @@ loop-less c = search needs
 
 loop-again : tie.Need-loop-again Inv-loop μ-loop
 loop-again c =
-    let b = c .before .before .before .before .before in
+    let b = c .before .before .before .before in
     let start = b .before .before in
-    let k = c .before .is-allowed .ensures ∙ ap (λ (k : Kind). allows k (word (start .args .s .now) (b .loop .q))) (c .before .before .before .kind-at .ensures) in
+    let k = c .before .is-allowed .ensures ∙ ap (allows (start .args .s .now) (b .loop .q)) (c .before .before .kind-at .ensures) in
     (omega arith, none-more (omega arith) (b .loop .inv .1) (λ h. true≢false (sym (not-false _ (c .if1 .left)) ∙ k ∙ h)))
 
 returns-2 : tie.Need-returns-2 Inv-loop μ-loop
@@ -70,8 +58,6 @@ first-bad-spec =
     μ-loop
     loop-holds
     kind-at-requires
-    mul-is-allowed
-    shared-slice-read-is-allowed
     is-allowed-requires
     returns
     add-q

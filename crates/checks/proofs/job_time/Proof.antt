@@ -4,10 +4,6 @@ use Rattle.checks.proofs.Access.{located, job-time-fits}
 use borrow.Author.Needs.{needs}
 use Rattle.checks.proofs.job_time.Statement.{statement}
 use Rattle.checks.proofs.job_time.Tie as tie
-use Rattle.checks.proofs.job_time.Reads as reads
-use Rattle.checks.proofs.job_time.Lts as lts
-use Rattle.checks.proofs.cycles_of.Reads as cycles-of-reads
-use Rattle.checks.proofs.rate_of.Reads as rate-of-reads
 
 cycles-of-requires : tie.Need-cycles-of-requires
 cycles-of-requires c κs = search needs

@@ -5,8 +5,6 @@ use borrow.Author.Needs.{needs}
 use Rattle.numbers.proofs.Powers.{Doubled, doubled-positive, doubled-turn, doubled-end}
 use Rattle.numbers.proofs.least_power.Statement.{statement}
 use Rattle.numbers.proofs.least_power.Tie as tie
-use Rattle.numbers.proofs.least_power.Reads as reads
-use Rattle.numbers.proofs.least_power.Lts as lts
 
 abbrev Inv-loop : tie.InvT-loop
 Inv-loop x a₀ v₀ a v = Doubled x a v

@@ -2,15 +2,13 @@
 -- Assumes nothing.
 use mathlib.Core.Path.{subst}
 use lib.ListN.{length}
-use Rattle.planner.specs.Ready.{ReadyAnswers}
+use Rattle.layout.specs.declared.Layout.the-variants.{Ordinary}
+use Rattle.taskset.specs.Refusals.{readyChecks}
+use Rattle.taskset.specs.Calls.{SetAfter}
 use Rattle.planner.proofs.Calls.{ready-refused}
 use borrow.Author.Needs.{needs}
 use Rattle.planner.proofs.plan.Statement.{statement}
 use Rattle.planner.proofs.plan.Tie as tie
-use Rattle.planner.proofs.plan.Reads as reads
-use Rattle.planner.proofs.plan.Lts as lts
-use Rattle.planner.proofs.plan_checked.Reads as plan-checked-reads
-use Rattle.planner.proofs.ready.Reads as ready-reads
 
 ready-requires : tie.Need-ready-requires
 ready-requires c κs = search needs
@@ -26,7 +24,7 @@ plan-checked-requires c κs =
     let checked = c .before .before .before in
     let r = checked .before .before in
     let a = r .before .before .before .before .args in
-    subst (ReadyAnswers (a .set .now) (length (a .plan .now)) (length (a .work .now))) (checked .checked2 .given .1) (r .ready .ensures)
+    subst (SetAfter (readyChecks (a .set .now) (length (a .plan .now)) (length (a .work .now))) Ordinary (a .set .now)) (checked .checked2 .given .1) (r .ready .ensures)
 
 returns : tie.Need-returns
 returns c =
@@ -34,7 +32,7 @@ returns c =
     let r = checked .before .before in
     let a = r .before .before .before .before .args in
     ready-refused (a .set .now) (a .plan .now) (a .work .now) (checked .checked .given .0 .0)
-    (subst (ReadyAnswers (a .set .now) (length (a .plan .now)) (length (a .work .now))) (checked .checked .given .1) (r .ready .ensures))
+    (subst (SetAfter (readyChecks (a .set .now) (length (a .plan .now)) (length (a .work .now))) Ordinary (a .set .now)) (checked .checked .given .1) (r .ready .ensures))
 
 same-length : tie.Need-same-length
 same-length c = search needs

@@ -1,23 +1,18 @@
 -- Check 7, then the choice over the arrays.
 -- Assumes nothing.
 use native.Mathlib.Omega.{arith}
-use Rattle.planner.proofs.Options.{both-none}
+use Rattle.layout.specs.declared.Layout.the-variants.{Ordinary}
+use Rattle.options.proofs.Filling.{both-none}
 use Rattle.planner.proofs.Calls.{hyper-fits, words-given, tasks-given, sum-given, none-fits, choice-ready, chosen-given}
 use Rattle.planner.proofs.plan_checked.Statement.{statement}
 use Rattle.planner.proofs.plan_checked.Tie as tie
-use Rattle.planner.proofs.plan_checked.Reads as reads
-use Rattle.planner.proofs.plan_checked.Lts as lts
-use Rattle.planner.proofs.put_tasks.Reads as put-tasks-reads
-use Rattle.choice.proofs.choose.Reads as choose-reads
-use Rattle.choice.proofs.fastest_sum.Reads as fastest-sum-reads
-use Rattle.checks.proofs.slack_of.Reads as slack-of-reads
 
 put-tasks-requires : tie.Need-put-tasks-requires
 put-tasks-requires c κs =
     let start = c .before .before .before .before .before in
     let a = start .args in
     let ready = start .pre in
-    (tasks-given (a .set .now) (a .plan .now) (a .work .now) (a .rates) (a .tasks) (a .hyper) ready, both-none (a .set .now) (a .rates))
+    (tasks-given (a .set .now) (a .plan .now) (a .work .now) (a .rates) (a .tasks) (a .hyper) ready, both-none Ordinary (a .set .now) (a .rates))
 
 fastest-sum-requires : tie.Need-fastest-sum-requires
 fastest-sum-requires c κs =

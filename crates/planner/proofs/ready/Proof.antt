@@ -1,18 +1,14 @@
 -- Checks 2, 3 and 4, then 5, then 6.
 -- Assumes nothing.
 use mathlib.Core.Path.{subst, ap, _∙_}
-use Rattle.taskset.specs.Words.{listHead, listExtra}
+use Rattle.layout.specs.declared.Layout.the-variants.{Ordinary}
 use Rattle.selection.specs.Plan.{workWords}
-use Rattle.taskset.specs.Calls.{SetAnswers}
+use Rattle.taskset.specs.Calls.{SetAfter}
+use Rattle.taskset.specs.Refusals.{_▹_, wordChecks, hyperCheck}
 use Rattle.planner.proofs.Enough.{set-refused, slack-range, tasks-few, some-words, work-short, plan-short, is-ready}
 use borrow.Author.Needs.{needs}
 use Rattle.planner.proofs.ready.Statement.{statement}
 use Rattle.planner.proofs.ready.Tie as tie
-use Rattle.planner.proofs.ready.Reads as reads
-use Rattle.planner.proofs.ready.Lts as lts
-use Rattle.planner.proofs.work_needed.Reads as work-needed-reads
-use Rattle.checks.proofs.check_set.Reads as check-set-reads
-use Rattle.checks.proofs.slack_of.Reads as slack-of-reads
 
 check-set-requires : tie.Need-check-set-requires
 check-set-requires c κs = search needs
@@ -31,7 +27,7 @@ slack-of-requires c κs =
     let m = sh .checked2 .given .0 .0 in
     let n = sh .checked2 .given .0 .1 .0 in
     let l = sh .checked2 .given .0 .1 .1 .0 in
-    let good = subst (SetAnswers listHead listExtra s) (sh .checked2 .given .1) (sh .before .before .check-set .ensures) in
+    let good = subst (SetAfter (wordChecks Ordinary s ▹ hyperCheck Ordinary s) Ordinary s) (sh .checked2 .given .1) (sh .before .before .check-set .ensures) in
     some-words s (a .plan-len) (a .work-len) m n l good
 
 work-needed-requires : tie.Need-work-needed-requires
@@ -42,7 +38,7 @@ work-needed-requires c κs =
     let m = sh .checked2 .given .0 .0 in
     let n = sh .checked2 .given .0 .1 .0 in
     let l = sh .checked2 .given .0 .1 .1 .0 in
-    let good = subst (SetAnswers listHead listExtra s) (sh .checked2 .given .1) (sh .before .before .check-set .ensures) in
+    let good = subst (SetAfter (wordChecks Ordinary s ▹ hyperCheck Ordinary s) Ordinary s) (sh .checked2 .given .1) (sh .before .before .check-set .ensures) in
     (tasks-few s (a .plan-len) (a .work-len) m n l good, rw (c .slack-of .ensures) (slack-range s (a .plan-len) (a .work-len) m n l good .0))
 
 returns : tie.Need-returns
@@ -53,7 +49,7 @@ returns c =
     let m = sh .checked2 .given .0 .0 in
     let n = sh .checked2 .given .0 .1 .0 in
     let l = sh .checked2 .given .0 .1 .1 .0 in
-    let good = subst (SetAnswers listHead listExtra s) (sh .checked2 .given .1) (sh .before .before .check-set .ensures) in
+    let good = subst (SetAfter (wordChecks Ordinary s ▹ hyperCheck Ordinary s) Ordinary s) (sh .checked2 .given .1) (sh .before .before .check-set .ensures) in
     let is = c .before .work-needed .ensures ∙ ap (workWords n) (c .before .before .slack-of .ensures) in
     work-short s (a .plan-len) (a .work-len) m n l good _ is (c .if1 .taken)
 
@@ -65,7 +61,7 @@ returns-2 c =
     let m = sh .checked2 .given .0 .0 in
     let n = sh .checked2 .given .0 .1 .0 in
     let l = sh .checked2 .given .0 .1 .1 .0 in
-    let good = subst (SetAnswers listHead listExtra s) (sh .checked2 .given .1) (sh .before .before .check-set .ensures) in
+    let good = subst (SetAfter (wordChecks Ordinary s ▹ hyperCheck Ordinary s) Ordinary s) (sh .checked2 .given .1) (sh .before .before .check-set .ensures) in
     let is = c .before .before .work-needed .ensures ∙ ap (workWords n) (c .before .before .before .slack-of .ensures) in
     plan-short s (a .plan-len) (a .work-len) m n l good _ is (c .before .if1 .left) (c .if2 .taken)
 
@@ -73,7 +69,7 @@ returns-3 : tie.Need-returns-3
 returns-3 c =
     let sh = c .before in
     let a = sh .before .before .before .before .args in
-    set-refused (a .set .now) (a .plan-len) (a .work-len) (sh .checked .given .0 .0) (subst (SetAnswers listHead listExtra (a .set .now)) (sh .checked .given .1) (sh .before .before .check-set .ensures))
+    set-refused (a .set .now) (a .plan-len) (a .work-len) (sh .checked .given .0 .0) (subst (SetAfter (wordChecks Ordinary (a .set .now) ▹ hyperCheck Ordinary (a .set .now)) Ordinary (a .set .now)) (sh .checked .given .1) (sh .before .before .check-set .ensures))
 
 returns-4 : tie.Need-returns-4
 returns-4 c =
@@ -83,7 +79,7 @@ returns-4 c =
     let m = sh .checked2 .given .0 .0 in
     let n = sh .checked2 .given .0 .1 .0 in
     let l = sh .checked2 .given .0 .1 .1 .0 in
-    let good = subst (SetAnswers listHead listExtra s) (sh .checked2 .given .1) (sh .before .before .check-set .ensures) in
+    let good = subst (SetAfter (wordChecks Ordinary s ▹ hyperCheck Ordinary s) Ordinary s) (sh .checked2 .given .1) (sh .before .before .check-set .ensures) in
     let is = c .before .before .work-needed .ensures ∙ ap (workWords n) (c .before .before .before .slack-of .ensures) in
     is-ready s (a .plan-len) (a .work-len) m n l good _ is (c .before .if1 .left) (c .if2 .left)
 

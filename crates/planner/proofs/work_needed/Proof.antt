@@ -5,9 +5,6 @@ use Rattle.selection.proofs.Bounds.{last-small, work-small}
 use borrow.Author.Needs.{needs}
 use Rattle.planner.proofs.work_needed.Statement.{statement}
 use Rattle.planner.proofs.work_needed.Tie as tie
-use Rattle.planner.proofs.work_needed.Reads as reads
-use Rattle.planner.proofs.work_needed.Lts as lts
-use Rattle.choice.proofs.last_column.Reads as last-column-reads
 
 last-column-requires : tie.Need-last-column-requires
 last-column-requires c κs = search needs

@@ -12,8 +12,6 @@ use Rattle.ticks.proofs.Ticked.{scanned-first}
 use Rattle.ticks.proofs.Ticks.{pick}
 use Rattle.ticks.proofs.choose.Statement.{statement}
 use Rattle.ticks.proofs.choose.Tie as tie
-use Rattle.ticks.proofs.choose.Reads as reads
-use Rattle.ticks.proofs.choose.Lts as lts
 
 abbrev Inv-loop : tie.InvT-loop
 Inv-loop left due n best₀ when₀ i₀ best when i =

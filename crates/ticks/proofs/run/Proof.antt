@@ -19,11 +19,6 @@ use Rattle.ticks.proofs.Ticks.{below, early-set, early-worked, Counted,
 use borrow.Author.Needs.{needs}
 use Rattle.ticks.proofs.run.Statement.{statement}
 use Rattle.ticks.proofs.run.Tie as tie
-use Rattle.ticks.proofs.run.Reads as reads
-use Rattle.ticks.proofs.run.Lts as lts
-use Rattle.ticks.proofs.State.new.Reads as new-reads
-use Rattle.ticks.proofs.State.tick.Reads as tick-reads
-use Rattle.ticks.proofs.lesser.Reads as lesser-reads
 
 abbrev Inv-loop : tie.InvT-loop
 Inv-loop p c n end s₀ late₀ next₀ t i₀ s late next i =

@@ -11,11 +11,8 @@ use Rattle.numbers.specs.Numbers.{between}
 use Rattle.walk.proofs.Plans.{bad-word, too-long, too-short, sound}
 use borrow.Author.Needs.{needs}
 use borrow.Author.Tests.{not-true, not-false}
-use Rattle.walk.proofs.is_rate_number.Reads as is-rate-number-reads
 use Rattle.walk.proofs.check_plan.Statement.{statement}
 use Rattle.walk.proofs.check_plan.Tie as tie
-use Rattle.walk.proofs.check_plan.Reads as reads
-use Rattle.walk.proofs.check_plan.Lts as lts
 
 abbrev Inv-loop : tie.InvT-loop
 Inv-loop plan m n k₀ k = (k ≤ length plan) × (k ≤ n) × ((j : ℕ) → j < k → between 1 m (getD plan j 0) ≡ true)
@@ -42,15 +39,15 @@ shared-slice-read-r c = search needs
 cast-r : tie.Need-cast-r Inv-loop μ-loop
 cast-r c = omega (arith, c .shared-slice-known2 .given (c .before .before .before .loop .k))
 
-is-rate-number-requires : tie.Need-is-rate-number-requires Inv-loop μ-loop
-is-rate-number-requires c κs = search needs
+is-between-requires : tie.Need-is-between-requires Inv-loop μ-loop
+is-between-requires c κs = search needs
 
 returns-2 : tie.Need-returns-2 Inv-loop μ-loop
 returns-2 c =
     let b = c .before .before .before .before .before in
     let a = b .before .before .args in
     let v = b .loop .inv in
-    bad-word (a .m) (a .n) (a .plan .now) (b .loop .k) (omega arith) (omega arith) (v .2) (omega arith) (sym (c .before .is-rate-number .ensures) ∙ not-true _ (c .if2 .taken))
+    bad-word (a .m) (a .n) (a .plan .now) (b .loop .k) (omega arith) (omega arith) (v .2) (omega arith) (sym (c .before .is-between .ensures) ∙ not-true _ (c .if2 .taken))
 
 add-k : tie.Need-add-k Inv-loop μ-loop
 add-k c = search needs
@@ -66,7 +63,7 @@ loop-again c =
       omega arith,
       omega arith,
       (λ j l. ⊎-elim
-          (λ (e : j ≡ b .loop .k). rw e (sym (c .before .is-rate-number .ensures) ∙ not-false _ (c .if2 .left)))
+          (λ (e : j ≡ b .loop .k). rw e (sym (c .before .is-between .ensures) ∙ not-false _ (c .if2 .left)))
           (λ (i : j < b .loop .k). v .2 j i)
           (eq-or-lt-of-le (omega arith))),
     )
@@ -96,7 +93,7 @@ check-plan-spec =
     mul-r
     shared-slice-read-r
     cast-r
-    is-rate-number-requires
+    is-between-requires
     returns-2
     add-k
     loop-less

@@ -3,18 +3,16 @@
 use Prim.Native.Nat.{ℕ, _≤_, _-_}
 use mathlib.Core.Path.{_≡_, refl, subst}
 use native.Mathlib.Omega.{arith}
-use Rattle.taskset.specs.Words.{listHead, listExtra, period}
+use Rattle.layout.specs.Words.{period}
+use Rattle.layout.specs.declared.Layout.the-variants.{Ordinary}
 use Rattle.walk.specs.Answers.{Holds}
 use Rattle.walk.proofs.Plans.{holds-none, holds-more}
 use borrow.Author.Needs.{needs}
 use Rattle.walk.proofs.periods.Statement.{statement}
 use Rattle.walk.proofs.periods.Tie as tie
-use Rattle.walk.proofs.periods.Reads as reads
-use Rattle.walk.proofs.periods.Lts as lts
-use Rattle.checks.proofs.period_of.Reads as period-of-reads
 
 abbrev Inv-loop : tie.InvT-loop
-Inv-loop set m n p₀ t₀ p t = (t ≤ n) × Holds (period listHead listExtra set) t p
+Inv-loop set m n p₀ t₀ p t = (t ≤ n) × Holds (period Ordinary set) t p
 
 abbrev μ-loop : tie.MeasureT-loop
 μ-loop set m n p₀ t₀ p t = n - t
@@ -25,7 +23,7 @@ loop-holds c = (omega arith, holds-none _ _ refl)
 period-of-requires : tie.Need-period-of-requires Inv-loop μ-loop
 period-of-requires c κs =
     let g = c .before .before .before .pre in
-    record { heads = omega arith; extras = omega arith; set = g .set; counted = g .rates; task = omega (arith, g .tasks) }
+    record { set = g .set; counted = g .rates; task = omega (arith, g .tasks) }
 
 mul-p : tie.Need-mul-p Inv-loop μ-loop
 mul-p c = search needs
@@ -48,7 +46,7 @@ returns : tie.Need-returns Inv-loop μ-loop
 returns c =
     let a = c .before .before .before .args in
     let e : c .before .loop .t ≡ a .n = omega arith in
-    subst (λ (x : ℕ). Holds (period listHead listExtra (a .set .now)) x (c .before .loop .p)) e (c .before .loop .inv .1)
+    subst (λ (x : ℕ). Holds (period Ordinary (a .set .now)) x (c .before .loop .p)) e (c .before .loop .inv .1)
 
 pub periods-spec : {M : Type 1} → statement M
 periods-spec =

@@ -1,8 +1,9 @@
 -- The checks in their order.
 -- Assumes nothing.
 use mathlib.Core.Path.{subst}
-use Rattle.taskset.specs.Words.{listHead, listExtra}
-use Rattle.taskset.specs.Calls.{SetAnswers}
+use Rattle.layout.specs.declared.Layout.the-variants.{Ordinary}
+use Rattle.taskset.specs.Calls.{SetAfter}
+use Rattle.taskset.specs.Refusals.{_▹_, wordChecks, hyperCheck}
 use Rattle.walk.specs.Answers.{PlanAnswers}
 use Rattle.walk.proofs.Calls.{set-refused, plan-refused, plan-sound}
 use borrow.Author.Needs.{needs}
@@ -32,7 +33,7 @@ returns c =
     let sh = c .before in
     let a = sh .before .before .before .before .before .args in
     let r = sh .checked .given .0 .0 in
-    let refused = subst (SetAnswers listHead listExtra (a .set .now)) (sh .checked .given .1) (sh .before .before .check-set .ensures) in
+    let refused = subst (SetAfter (wordChecks Ordinary (a .set .now) ▹ hyperCheck Ordinary (a .set .now)) Ordinary (a .set .now)) (sh .checked .given .1) (sh .before .before .check-set .ensures) in
     set-refused (a .set .now) (a .plan .now) r refused
 
 returns-2 : tie.Need-returns-2
@@ -44,7 +45,7 @@ returns-2 c =
     let m = sh .checked2 .given .0 .0 in
     let n = sh .checked2 .given .0 .1 .0 in
     let l = sh .checked2 .given .0 .1 .1 .0 in
-    let good = subst (SetAnswers listHead listExtra s) (sh .checked2 .given .1) (sh .before .before .check-set .ensures) in
+    let good = subst (SetAfter (wordChecks Ordinary s ▹ hyperCheck Ordinary s) Ordinary s) (sh .checked2 .given .1) (sh .before .before .check-set .ensures) in
     let k = c .before .sound .given .0 .0 in
     let bad = subst (PlanAnswers m n P) (c .before .sound .given .1) (c .before .before .before .check-plan .ensures) in
     plan-refused s P m n l good k bad
@@ -58,7 +59,7 @@ returns-3 c =
     let m = sh .checked2 .given .0 .0 in
     let n = sh .checked2 .given .0 .1 .0 in
     let l = sh .checked2 .given .0 .1 .1 .0 in
-    let good = subst (SetAnswers listHead listExtra s) (sh .checked2 .given .1) (sh .before .before .check-set .ensures) in
+    let good = subst (SetAfter (wordChecks Ordinary s ▹ hyperCheck Ordinary s) Ordinary s) (sh .checked2 .given .1) (sh .before .before .check-set .ensures) in
     let pass = subst (PlanAnswers m n P) (c .enum-told .given .1) (c .before .before .check-plan .ensures) in
     plan-sound s P m n l good pass
 

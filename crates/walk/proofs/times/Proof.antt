@@ -8,9 +8,6 @@ use Rattle.walk.proofs.Plans.{holds-none, holds-more}
 use borrow.Author.Needs.{needs}
 use Rattle.walk.proofs.times.Statement.{statement}
 use Rattle.walk.proofs.times.Tie as tie
-use Rattle.walk.proofs.times.Reads as reads
-use Rattle.walk.proofs.times.Lts as lts
-use Rattle.checks.proofs.job_time.Reads as job-time-reads
 
 abbrev Inv-loop : tie.InvT-loop
 Inv-loop set plan m n c₀ t₀ c t = (t ≤ n) × Holds (timeAt set plan) t c
@@ -36,7 +33,7 @@ job-time-requires c κs =
     let start = b .before .before .before in
     let g = start .pre .0 in
     let q = start .pre .1 in (
-      record { heads = omega arith; extras = omega arith; set = g .set; counted = g .rates; task = omega (arith, g .tasks) },
+      record { set = g .set; counted = g .rates; task = omega (arith, g .tasks) },
       q .above (b .loop .t) (omega arith),
       q .below (b .loop .t) (omega arith),
     )

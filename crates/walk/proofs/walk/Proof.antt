@@ -1,7 +1,9 @@
 -- The call: the checks, then the walk.
 -- Assumes nothing.
 use mathlib.Core.Path.{subst}
-use Rattle.walk.specs.Answers.{WalkReady}
+use Rattle.layout.specs.declared.Layout.the-variants.{Ordinary}
+use Rattle.taskset.specs.Refusals.{walkChecks}
+use Rattle.taskset.specs.Calls.{SetAfter}
 use Rattle.walk.proofs.Calls.{refused}
 use borrow.Author.Needs.{needs}
 use Rattle.walk.proofs.walk.Statement.{statement}
@@ -21,7 +23,7 @@ walk-checked-requires c κs =
     let checked = c .before in
     let r = checked .before .before in
     let a = r .before .before .before .args in
-    subst (WalkReady (a .set .now) (a .plan .now)) (checked .checked2 .given .1) (r .ready .ensures)
+    subst (SetAfter (walkChecks (a .set .now) (a .plan .now)) Ordinary (a .set .now)) (checked .checked2 .given .1) (r .ready .ensures)
 
 returns : tie.Need-returns
 returns c =
@@ -29,7 +31,7 @@ returns c =
     let r = checked .before .before in
     let a = r .before .before .before .args in
     refused (a .set .now) (a .plan .now) (checked .checked .given .0 .0)
-    (subst (WalkReady (a .set .now) (a .plan .now)) (checked .checked .given .1) (r .ready .ensures))
+    (subst (SetAfter (walkChecks (a .set .now) (a .plan .now)) Ordinary (a .set .now)) (checked .checked .given .1) (r .ready .ensures))
 
 returns-2 : tie.Need-returns-2
 returns-2 c = c .walk-checked .ensures

@@ -13,10 +13,6 @@ use Rattle.ticks.proofs.Ticks.{cuts-few, ticked-idle, ticked-busy}
 use borrow.Author.Needs.{needs}
 use Rattle.ticks.proofs.State.tick.Statement.{statement}
 use Rattle.ticks.proofs.State.tick.Tie as tie
-use Rattle.ticks.proofs.State.tick.Reads as reads
-use Rattle.ticks.proofs.State.tick.Lts as lts
-use Rattle.ticks.proofs.place.Reads as place-reads
-use Rattle.ticks.proofs.preempts.Reads as preempts-reads
 
 place-requires : tie.Need-place-requires
 place-requires c κs = search needs

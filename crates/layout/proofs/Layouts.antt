@@ -1,0 +1,46 @@
+-- What holds of every layout: each law goes through the layouts, one by one.
+-- Assumes nothing.
+use Prim.Native.Nat.{ℕ, _*_, _≤_, _<_}
+use mathlib.Core.Path.{_≡_, refl}
+use native.Mathlib.Bridge.{le-by-compare, IsLe}
+use native.Mathlib.Nat.{mul-le-mul}
+use native.Mathlib.Omega.{arith}
+use Rattle.layout.specs.Words.{headKinds, extraKinds, headSize, extraSize, mostRates, mostTasks, mostWords, slackPlace, taskSize, periodPlace, kindIn, headKind}
+use Rattle.layout.specs.declared.Layout.{Layout}
+use Rattle.layout.specs.declared.Layout.the-variants.{Ordinary}
+use Rattle.layout.specs.declared.Kind.the-variants.{Slack}
+
+-- A head is short, and begins with the slack.
+pub head-few : (layout : Layout) → headSize layout ≤ 8
+unfolding headKinds IsLe
+head-few Ordinary = le-by-compare _ _ tt
+
+pub slack-in-head : (layout : Layout) → slackPlace < headSize layout
+unfolding headKinds IsLe
+slack-in-head Ordinary = le-by-compare _ _ tt
+
+pub slack-kind : (layout : Layout) → headKind layout slackPlace ≡ Slack
+unfolding headKinds headKind kindIn
+slack-kind Ordinary = refl
+
+-- Few words stand between a task's cycles and its energies.
+pub extra-few : (layout : Layout) → extraSize layout ≤ 8
+unfolding extraKinds IsLe
+extra-few Ordinary = le-by-compare _ _ tt
+
+-- The words of at most 32 tasks are few.
+pub task-words : (layout : Layout) (m t : ℕ) → m ≤ mostRates → t ≤ mostTasks → t * taskSize layout m ≤ 576
+task-words layout m t b c = omega (arith, mul-le-mul {n₁ = t} {m₁ = taskSize layout m} {n₂ = 32} {m₂ = 18} c (omega (arith, extra-few layout)))
+
+-- The words of the ordinary list at its largest, and a list of fewer rates or tasks has no more.
+pub most-words : periodPlace Ordinary mostRates mostTasks ≡ mostWords
+unfolding headKinds extraKinds
+most-words = refl
+
+pub words-few : (m n : ℕ) → m ≤ mostRates → n ≤ mostTasks → periodPlace Ordinary m n ≤ mostWords
+words-few m n a b =
+    omega (
+      arith,
+      most-words,
+      mul-le-mul {n₁ = n} {m₁ = taskSize Ordinary m} {n₂ = mostTasks} {m₂ = taskSize Ordinary mostRates} b (omega arith),
+    )

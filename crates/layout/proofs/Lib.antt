@@ -1,0 +1,4 @@
+pub mod Layouts
+pub mod Places
+pub mod Whole
+pub mod Edges

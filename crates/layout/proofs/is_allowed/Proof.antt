@@ -1,0 +1,129 @@
+use Prim.Native.Nat.{ℕ}
+use mathlib.Core.Path.{_≡_, sym, ap, _∙_}
+use mathlib.Core.List.{List}
+use native.Mathlib.Omega.{arith}
+use Rattle.layout.specs.declared.Kind.{Kind}
+use Rattle.layout.specs.Words.{allows}
+use borrow.Author.Needs.{needs}
+use Rattle.layout.proofs.is_allowed.Statement.{statement}
+use Rattle.layout.proofs.is_allowed.Tie as tie
+
+mul-w : tie.Need-mul-w
+mul-w c = search needs
+
+shared-slice-read-w : tie.Need-shared-slice-read-w
+shared-slice-read-w c = search needs
+
+cast-w : tie.Need-cast-w
+cast-w c = omega (arith, c .shared-slice-known2 .given (c .before .before .args .q))
+
+of-kind : (s : List ℕ) (q : ℕ) {k x : Kind} → k ≡ x → allows s q k ≡ allows s q x
+of-kind s q e = ap (allows s q) e
+
+enum-told : tie.Need-enum-told
+enum-told c = search needs
+
+is-between-requires : tie.Need-is-between-requires
+is-between-requires c κs = search needs
+
+enum-told-2 : tie.Need-enum-told-2
+enum-told-2 c = search needs
+
+is-between-requires-2 : tie.Need-is-between-requires-2
+is-between-requires-2 c κs = search needs
+
+enum-told-3 : tie.Need-enum-told-3
+enum-told-3 c = search needs
+
+is-between-requires-3 : tie.Need-is-between-requires-3
+is-between-requires-3 c κs = search needs
+
+enum-told-4 : tie.Need-enum-told-4
+enum-told-4 c = search needs
+
+is-between-requires-4 : tie.Need-is-between-requires-4
+is-between-requires-4 c κs = search needs
+
+enum-told-5 : tie.Need-enum-told-5
+enum-told-5 c = search needs
+
+is-between-requires-5 : tie.Need-is-between-requires-5
+is-between-requires-5 c κs = search needs
+
+enum-told-6 : tie.Need-enum-told-6
+enum-told-6 c = search needs
+
+is-between-requires-6 : tie.Need-is-between-requires-6
+is-between-requires-6 c κs = search needs
+
+enum-told-7 : tie.Need-enum-told-7
+enum-told-7 c = search needs
+
+is-between-requires-7 : tie.Need-is-between-requires-7
+is-between-requires-7 c κs = search needs
+
+enum-told-8 : tie.Need-enum-told-8
+enum-told-8 c = search needs
+
+returns : tie.Need-returns
+unfolding allows
+returns c = c .is-between .ensures ∙ sym (of-kind (c .before .before .before .before .before .args .s .now) (c .before .before .before .before .before .args .q) (c .before .enum-told .given .1))
+
+returns-2 : tie.Need-returns-2
+unfolding allows
+returns-2 c = c .is-between2 .ensures ∙ sym (of-kind (c .before .before .before .before .before .args .s .now) (c .before .before .before .before .before .args .q) (c .before .enum-told2 .given .1))
+
+returns-3 : tie.Need-returns-3
+unfolding allows
+returns-3 c = c .is-between3 .ensures ∙ sym (of-kind (c .before .before .before .before .before .args .s .now) (c .before .before .before .before .before .args .q) (c .before .enum-told3 .given .1))
+
+returns-4 : tie.Need-returns-4
+unfolding allows
+returns-4 c = c .is-between4 .ensures ∙ sym (of-kind (c .before .before .before .before .before .args .s .now) (c .before .before .before .before .before .args .q) (c .before .enum-told4 .given .1))
+
+returns-5 : tie.Need-returns-5
+unfolding allows
+returns-5 c = c .is-between5 .ensures ∙ sym (of-kind (c .before .before .before .before .before .args .s .now) (c .before .before .before .before .before .args .q) (c .before .enum-told5 .given .1))
+
+returns-6 : tie.Need-returns-6
+unfolding allows
+returns-6 c = c .is-between6 .ensures ∙ sym (of-kind (c .before .before .before .before .before .args .s .now) (c .before .before .before .before .before .args .q) (c .before .enum-told6 .given .1))
+
+returns-7 : tie.Need-returns-7
+unfolding allows
+returns-7 c = c .is-between7 .ensures ∙ sym (of-kind (c .before .before .before .before .before .args .s .now) (c .before .before .before .before .before .args .q) (c .before .enum-told7 .given .1))
+
+returns-8 : tie.Need-returns-8
+unfolding allows
+returns-8 c = sym (of-kind (c .before .before .before .before .args .s .now) (c .before .before .before .before .args .q) (c .enum-told8 .given .1))
+
+pub is-allowed-spec : {M : Type 1} → statement M
+is-allowed-spec =
+    tie.close
+    (tie.spec
+    mul-w
+    shared-slice-read-w
+    cast-w
+    enum-told
+    is-between-requires
+    enum-told-2
+    is-between-requires-2
+    enum-told-3
+    is-between-requires-3
+    enum-told-4
+    is-between-requires-4
+    enum-told-5
+    is-between-requires-5
+    enum-told-6
+    is-between-requires-6
+    enum-told-7
+    is-between-requires-7
+    enum-told-8
+    returns
+    returns-2
+    returns-3
+    returns-4
+    returns-5
+    returns-6
+    returns-7
+    returns-8)

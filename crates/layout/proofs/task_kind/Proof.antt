@@ -1,0 +1,28 @@
+use Prim.Native.Nat.{ℕ, _≤_}
+use mathlib.Core.Path.{_≡_}
+use native.Mathlib.Omega.{arith}
+use borrow.Author.Tests.{eq-eqb, ne-eqb, le-ltb}
+use Rattle.layout.specs.Words.{extraKinds, taskKind}
+use Rattle.layout.specs.declared.Kind.the-variants.{Energy}
+use Rattle.layout.specs.declared.Layout.{Layout}
+use Rattle.layout.specs.declared.Layout.the-variants.{Ordinary}
+use Rattle.layout.proofs.task_kind.Statement.{statement}
+use Rattle.layout.proofs.task_kind.Tie as tie
+
+later : (layout : Layout) (k : ℕ) → 2 ≤ k → Energy ≡ taskKind layout k
+unfolding taskKind extraKinds
+later Ordinary k h = simp (ne-eqb k 0 (λ e. omega arith), ne-eqb k 1 (λ e. omega arith), le-ltb k 2 (omega arith))
+
+returns : tie.Need-returns
+unfolding taskKind
+returns c = simp (eq-eqb _ _ (c .if1 .taken))
+
+returns-2 : tie.Need-returns-2
+unfolding taskKind
+returns-2 c = simp (ne-eqb _ _ (c .before .if1 .left), eq-eqb _ _ (c .if2 .taken))
+
+returns-3 : tie.Need-returns-3
+returns-3 c = later (c .before .before .args .layout) (c .before .before .args .k) (omega (arith, c .before .if1 .left, c .if2 .left))
+
+pub task-kind-spec : {M : Type 1} → statement M
+task-kind-spec = tie.close (tie.spec returns returns-2 returns-3)

@@ -1,0 +1,155 @@
+// The list of words of a task set: its layouts, what stands where, and what each word may be. A word that is added to a list stands here,
+// by its kind, its range and its place in a layout, and in specs/Words; what is made of it is left to the crates above.
+ghost use mathlib.Core.Path.{_≡_};
+ghost use Prim.Native.Nat.{_^_, _<_, _≤_};
+ghost use lib.ListN.{length};
+ghost use Rattle.layout.specs.Words.{headSize, extraSize, mostRates, mostTasks, ratePlace, taskCountPlace, tasksPlace, taskSize, periodPlace, cyclesPlace, energyPlace, headKind, taskKind, allows};
+
+// What a word of a set's list stands for.
+pub enum Kind {
+    Slack,
+    RateCount,
+    Rate,
+    TaskCount,
+    Period,
+    Cycles,
+    Energy,
+    LeftOver,
+}
+
+// Which list: document 01's own is the ordinary one.
+pub enum Layout {
+    Ordinary,
+}
+
+// The most tasks and words of the ordinary list.
+pub const MOST_TASKS: usize = 32;
+
+pub const MOST_WORDS: usize = 331;
+
+// The place of the slack in every list.
+pub const SLACK_PLACE: usize = 0;
+
+// How many words stand before the rate count.
+pub fn head_size(layout: Layout) -> usize
+    ensures { λ r. ⌜ r ≡ headSize layout ⌝ }
+{
+    match layout {
+        Layout::Ordinary => 1,
+    }
+}
+
+// How many words stand between a task's cycles and its energies.
+fn extra_size(layout: Layout) -> usize
+    ensures { λ r. ⌜ r ≡ extraSize layout ⌝ }
+{
+    match layout {
+        Layout::Ordinary => 0,
+    }
+}
+
+// What word q of the head stands for.
+pub fn head_kind(layout: Layout, q: usize) -> Kind
+    requires { ⌜ q < headSize layout ⌝ }
+    ensures { λ r. ⌜ r ≡ headKind layout q ⌝ }
+{
+    match layout {
+        Layout::Ordinary => Kind::Slack,
+    }
+}
+
+// What word k of a task stands for.
+pub fn task_kind(layout: Layout, k: usize) -> Kind
+    ensures { λ r. ⌜ r ≡ taskKind layout k ⌝ }
+{
+    if k == 0 {
+        return Kind::Period;
+    }
+    if k == 1 {
+        return Kind::Cycles;
+    }
+    match layout {
+        Layout::Ordinary => Kind::Energy,
+    }
+}
+
+// Whether the word at place q of a list, of this kind, is in its range.
+pub fn is_allowed(s: &[u32], q: usize, k: Kind) -> bool
+    requires { ⌜ q < length (now s) ⌝ }
+    ensures { λ r. ⌜ r ≡ allows (now (s .entry)) q k ⌝ }
+{
+    let w = s[q] as u64;
+    match k {
+        Kind::Slack => numbers::is_between(1, 1_000, w),
+        Kind::RateCount => numbers::is_between(2, 8, w),
+        Kind::Rate => numbers::is_between(1, 1_000_000, w),
+        Kind::TaskCount => numbers::is_between(1, 32, w),
+        Kind::Period => numbers::is_between(1, 10_000_000, w),
+        Kind::Cycles => numbers::is_between(1, 4_000_000_000, w),
+        Kind::Energy => numbers::is_between(1, 1_000_000, w),
+        Kind::LeftOver => false,
+    }
+}
+
+// The place of rate number r.
+pub fn rate_place(layout: Layout, r: usize) -> usize
+    requires { ⌜ r ≤ mostRates ⌝ }
+    ensures { λ x. ⌜ x ≡ ratePlace layout r ⌝ }
+{
+    head_size(layout) + r
+}
+
+// The place of the task count, behind m rates.
+pub fn task_count_place(layout: Layout, m: usize) -> usize
+    requires { ⌜ m < 2 ^ 32 ⌝ }
+    ensures { λ r. ⌜ r ≡ taskCountPlace layout m ⌝ }
+{
+    head_size(layout) + 1 + m
+}
+
+// The place of the first task.
+pub fn tasks_place(layout: Layout, m: usize) -> usize
+    requires { ⌜ m < 2 ^ 32 ⌝ }
+    ensures { λ r. ⌜ r ≡ tasksPlace layout m ⌝ }
+{
+    head_size(layout) + 2 + m
+}
+
+// The words before a task's energies.
+pub fn before_energies(layout: Layout) -> usize
+    ensures { λ r. ⌜ r ≡ taskSize layout 0 ⌝ }
+{
+    2 + extra_size(layout)
+}
+
+// The words of one task.
+pub fn task_size(layout: Layout, m: usize) -> usize
+    requires { ⌜ m < 2 ^ 32 ⌝ }
+    ensures { λ r. ⌜ r ≡ taskSize layout m ⌝ }
+{
+    before_energies(layout) + m
+}
+
+// The place of task t's first word, its period.
+pub fn period_place(layout: Layout, m: usize, t: usize) -> usize
+    requires { ⌜ (m ≤ mostRates) × (t ≤ mostTasks) ⌝ }
+    ensures { λ r. ⌜ r ≡ periodPlace layout m t ⌝ }
+{
+    tasks_place(layout, m) + t * task_size(layout, m)
+}
+
+// The place of its cycles.
+pub fn cycles_place(layout: Layout, m: usize, t: usize) -> usize
+    requires { ⌜ (m ≤ mostRates) × (t ≤ mostTasks) ⌝ }
+    ensures { λ r. ⌜ r ≡ cyclesPlace layout m t ⌝ }
+{
+    period_place(layout, m, t) + 1
+}
+
+// The place of its energy at rate number r.
+pub fn energy_place(layout: Layout, m: usize, t: usize, r: usize) -> usize
+    requires { ⌜ (m ≤ mostRates) × (t ≤ mostTasks) × (r ≤ mostRates) ⌝ }
+    ensures { λ x. ⌜ x ≡ energyPlace layout m t r ⌝ }
+{
+    period_place(layout, m, t) + (1 + extra_size(layout) + r)
+}

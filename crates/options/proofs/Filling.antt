@@ -1,0 +1,111 @@
+-- The arrays of loads and energies, filled option by option.
+-- Assumes nothing.
+use Prim.Native.Nat.{ℕ, _+_, _*_, _/_, _^_, _≤_, _<_}
+use mathlib.Core.Path.{_≡_, refl, _∙_}
+use mathlib.Core.List.{List}
+use mathlib.Core.Logic.{⊎-elim}
+use native.Mathlib.Decide.{ℕ-discrete}
+use native.Mathlib.Nat.{eq-or-lt-of-le, div-le-self, mul-le-mul}
+use native.Mathlib.Omega.{arith}
+use lib.ListN.{getD, set, length-set, replicate, length-replicate}
+use lib.Seq.{getD-set-same, getD-set-other}
+use Rattle.layout.specs.Words.{mostRates, mostTasks, rateCount, period, energy}
+use Rattle.layout.specs.declared.Layout.{Layout}
+use Rattle.taskset.specs.Quantities.{hyperLimit, jobTime, taskLoad, taskEnergy}
+use Rattle.checks.proofs.Access.{job-time-fits}
+use Rattle.taskset.proofs.Sets.{IsSet, task-energy-small}
+use Rattle.choice.proofs.Choosing.{zeros-at}
+use Rattle.options.specs.Options.{Put, PutBoth, TaskGiven}
+
+-- ---- one array
+put-none : (f : ℕ → ℕ → ℕ) (m : ℕ) → Put f m 0 1 (replicate 512 0)
+put-none f m = record {
+  size = length-replicate {A = ℕ} 512 0;
+  small = λ k. omega (arith, zeros-at 512 k);
+  before = λ u q l a b. absurd (omega arith);
+  here = λ q a l. absurd (omega arith);
+}
+
+put-more : (f : ℕ → ℕ → ℕ) (m t r v : ℕ) (d : List ℕ) → t < 32 → m ≤ 8 → r ≤ m → v ≡ f t r → v < 2 ^ 58 → Put f m t r d
+    → Put f m t (r + 1) (set d (t * 16 + r) v)
+put-more f m t r v d task rates rate is fits p =
+    record {
+      size = length-set d (t * 16 + r) v ∙ p .size;
+      small = λ k. at k (ℕ-discrete k (t * 16 + r));
+      before = λ u q l a b. getD-set-other d (t * 16 + r) (u * 16 + q) v 0 (omega arith) ∙ p .before u q l a b;
+      here = λ q a l.
+          ⊎-elim
+          (λ (e : q ≡ r). rw e (same ∙ is))
+          (λ (e : q < r). getD-set-other d (t * 16 + r) (t * 16 + q) v 0 (omega arith) ∙ p .here q a e)
+          (eq-or-lt-of-le (omega arith));
+    }
+  where
+    same : getD (set d (t * 16 + r) v) (t * 16 + r) 0 ≡ v
+    same = getD-set-same d (t * 16 + r) v 0 (omega (arith, p .size))
+
+    at : (k : ℕ) → Dec (k ≡ t * 16 + r) → getD (set d (t * 16 + r) v) k 0 < 2 ^ 58
+    at k (yes e) = rw (e, same) fits
+    at k (no e) = rw (getD-set-other d (t * 16 + r) k v 0 e) (p .small k)
+
+-- The task is done, and the next begins.
+put-next : (f : ℕ → ℕ → ℕ) (m t r : ℕ) (d : List ℕ) → r ≡ m + 1 → Put f m t r d → Put f m (t + 1) 1 d
+put-next f m t r d e p = record {
+  size = p .size;
+  small = p .small;
+  before = λ u q l a b.
+      ⊎-elim (λ (z : u ≡ t). rw z (p .here q a (omega arith))) (λ (z : u < t). p .before u q z a b) (eq-or-lt-of-le (omega arith));
+  here = λ q a l. absurd (omega arith);
+}
+
+-- ---- loads and energies of a set
+pub both-none : (layout : Layout) (s : List ℕ) (m : ℕ) → PutBoth layout s m 0 1 (replicate 512 0) (replicate 512 0)
+both-none layout s m = record { loads = put-none (taskLoad layout s) m; energies = put-none (taskEnergy layout s) m }
+
+pub both-next : (layout : Layout) (s : List ℕ) (m t r : ℕ) (ls es : List ℕ) → r ≡ m + 1 → PutBoth layout s m t r ls es → PutBoth layout s m (t + 1) 1 ls es
+both-next layout s m t r ls es e b = record {
+  loads = put-next (taskLoad layout s) m t r ls e (b .loads);
+  energies = put-next (taskEnergy layout s) m t r es e (b .energies);
+}
+
+module _ {layout : Layout} {m l t : ℕ} {s : List ℕ} (g : TaskGiven layout m l t s) where
+  set-is : IsSet layout s
+  set-is = g .of-task .set
+
+  pub task-few : t < mostTasks
+  task-few = omega (arith, g .of-task .task, set-is .whole .tasks-range .1)
+
+  pub rates-few : m ≤ mostRates
+  rates-few = omega (arith, g .of-task .counted, set-is .whole .rates-range .1)
+
+  pub period-positive : 1 ≤ period layout s t
+  period-positive = set-is .whole .period-range t (g .of-task .task) .0
+
+  -- the period p as it was read
+  module _ (p : ℕ) (p-is : p ≡ period layout s t) where
+    jobs-few : l / p ≤ hyperLimit
+    jobs-few = omega (arith, div-le-self l p, g .hyper, set-is .hyper-range .1)
+
+    -- job time x and energy y at rate number r, as they were read
+    module _ (r x y : ℕ) (from : 1 ≤ r) (to : r ≤ m) where
+      rate-number : r ≤ rateCount layout s
+      rate-number = omega (arith, g .of-task .counted)
+
+      pub load-fits : x ≡ jobTime layout s t r → l / p * x ≤ hyperLimit * 4000000000
+      load-fits x-is =
+          let f = set-is .whole .rate-range r from rate-number .0 in
+          let c = set-is .whole .cycles-range t (g .of-task .task) .1 in
+          omega (arith, mul-le-mul {n₁ = l / p} {m₁ = x} {n₂ = hyperLimit} {m₂ = 4000000000} jobs-few (omega (arith, x-is, job-time-fits _ _ f c)))
+
+      pub energy-fits : y ≡ energy layout s t r → l / p * y ≤ hyperLimit * 1000000
+      energy-fits y-is = rw (g .hyper, p-is, y-is) (task-energy-small layout s set-is t r (g .of-task .task) from rate-number)
+
+      pub both-more : (ls es : List ℕ) → x ≡ jobTime layout s t r → y ≡ energy layout s t r → PutBoth layout s m t r ls es
+          → PutBoth layout s m t (r + 1) (set ls (t * 16 + r) (l / p * x)) (set es (t * 16 + r) (l / p * y))
+      both-more ls es x-is y-is b = record {
+        loads =
+            put-more (taskLoad layout s) m t r (l / p * x) ls task-few rates-few to (rw (g .hyper, p-is, x-is) refl)
+            (omega (arith, load-fits x-is)) (b .loads);
+        energies =
+            put-more (taskEnergy layout s) m t r (l / p * y) es task-few rates-few to (rw (g .hyper, p-is, y-is) refl)
+            (omega (arith, energy-fits y-is)) (b .energies);
+      }

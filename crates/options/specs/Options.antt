@@ -1,0 +1,33 @@
+-- What is handed to the choice of a plan: arrays with an option for each task and rate number. Not part of what a reader must believe: the
+-- calls' contracts speak of the set's own loads and energies.
+use Prim.Native.Nat.{ℕ, _^_, _≤_, _<_}
+use mathlib.Core.Path.{_≡_}
+use mathlib.Core.List.{List}
+use lib.ListN.{length, getD}
+use Rattle.layout.specs.declared.Layout.{Layout}
+use Rattle.taskset.specs.Quantities.{hyperPeriod, taskLoad, taskEnergy}
+use Rattle.checks.specs.Steps.{OfTask}
+use Rattle.table.specs.Rows.{optionAt}
+
+-- The array d of 512 words holds f at every rate number 1 to m of the tasks before place t, and at those before r of the task at place
+-- t; and every word leaves room for a sum of 32.
+pub record Put (f : ℕ → ℕ → ℕ) (m t r : ℕ) (d : List ℕ) : Type 0 where
+  pub size : length d ≡ 512
+  pub small : (k : ℕ) → getD d k 0 < 2 ^ 58
+  pub before : (u q : ℕ) → u < t → 1 ≤ q → q ≤ m → optionAt d u q ≡ f u q
+  pub here : (q : ℕ) → 1 ≤ q → q < r → optionAt d t q ≡ f t q
+
+-- The set's loads and energies, so far.
+pub record PutBoth (layout : Layout) (s : List ℕ) (m t r : ℕ) (ls es : List ℕ) : Type 0 where
+  pub loads : Put (taskLoad layout s) m t r ls
+  pub energies : Put (taskEnergy layout s) m t r es
+
+-- What a task's options ask: the task is one of a set of m rates, and l is the set's hyper-period.
+pub record TaskGiven (layout : Layout) (m l t : ℕ) (s : List ℕ) : Type 0 where
+  pub of-task : OfTask layout m t s
+  pub hyper : l ≡ hyperPeriod layout s
+
+-- The same of the first n tasks.
+pub record TasksGiven (layout : Layout) (m n l : ℕ) (s : List ℕ) : Type 0 where
+  pub few : n ≤ 32
+  pub each : (t : ℕ) → t < n → TaskGiven layout m l t s
