@@ -1,3 +1,4 @@
-pub mod Cuts
+pub mod Stores
 pub mod Lists
-pub mod TaskLists
+pub mod Words
+pub mod Cuts

@@ -3,27 +3,14 @@
 use Prim.Native.Nat.{ℕ}
 use mathlib.Core.Path.{_≡_}
 use mathlib.Core.List.{List}
-use mathlib.Core.Bool.{Bool}
-use lib.ListN.{length, drop}
+use lib.ListN.{length}
 use Rattle.text.specs.Text.{bytes, TaskLine, Script, taskWords, joined, words}
-use Rattle.text.proofs.Reading.{Res, got, bad, upTo, field, starts}
+use Rattle.text.proofs.Reading.{Res, got, bad, mapRes, field}
 use Rattle.text.proofs.Writing.{written}
-use Rattle.forms.specs.declared.Count.{Count}
-use Rattle.forms.specs.declared.Count.the-variants.{Found, Off}
+use Rattle.scanner.specs.Steps.{ofRead}
+use Rattle.scanner.specs.declared.Read.{Read}
 
--- An opening bracket stands at a place.
-unfoldable pub opensAt : List ℕ → ℕ → Bool
-opensAt s at = starts 40 (drop at s)
-
--- The answer of the code as a result of reading.
-abbrev pub ofCount : Count → Res ℕ
-ofCount (Found n i) = got n i
-ofCount (Off o) = bad o
-
--- The line of the slack, with the bracket that opens the next line: the byte behind it tells which line that is.
-abbrev pub slackLine : List ℕ → Res ℕ
-slackLine = upTo (field (bytes "(slack ")) (bytes ")\n(")
-
+-- A space and a number.
 abbrev pub spacedNumber : List ℕ → Res ℕ
 spacedNumber = field (bytes " ")
 
@@ -33,13 +20,14 @@ abbrev pub Wrote : {A : Type 0} → (A → List ℕ) → ℕ → List ℕ → Li
 Wrote f k d e (got a i) = e ≡ written k (f a) d
 Wrote f k d e (bad o) = Unit {0}
 
+-- What the reader of a form gives, where x is what the form reads as: the value of what was read, and its words in the list.
+pub record Gives {A : Type 0} (value : A → ℕ) (words : A → List ℕ) (k : ℕ) (d e : List ℕ) (x : Res A) (r : Read) : Type 0 where
+  pub answers : ofRead r ≡ mapRes value x
+  pub wrote : Wrote words k d e x
+
 -- A list of numbers is its own words.
 abbrev pub plain : List ℕ → List ℕ
 plain xs = xs
-
--- What was read is left out.
-abbrev pub unit : {A : Type 0} → A → Unit {0}
-unit a = tt
 
 abbrev pub allWords : List TaskLine → List ℕ
 allWords = joined taskWords

@@ -5,7 +5,7 @@ ghost use Prim.Native.Nat.{_≤_};
 ghost use lib.ListN.{length};
 ghost use Rattle.text.specs.Calls.{ReaderGives};
 ghost use Rattle.text.proofs.Writing.{placed};
-use forms::Count;
+use scanner::Read;
 use taskset::CopyAnswer;
 use taskset::Refusal;
 
@@ -26,9 +26,10 @@ fn put_words(out: &mut [u32], l: &[u32]) -> usize
 pub fn read(text: &[u8], words: &mut [u32]) -> CopyAnswer
     ensures { λ a. ⌜ ReaderGives (now (text .entry)) (now (words .entry)) (now (words .exit)) a ⌝ }
 {
-    let mut set = [0u32; 331];
+    let mut set = [0u32; layout::MOST_WORDS];
     match forms::read_set(text, &mut set) {
-        Count::Found(n, i) => {
+        Read::Got(count, i) => {
+            let n = count as usize;
             if i < text.len() {
                 return CopyAnswer::Refused(Refusal::TextDeparts(i));
             }
@@ -37,6 +38,6 @@ pub fn read(text: &[u8], words: &mut [u32]) -> CopyAnswer
             }
             CopyAnswer::Wrote(put_words(words, &set[..n]))
         }
-        Count::Off(o) => CopyAnswer::Refused(Refusal::TextDeparts(o)),
+        Read::Bad(o) => CopyAnswer::Refused(Refusal::TextDeparts(o)),
     }
 }

@@ -1,7 +1,7 @@
 -- The readers at a place of a text, as the code walks it.
 -- Assumes nothing.
 use Prim.Native.Nat.{ℕ, _+_, _*_, _^_, _≤_, _<_}
-use mathlib.Core.Path.{_≡_, refl, ap}
+use mathlib.Core.Path.{_≡_, refl, sym, ap, _∙_}
 use mathlib.Core.List.{List, _∷_}
 use native.Mathlib.Omega.{arith}
 use native.Mathlib.Nat.{add-zero}
@@ -9,9 +9,12 @@ use native.Mathlib.Numerals.{add-one}
 use lib.ListN.{length, getD, drop, drop-of-length-le}
 use lib.Seq.{drop-cons, drop-drop}
 use borrow.Author.Tests.{eq-eqb, ne-eqb}
-use Rattle.text.proofs.Reading.{Res, got, bad, next, later, mapRes, after, seq, literal, more, number, readAt}
-use Rattle.scanner.proofs.Classes.{DigitAt}
+use Rattle.text.proofs.Reading.{Res, got, bad, ext, next, later, mapRes, after, seq, literal, more, number, readAt}
 use Rattle.text.proofs.Digits.{NoDigit}
+use Rattle.scanner.specs.Steps.{Stands, ofRead}
+use Rattle.scanner.specs.declared.Read.{Read}
+use Rattle.scanner.specs.declared.Read.the-variants.{Got, Bad}
+use Rattle.scanner.specs.declared.Class.the-variants.{Digit}
 use Rattle.text.proofs.Numerals.{more-digit, more-large, first-digit, more-stop, no-number}
 
 later-next : {A : Type 0} (i : ℕ) (x : Res A) → later i (next x) ≡ later (i + 1) x
@@ -29,6 +32,22 @@ later-map f i (bad o) = refl
 pub map-id : {A : Type 0} (x : Res A) → mapRes (λ a. a) x ≡ x
 map-id (got a n) = refl
 map-id (bad o) = refl
+
+-- What a callee's answer tells of what it read: f is what the answer shows of it.
+pub record Took {A : Type 0} (f : A → ℕ) (x : Res A) (v i : ℕ) : Type 0 where
+  pub item : A
+  pub is : x ≡ got item i
+  pub shows : f item ≡ v
+
+pub took : {A : Type 0} (f : A → ℕ) (x : Res A) {r : Read} {v i : ℕ} → ofRead r ≡ mapRes f x → r ≡ Got v i → Took f x v i
+took f (got a j) {r} {v} {i} e q =
+    let h : got v i ≡ got (f a) j = ap ofRead (sym q) ∙ e in
+    record { item = a; is = ap (got a) (ap ext (sym h)); shows = cc }
+took f (bad o) {r} {v} {i} e q = let h : got v i ≡ bad o = ap ofRead (sym q) ∙ e in let z : _≡_ {A = ℕ} 0 1 = cc in absurd (omega arith)
+
+pub lost : {A : Type 0} (f : A → ℕ) (x : Res A) {r : Read} {o : ℕ} → ofRead r ≡ mapRes f x → r ≡ Bad o → x ≡ bad o
+lost f (got a i) {r} {o} e q = let h : bad o ≡ got (f a) i = ap ofRead (sym q) ∙ e in let z : _≡_ {A = ℕ} 0 1 = cc in absurd (omega arith)
+lost f (bad p) {r} {o} e q = let h : bad o ≡ bad p = ap ofRead (sym q) ∙ e in ap bad (ap ext (sym h))
 
 -- Going on after a piece.
 abbrev pub onward : {A B C : Type 0} → (A → B → C) → (A → List ℕ → Res B) → List ℕ → Res A → Res C
@@ -64,9 +83,9 @@ module _ (l s : List ℕ) (i j : ℕ) where
   literal-done h = rw (drop-of-length-le l h, add-zero)
 
 module _ (s : List ℕ) (i : ℕ) where
-  module _ (d : ℕ) (h : DigitAt s i d) where
+  module _ (d : ℕ) (h : Stands (Digit d) s i) where
     byte : drop i s ≡ (48 + d) ∷ drop (i + 1) s
-    byte = let e : getD s i 0 ≡ 48 + d = omega arith in rw (add-one i, drop-cons s i 0 (h .inside), e)
+    byte = let e : getD s i 0 ≡ 48 + d = omega arith in rw (add-one i, drop-cons s i 0 (h .0 .inside), e)
 
     pub more-on : (v : ℕ) → v * 10 + d < 2 ^ 32 → readAt (more v) s i ≡ readAt (more (v * 10 + d)) s (i + 1)
     unfolding readAt

@@ -1,55 +1,76 @@
 -- A task's line: each answer on the way says what the next piece reads.
 -- Assumes nothing.
-use Prim.Native.Nat.{ℕ, _+_}
-use mathlib.Core.Path.{_≡_, refl, sym, ap, _∙_}
+use Prim.Native.Nat.{ℕ, _+_, _≤_}
+use mathlib.Core.Path.{_≡_, sym, ap, _∙_}
 use mathlib.Core.List.{List, _∷_}
 use native.Mathlib.Omega.{arith}
 use denote.Ref.{now}
-use lib.ListN.{set, length-set}
-use Rattle.text.specs.Text.{bytes, taskWords}
+use lib.ListN.{length, length-set}
+use Rattle.layout.specs.Words.{taskSize}
+use Rattle.layout.specs.declared.Layout.the-variants.{Ordinary}
+use Rattle.text.specs.Text.{bytes, extraWords, taskWords}
+use Rattle.text.proofs.Reading.{Res, got, bad, mapRes, literal, upTo, field, numbers, mkTask, both, readTask, readAt}
 use Rattle.text.proofs.Writing.{written}
-use Rattle.scanner.specs.Steps.{ofPlace, ofValue}
-use Rattle.forms.specs.Forms.{plain, unit, Wrote}
-use Rattle.text.proofs.Reading.{Res, got, bad, mapRes, literal, field, numbers, mkTask, both, readAt}
-use Rattle.scanner.proofs.Places.{seq-at}
-use Rattle.forms.proofs.Lists.{Took, took, lost, two-then}
+use Rattle.scanner.specs.Steps.{ofRead, noValue}
+use Rattle.scanner.specs.declared.Read.{Read}
+use Rattle.scanner.proofs.Places.{map-id, seq-at, Took, took, lost}
+use Rattle.forms.specs.Forms.{Gives}
+use Rattle.forms.proofs.Lists.{departs}
+use Rattle.forms.proofs.Stores.{stored, in-front}
+use Rattle.forms.proofs.Words.{task-front}
 use borrow.Author.Needs.{needs}
 use Rattle.forms.proofs.task.Statement.{statement}
 use Rattle.forms.proofs.task.Tie as tie
-use Rattle.forms.proofs.task.Reads as reads
-use Rattle.forms.proofs.task.Lts as lts
-use Rattle.forms.proofs.exactly.Reads as exactly-reads
-use Rattle.scanner.proofs.field.Reads as field-reads
-use Rattle.scanner.proofs.literal.Reads as literal-reads
+
+-- The way back from where each answer was taken apart: to the answer before it, and to the start.
+abbrev start : tie.After-period → tie.Start
+start p = p .before .before .before .before .before .before
+
+abbrev period-of : tie.After-cycles → tie.After-period
+period-of c = c .before .before .before .before .before
+
+abbrev cycles-of : tie.After-opened → tie.After-cycles
+cycles-of h = h .before .before .before .before .before
+
+abbrev opened-of : tie.After-energies → tie.After-opened
+opened-of e = e .before .before .before .before .before .before .before .before
+
+abbrev numbers-call : tie.After-energies → tie.After-numbers
+numbers-call e = e .before .before .before .before
 
 -- What each call told, in the arm that its answer led to.
-period : (c : tie.After-p) → let a = c .before .before .before .before .before .before .args in
-    readAt (field (bytes "(task (period ")) (now (a .s)) (a .at) ≡ got (c .p .given .0 .0) (c .p .given .0 .1 .0)
-period c = sym (c .before .before .field .ensures) ∙ ap ofValue (c .p .given .1)
+period : (p : tie.After-period) → let a = start p .args in
+    readAt (field (bytes "(task (period ")) (now (a .s)) (a .at) ≡ got (p .period .given .0 .0) (p .period .given .0 .1 .0)
+period p = sym (p .before .before .field .ensures) ∙ ap ofRead (p .period .given .1)
 
-cycles : (c : tie.After-c) → let p = c .before .before .before .before .before in let a = p .before .before .before .before .before .before .args in
-    readAt (field (bytes ") (cycles ")) (now (a .s)) (p .p .given .0 .1 .0) ≡ got (c .c .given .0 .0) (c .c .given .0 .1 .0)
-cycles c = sym (c .before .before .field2 .ensures) ∙ ap ofValue (c .c .given .1)
+cycles : (c : tie.After-cycles) → let p = period-of c in
+    readAt (field (bytes ") (cycles ")) (now (start p .args .s)) (p .period .given .0 .1 .0) ≡ got (c .cycles .given .0 .0) (c .cycles .given .0 .1 .0)
+cycles c = sym (c .before .before .field2 .ensures) ∙ ap ofRead (c .cycles .given .1)
 
-opened : (c : tie.After-h) → let y = c .before .before .before .before .before in
-    let p = y .before .before .before .before .before in let a = p .before .before .before .before .before .before .args in
-    readAt (literal (bytes ") (energy")) (now (a .s)) (y .c .given .0 .1 .0) ≡ got tt (c .h .given .0 .0)
-opened c = sym (c .before .before .literal .ensures) ∙ ap ofPlace (c .h .given .1)
+opened : (h : tie.After-opened) → let c = cycles-of h in
+    readAt (literal (bytes ") (energy")) (now (start (period-of c) .args .s)) (c .cycles .given .0 .1 .0) ≡ got tt (h .opened .given .0 .1 .0)
+opened h = took noValue (readAt (literal _) _ _) (h .before .before .literal .ensures) (h .opened .given .1) .is
 
-energies : (c : tie.After-e) → let x = c .before .before .before .before in let h = x .before .before .before in let y = h .before .before .before .before .before in
-    let p = y .before .before .before .before .before in let a = p .before .before .before .before .before .before .args in
-    Took unit plain (a .k + 2) (set (set (now (a .out)) (a .k) (p .p .given .0 .0)) (a .k + 1) (y .c .given .0 .0)) (x .exactly .last .1 .1 .0)
-    (readAt (numbers (a .m) 0) (now (a .s)) (h .h .given .0 .0)) tt (c .e .given .0 .0)
-energies c =
-    let x = c .before .before .before .before in
-    took unit plain _ _ _ _ tt (c .e .given .0 .0) (sym (ap ofPlace (c .e .given .1)) ∙ x .exactly .ensures .0) (x .exactly .ensures .1)
+-- What is left to read behind the name of the energies.
+to-energies : (h : tie.After-opened) → let y = cycles-of h in let a = start (period-of y) .args in
+    readAt (readTask (a .m)) (now (a .s)) (a .at)
+    ≡ mapRes (mkTask (period-of y .period .given .0 .0)) (mapRes (both (y .cycles .given .0 .0)) (readAt (upTo (numbers (a .m) 0) (bytes "))\n")) (now (a .s)) (h .opened .given .0 .1 .0)))
+to-energies h = rw (seq-at, period (period-of (cycles-of h)), seq-at, cycles (cycles-of h), seq-at, opened h, map-id)
+
+energies : (e : tie.After-energies) → let h = opened-of e in let a = start (period-of (cycles-of h)) .args in
+    Took length (readAt (numbers (a .m) 0) (now (a .s)) (h .opened .given .0 .1 .0)) (e .energies .given .0 .0) (e .energies .given .0 .1 .0)
+energies e = took length (readAt (numbers _ 0) _ _) (numbers-call e .numbers .ensures .answers) (e .energies .given .1)
+
+-- The list is as long as it was, and so has room for the words.
+room : (e : tie.After-energies) → let a = start (period-of (cycles-of (opened-of e))) .args in
+    a .k + taskSize Ordinary (a .m) ≤ length (numbers-call e .numbers .last .1 .1 .0)
+room e = omega (arith, numbers-call e .numbers .kept .1 .1 .0, start (period-of (cycles-of (opened-of e))) .pre .1)
 
 -- The line's end.
-closed : (k p c : ℕ) (es d e : List ℕ) (y : Res (Unit {0})) → e ≡ written k (p ∷ c ∷ es) d
-    → let z = mapRes (mkTask p) (mapRes (both c) (mapRes (λ b. b) (mapRes (λ _. es) y))) in
-    (y ≡ mapRes unit z) × Wrote taskWords k d e z
-closed k p c es d e (got tt i) w = (refl, w)
-closed k p c es d e (bad o) w = (refl, tt)
+closed : (k p c : ℕ) (es d e : List ℕ) (y : Res (Unit {0})) (r : Read) → ofRead r ≡ mapRes noValue y → e ≡ written k (taskWords (mkTask p (c, es))) d
+    → Gives noValue taskWords k d e (mapRes (mkTask p) (mapRes (both c) (mapRes (λ _. es) y))) r
+closed k p c es d e (got u i) r q w = record { answers = q; wrote = w }
+closed k p c es d e (bad o) r q w = record { answers = q; wrote = tt }
 
 slice-aggregate-field : tie.Need-slice-aggregate-field
 slice-aggregate-field c = search needs
@@ -57,8 +78,16 @@ slice-aggregate-field c = search needs
 field-requires : tie.Need-field-requires
 field-requires c κs = search needs
 
-enum-known-p : tie.Need-enum-known-p
-enum-known-p c = search needs
+enum-known-period : tie.Need-enum-known-period
+enum-known-period c = search needs
+
+enum-told : tie.Need-enum-told
+enum-told c = search needs
+
+returns : tie.Need-returns
+returns c =
+    let e = sym (c .before .before .field .ensures) ∙ ap ofRead (c .enum-told .given .1) in
+    departs (rw (seq-at, e)) (c .enum-told .given .1)
 
 slice-aggregate-field-2 : tie.Need-slice-aggregate-field-2
 slice-aggregate-field-2 c = search needs
@@ -66,8 +95,17 @@ slice-aggregate-field-2 c = search needs
 field-requires-2 : tie.Need-field-requires-2
 field-requires-2 c κs = search needs
 
-enum-known-c : tie.Need-enum-known-c
-enum-known-c c = search needs
+enum-known-cycles : tie.Need-enum-known-cycles
+enum-known-cycles c = search needs
+
+enum-told-2 : tie.Need-enum-told-2
+enum-told-2 c = search needs
+
+returns-2 : tie.Need-returns-2
+returns-2 c =
+    let p = c .before .before .before .before .before in
+    let e = sym (c .before .before .field2 .ensures) ∙ ap ofRead (c .enum-told2 .given .1) in
+    departs (rw (seq-at, period p, seq-at, e)) (c .enum-told2 .given .1)
 
 slice-aggregate-literal : tie.Need-slice-aggregate-literal
 slice-aggregate-literal c = search needs
@@ -75,35 +113,57 @@ slice-aggregate-literal c = search needs
 literal-requires : tie.Need-literal-requires
 literal-requires c κs = search needs
 
-enum-known-h : tie.Need-enum-known-h
-enum-known-h c = search needs
+enum-known-opened : tie.Need-enum-known-opened
+enum-known-opened c = search needs
+
+enum-told-3 : tie.Need-enum-told-3
+enum-told-3 c = search needs
+
+returns-3 : tie.Need-returns-3
+returns-3 c =
+    let y = c .before .before .before .before .before in
+    let e = lost noValue (readAt (literal _) _ _) (c .before .before .literal .ensures) (c .enum-told3 .given .1) in
+    departs (rw (seq-at, period (period-of y), seq-at, cycles y, seq-at, e)) (c .enum-told3 .given .1)
+
+before-energies-requires : tie.Need-before-energies-requires
+before-energies-requires c κs = search needs
+
+add-first : tie.Need-add-first
+add-first c = search needs
+
+numbers-requires : tie.Need-numbers-requires
+numbers-requires c κs = search needs
+
+enum-known-energies : tie.Need-enum-known-energies
+enum-known-energies c = search needs
+
+enum-told-4 : tie.Need-enum-told-4
+enum-told-4 c = search needs
+
+same-length : tie.Need-same-length
+same-length c = search needs
+
+returns-4 : tie.Need-returns-4
+returns-4 c =
+    let x = c .before .before .before .before in
+    let h = x .before .before .before .before in
+    let e = lost length (readAt (numbers _ 0) _ _) (x .numbers .ensures .answers) (c .enum-told4 .given .1) in
+    departs (rw (to-energies h, seq-at, e)) (c .enum-told4 .given .1)
 
 mul-out : tie.Need-mul-out
-mul-out c = search needs
+mul-out c = omega (arith, room (c .before), start (period-of (cycles-of (opened-of (c .before)))) .good .1 .1 .0)
 
 slice-write-out : tie.Need-slice-write-out
-slice-write-out c = search needs
+slice-write-out c = omega (arith, room (c .before))
 
 add-out : tie.Need-add-out
-add-out c = search needs
+add-out c = omega (arith, room (c .before), start (period-of (cycles-of (opened-of (c .before)))) .good .1 .1 .0)
 
 mul-out-2 : tie.Need-mul-out-2
-mul-out-2 c = search needs
+mul-out-2 c = omega (arith, room (c .before), start (period-of (cycles-of (opened-of (c .before)))) .good .1 .1 .0)
 
 slice-write-out-2 : tie.Need-slice-write-out-2
-slice-write-out-2 c = simp length-set (omega arith)
-
-add-exactly : tie.Need-add-exactly
-add-exactly c = search needs
-
-add-exactly-2 : tie.Need-add-exactly-2
-add-exactly-2 c = search needs
-
-exactly-requires : tie.Need-exactly-requires
-exactly-requires c κs = search needs
-
-enum-known-e : tie.Need-enum-known-e
-enum-known-e c = search needs
+slice-write-out-2 c = simp length-set (omega (arith, room (c .before)))
 
 slice-aggregate-literal-2 : tie.Need-slice-aggregate-literal-2
 slice-aggregate-literal-2 c = search needs
@@ -111,62 +171,23 @@ slice-aggregate-literal-2 c = search needs
 literal-requires-2 : tie.Need-literal-requires-2
 literal-requires-2 c κs = search needs
 
-enum-known-o : tie.Need-enum-known-o
-enum-known-o c = search needs
-
-enum-known-o-2 : tie.Need-enum-known-o-2
-enum-known-o-2 c = search needs
-
-enum-known-o-3 : tie.Need-enum-known-o-3
-enum-known-o-3 c = search needs
-
-enum-known-o-4 : tie.Need-enum-known-o-4
-enum-known-o-4 c = search needs
-
-same-length : tie.Need-same-length
-same-length c = let x = c .before .before .before .before .before .before .before in x .exactly .kept .1 .1 .0 ∙ simp length-set
-
-returns : tie.Need-returns
-returns c =
-    let t = c .before .before .before in
-    let x = t .before .before .before .before in
-    let h = x .before .before .before in
-    let y = h .before .before .before .before .before in
-    let p = y .before .before .before .before .before in
-    let a = p .before .before .before .before .before .before in
-    let g = energies t in
-    rw (c .literal2 .ensures, seq-at, period p, seq-at, cycles y, seq-at, opened h, seq-at, g .is)
-    (closed (a .args .k) (p .p .given .0 .0) (y .c .given .0 .0) (g .item) (now (a .args .out)) _ _
-    (g .wrote ∙ two-then (g .item) (now (a .args .out)) (a .args .k) _ _ (omega (arith, a .pre))))
-
 same-length-2 : tie.Need-same-length-2
-same-length-2 c = let x = c .before .before .before .before .before in x .exactly .kept .1 .1 .0 ∙ simp length-set
-
-returns-2 : tie.Need-returns-2
-returns-2 c =
-    let x = c .before .before .before .before .before in
-    let h = x .before .before .before in
-    let y = h .before .before .before .before .before in
-    let p = y .before .before .before .before .before in
-    let e = lost unit (readAt (numbers _ 0) _ _) (c .before .o .given .0 .0) (sym (ap ofPlace (c .before .o .given .1)) ∙ x .exactly .ensures .0) in
-    rw (seq-at, period p, seq-at, cycles y, seq-at, opened h, seq-at, e) (refl, tt)
-
-returns-3 : tie.Need-returns-3
-returns-3 c =
-    let y = c .before .before .before .before .before .before in
-    let e = sym (c .before .before .before .literal .ensures) ∙ ap ofPlace (c .before .o2 .given .1) in
-    rw (seq-at, period (y .before .before .before .before .before), seq-at, cycles y, seq-at, e) (refl, tt)
-
-returns-4 : tie.Need-returns-4
-returns-4 c =
-    let p = c .before .before .before .before .before .before in
-    let e = sym (c .before .before .before .field2 .ensures) ∙ ap ofValue (c .before .o3 .given .1) in
-    rw (seq-at, period p, seq-at, e) (refl, tt)
+same-length-2 c = search needs
 
 returns-5 : tie.Need-returns-5
 returns-5 c =
-    let e = sym (c .before .before .before .field .ensures) ∙ ap ofValue (c .before .o4 .given .1) in
-    rw (seq-at, e) (refl, tt)
+    let e = c .before .before .before in
+    let x = numbers-call e in
+    let y = cycles-of (opened-of e) in
+    let p = period-of y in
+    let a = start p in
+    let g = energies e in
+    let t = mkTask (p .period .given .0 .0) (y .cycles .given .0 .0, g .item) in
+    let size = x .before .before .before-energies .ensures in
+    rw (to-energies (opened-of e), seq-at, g .is)
+    (closed (a .args .k) (p .period .given .0 .0) (y .cycles .given .0 .0) (g .item) (now (a .args .out)) _ (readAt (literal _) _ _) (c .literal2 .result) (c .literal2 .ensures)
+    (ap (stored (a .args .k) (t .period ∷ t .cycles ∷ extraWords t)) (rw (g .is) at (x .numbers .ensures .wrote))
+    ∙ in-front (t .period ∷ t .cycles ∷ extraWords t) (g .item) (now (a .args .out)) (a .args .k) _ (omega (arith, task-front t, size)) (omega (arith, size, a .pre .1))))
 
 pub task-spec : {M : Type 1} → statement M
 task-spec =
@@ -174,32 +195,32 @@ task-spec =
     (tie.spec
     slice-aggregate-field
     field-requires
-    enum-known-p
+    enum-known-period
+    enum-told
+    returns
     slice-aggregate-field-2
     field-requires-2
-    enum-known-c
+    enum-known-cycles
+    enum-told-2
+    returns-2
     slice-aggregate-literal
     literal-requires
-    enum-known-h
+    enum-known-opened
+    enum-told-3
+    returns-3
+    before-energies-requires
+    add-first
+    numbers-requires
+    enum-known-energies
+    enum-told-4
+    same-length
+    returns-4
     mul-out
     slice-write-out
     add-out
     mul-out-2
     slice-write-out-2
-    add-exactly
-    add-exactly-2
-    exactly-requires
-    enum-known-e
     slice-aggregate-literal-2
     literal-requires-2
-    enum-known-o
-    enum-known-o-2
-    enum-known-o-3
-    enum-known-o-4
-    same-length
-    returns
     same-length-2
-    returns-2
-    returns-3
-    returns-4
     returns-5)

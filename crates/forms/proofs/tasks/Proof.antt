@@ -1,122 +1,124 @@
--- The tasks: one, and then up to 31.
+-- The tasks. The invariant: the tasks so far are in place, and with those that are left, read at the place in hand, they give the whole answer.
 -- Assumes nothing.
-use Prim.Native.Nat.{ℕ, _+_}
-use mathlib.Core.Path.{refl, sym, ap, _∙_}
+use Prim.Native.Nat.{_-_, _≤_}
+use mathlib.Core.Path.{_≡_, sym, _∙_}
+use mathlib.Core.Bool.{true}
+use mathlib.Core.Logic.{⊎-elim}
 use native.Mathlib.Omega.{arith}
+use borrow.Author.Tests.{not-true, not-false}
 use denote.Ref.{now}
-use lib.ListN.{length}
-use Rattle.text.proofs.Reading.{got, readTask, moreTasks, readAt}
+use lib.ListN.{drop}
+use Rattle.layout.specs.Words.{mostTasks, tasksPlace, taskSize}
+use Rattle.layout.specs.declared.Layout.the-variants.{Ordinary}
+use Rattle.layout.proofs.Places.{before-end}
 use Rattle.text.specs.Text.{taskWords}
-use Rattle.scanner.specs.Steps.{ofPlace}
-use Rattle.forms.specs.Forms.{ofCount, unit, allWords}
-use Rattle.text.proofs.Grammar.{dom-of, more-tasks-piece}
-use Rattle.scanner.proofs.Places.{seq-at}
-use Rattle.text.proofs.Writing.{extend}
-use Rattle.forms.proofs.Lists.{Took, took, lost, must}
-use Rattle.forms.proofs.TaskLists.{task-words}
+use Rattle.text.proofs.Reading.{readTask, starts, readAt}
+use Rattle.scanner.specs.Steps.{noValue}
+use Rattle.scanner.proofs.Places.{took, lost}
+use Rattle.forms.proofs.Lists.{departs, SoFar, none-yet, one-more, refused, stopped, full}
+use Rattle.forms.proofs.Words.{task-words}
 use borrow.Author.Needs.{needs}
 use Rattle.forms.proofs.tasks.Statement.{statement}
 use Rattle.forms.proofs.tasks.Tie as tie
-use Rattle.forms.proofs.tasks.Reads as reads
-use Rattle.forms.proofs.tasks.Lts as lts
-use Rattle.forms.proofs.more_tasks.Reads as more-tasks-reads
-use Rattle.forms.proofs.task.Reads as task-reads
 
-first : (c : tie.After-i) → let x = c .before .before .before .before in let a = x .before .before .before .before .args in
-    Took unit taskWords (a .k) (now (a .out)) (x .task .last .1 .1 .0) (readAt (readTask (a .m)) (now (a .s)) (a .at)) tt (c .i .given .0 .0)
-first c =
-    let x = c .before .before .before .before in
-    took unit taskWords _ _ _ _ tt (c .i .given .0 .0) (sym (ap ofPlace (c .i .given .1)) ∙ x .task .ensures .0) (x .task .ensures .1)
+abbrev Inv-loop : tie.InvT-loop
+Inv-loop s at out₀ m i₀ n₀ out i n = SoFar (readTask m) 40 1 31 taskWords (taskSize Ordinary m) s at (tasksPlace Ordinary m) out₀ i n out
 
-others : (c : tie.After-n) → let x = c .before .before .before .before in let i = x .before .before .before in
-    let y = i .before .before .before .before in let a = y .before .before .before .before .args in
-    Took length allWords (a .k + (2 + a .m)) (y .task .last .1 .1 .0) (x .more-tasks .last .1 .1 .0)
-    (readAt (moreTasks (a .m)) (now (a .s)) (i .i .given .0 .0)) (c .n .given .0 .0) (c .n .given .0 .1 .0)
-others c =
-    let x = c .before .before .before .before in
-    took length allWords _ _ _ _ (c .n .given .0 .0) (c .n .given .0 .1 .0) (sym (ap ofCount (c .n .given .1)) ∙ x .more-tasks .ensures .0) (x .more-tasks .ensures .1)
+abbrev μ-loop : tie.MeasureT-loop
+μ-loop s at out₀ m i₀ n₀ out i n = mostTasks - n
 
-task-requires : tie.Need-task-requires
-task-requires c κs = search needs
+-- A line that need not stand here begins here.
+starting : (c : tie.Joined1 Inv-loop μ-loop) → let q = c .before .before in let a = q .before .before .before .args in
+    1 ≤ q .loop .n → starts 40 (drop (q .loop .i) (now (a .s))) ≡ true
+starting c l = ⊎-elim (λ w. sym (w .1 .ensures) ∙ not-false (w .1 .result) (w .2 .left)) (λ w. absurd (omega arith)) (c .if1 .came)
 
-enum-known-i : tie.Need-enum-known-i
-enum-known-i c = search needs
+loop-holds : tie.Need-loop-holds Inv-loop μ-loop
+loop-holds c = none-yet (readTask _) 40 1 31 taskWords (taskSize Ordinary _) _ _ _ _
 
-add-more-tasks : tie.Need-add-more-tasks
-add-more-tasks c = search needs
+opens-requires : tie.Need-opens-requires Inv-loop μ-loop
+opens-requires c κs = search needs
 
-add-more-tasks-2 : tie.Need-add-more-tasks-2
-add-more-tasks-2 c = search needs
+cast-t12 : tie.Need-cast-t12 Inv-loop μ-loop
+cast-t12 c = search needs
 
-add-more-tasks-3 : tie.Need-add-more-tasks-3
-add-more-tasks-3 c = search needs
-
-more-tasks-requires : tie.Need-more-tasks-requires
-more-tasks-requires c κs = search needs
-
-enum-known-n : tie.Need-enum-known-n
-enum-known-n c = search needs
-
-add-t22 : tie.Need-add-t22
-add-t22 c = let o = others (c .before) in omega (arith, o .shows, dom-of (more-tasks-piece _) _ _ _ (o .item) (o .is) .most)
-
-enum-known-o : tie.Need-enum-known-o
-enum-known-o c = search needs
-
-enum-known-o-2 : tie.Need-enum-known-o-2
-enum-known-o-2 c = search needs
-
-same-length : tie.Need-same-length
+same-length : tie.Need-same-length Inv-loop μ-loop
 same-length c = search needs
 
-returns : tie.Need-returns
-returns c =
-    let o = others (c .before) in
-    let i = c .before .before .before .before .before .before .before .before in
-    let f = first i in
-    let a = i .before .before .before .before .before .before .before .before in
-    rw (must, seq-at, f .is, o .is) (
-      ap (λ (z : ℕ). got z (c .before .n .given .0 .1 .0)) (omega (arith, o .shows)),
-      extend (taskWords (f .item)) (allWords (o .item)) (now (a .args .out)) _ _ (a .args .k) (a .args .k + (2 + a .args .m))
-          (ap (λ (z : ℕ). a .args .k + z) (sym (task-words _ _ _ _ (f .item) (f .is)))) (omega (arith, a .pre .0)) (f .wrote) (o .wrote),
-    )
+returns : tie.Need-returns Inv-loop μ-loop
+returns c = stopped (c .before .before .before .before .loop .inv) (omega arith) (sym (c .before .opens .ensures) ∙ not-true (c .before .opens .result) (c .if2 .taken))
 
-same-length-2 : tie.Need-same-length-2
+period-place-requires : tie.Need-period-place-requires Inv-loop μ-loop
+period-place-requires c κs = search needs
+
+task-requires : tie.Need-task-requires Inv-loop μ-loop
+task-requires c κs =
+    let q = c .before .before .before .before in
+    let a = q .before .before .before in
+    let size = taskSize Ordinary (a .args .m) in
+    omega (arith, before-end mostTasks size (q .loop .n) (size - 1) (omega arith) (omega arith), c .period-place .ensures)
+
+enum-known-r : tie.Need-enum-known-r Inv-loop μ-loop
+enum-known-r c = search needs
+
+enum-told : tie.Need-enum-told Inv-loop μ-loop
+enum-told c = search needs
+
+same-length-2 : tie.Need-same-length-2 Inv-loop μ-loop
 same-length-2 c = search needs
 
-returns-2 : tie.Need-returns-2
+returns-2 : tie.Need-returns-2 Inv-loop μ-loop
 returns-2 c =
-    let x = c .before .before .before .before .before in
-    let f = first (x .before .before .before) in
-    let e = lost length (readAt (moreTasks _) _ _) (c .before .o .given .0 .0) (sym (ap ofCount (c .before .o .given .1)) ∙ x .more-tasks .ensures .0) in
-    rw (must, seq-at, f .is, e) (refl, tt)
+    let x = c .before .before .before .before in
+    let j = x .before .before .before in
+    let q = j .before .before in
+    let e = lost noValue (readAt (readTask _) _ _) (x .task .ensures .answers) (c .enum-told .given .1) in
+    departs (refused (q .loop .inv) (omega arith) (starting j) _ e) (c .enum-told .given .1)
 
-same-length-3 : tie.Need-same-length-3
+add-n : tie.Need-add-n Inv-loop μ-loop
+add-n c = search needs
+
+loop-less : tie.Need-loop-less Inv-loop μ-loop
+loop-less c = search needs
+
+loop-again : tie.Need-loop-again Inv-loop μ-loop
+loop-again c =
+    let r = c .before in
+    let x = r .before .before .before .before in
+    let j = x .before .before .before in
+    let q = j .before .before in
+    let t = took noValue (readAt (readTask _) _ _) (x .task .ensures .answers) (r .r .given .1) in
+    one-more (q .loop .inv) (omega arith) (starting j) (t .item) _ _ (t .is) (task-words _ _ _ _ (t .item) (t .is)) (omega arith) (x .task .kept .1 .1 .0)
+    (rw (t .is, x .before .period-place .ensures) at (x .task .ensures .wrote))
+
+cast-t17 : tie.Need-cast-t17 Inv-loop μ-loop
+cast-t17 c = search needs
+
+same-length-3 : tie.Need-same-length-3 Inv-loop μ-loop
 same-length-3 c = search needs
 
-returns-3 : tie.Need-returns-3
-returns-3 c =
-    let x = c .before .before .before .before .before in
-    let e = lost unit (readAt (readTask _) _ _) (c .before .o2 .given .0 .0) (sym (ap ofPlace (c .before .o2 .given .1)) ∙ x .task .ensures .0) in
-    rw (must, seq-at, e) (refl, tt)
+returns-3 : tie.Need-returns-3 Inv-loop μ-loop
+returns-3 c = full (c .before .loop .inv) (omega arith)
 
 pub tasks-spec : {M : Type 1} → statement M
 tasks-spec =
     tie.close
     (tie.spec
-    task-requires
-    enum-known-i
-    add-more-tasks
-    add-more-tasks-2
-    add-more-tasks-3
-    more-tasks-requires
-    enum-known-n
-    add-t22
-    enum-known-o
-    enum-known-o-2
+    Inv-loop
+    μ-loop
+    loop-holds
+    opens-requires
+    cast-t12
     same-length
     returns
+    period-place-requires
+    task-requires
+    enum-known-r
+    enum-told
     same-length-2
     returns-2
+    add-n
+    loop-less
+    loop-again
+    cast-t17
     same-length-3
     returns-3)

@@ -11,8 +11,6 @@ use lib.Seq.{length-take-le, take-suc, take-length}
 use Rattle.text.proofs.Writing.{placed, placed-none, placed-one}
 use Rattle.reader.proofs.put_words.Statement.{statement}
 use Rattle.reader.proofs.put_words.Tie as tie
-use Rattle.reader.proofs.put_words.Reads as reads
-use Rattle.reader.proofs.put_words.Lts as lts
 
 abbrev Inv-loop : tie.InvT-loop
 Inv-loop out₀ l i₀ out i = (i ≤ length l) × (length out ≡ length out₀) × (out ≡ placed (take i l) out₀)

@@ -7,14 +7,12 @@ use borrow.Author.Needs.{needs}
 use denote.Ref.{now}
 use lib.ListN.{length}
 use Rattle.text.proofs.Reading.{more, readAt}
-use Rattle.scanner.proofs.Classes.{DigitAt, digit-at, no-digit-at}
-use Rattle.scanner.proofs.Arms.{not-digit}
+use Rattle.scanner.specs.Steps.{Stands}
+use Rattle.scanner.specs.declared.Class.the-variants.{Digit}
+use Rattle.scanner.proofs.Classes.{no-digit, not-digit}
 use Rattle.scanner.proofs.Places as laws
 use Rattle.scanner.proofs.more.Statement.{statement}
 use Rattle.scanner.proofs.more.Tie as tie
-use Rattle.scanner.proofs.more.Reads as reads
-use Rattle.scanner.proofs.more.Lts as lts
-use Rattle.scanner.proofs.step.Reads as step-reads
 
 abbrev Inv-loop : tie.InvT-loop
 Inv-loop s at first v₀ i₀ v i = (v < 2 ^ 32) × (readAt (more first) s at ≡ readAt (more v) s i)
@@ -26,8 +24,8 @@ loop-holds : tie.Need-loop-holds Inv-loop μ-loop
 loop-holds c = (omega arith, refl)
 
 -- The digit that was read.
-read : (c : tie.After-d Inv-loop μ-loop) → DigitAt (now (c .before .before .before .before .before .args .s)) (c .before .before .before .loop .i) (c .d .given .0 .0)
-read c = digit-at _ _ _ _ (c .before .before .step .ensures) (c .d .given .1)
+read : (c : tie.After-d Inv-loop μ-loop) → Stands (Digit (c .d .given .0 .0)) (now (c .before .before .before .before .before .args .s)) (c .before .before .before .loop .i)
+read c = rw (c .d .given .1) at (c .before .before .step .ensures)
 
 step-requires : tie.Need-step-requires Inv-loop μ-loop
 step-requires c κs = search needs
@@ -38,7 +36,7 @@ enum-known-d c = c .match .keys1
 returns : tie.Need-returns Inv-loop μ-loop
 returns c =
     let q = c .before .before in
-    let none = no-digit-at _ _ _ (c .before .step .ensures) (not-digit (c .before .step .result) (c .match .keys2)) in
+    let none = no-digit _ _ (not-digit _ _ (c .before .step .result) (c .before .step .ensures) (c .match .keys2)) in
     sym (q .loop .inv .1 ∙ laws.more-ends (now (q .before .before .args .s)) (q .loop .i) none (q .loop .v))
 
 cast-w : tie.Need-cast-w Inv-loop μ-loop

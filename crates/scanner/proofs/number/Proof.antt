@@ -3,20 +3,17 @@
 use mathlib.Core.Path.{sym, _∙_}
 use native.Mathlib.Omega.{arith}
 use denote.Ref.{now}
-use Rattle.scanner.proofs.Classes.{DigitAt, digit-at, no-digit-at}
-use Rattle.scanner.proofs.Arms.{not-digit}
+use Rattle.scanner.specs.Steps.{Stands}
+use Rattle.scanner.specs.declared.Class.the-variants.{Digit}
+use Rattle.scanner.proofs.Classes.{no-digit, not-digit}
 use Rattle.scanner.proofs.Places as laws
 use borrow.Author.Needs.{needs}
 use Rattle.scanner.proofs.number.Statement.{statement}
 use Rattle.scanner.proofs.number.Tie as tie
-use Rattle.scanner.proofs.number.Reads as reads
-use Rattle.scanner.proofs.number.Lts as lts
-use Rattle.scanner.proofs.more.Reads as more-reads
-use Rattle.scanner.proofs.step.Reads as step-reads
 
 -- The digit that was read.
-read : (c : tie.After-d) → DigitAt (now (c .before .before .before .before .args .s)) (c .before .before .before .before .args .at) (c .d .given .0 .0)
-read c = digit-at _ _ _ _ (c .before .before .step .ensures) (c .d .given .1)
+read : (c : tie.After-d) → Stands (Digit (c .d .given .0 .0)) (now (c .before .before .before .before .args .s)) (c .before .before .before .before .args .at)
+read c = rw (c .d .given .1) at (c .before .before .step .ensures)
 
 step-requires : tie.Need-step-requires
 step-requires c κs = search needs
@@ -25,7 +22,7 @@ enum-known-d : tie.Need-enum-known-d
 enum-known-d c = search needs
 
 returns : tie.Need-returns
-returns c = sym (laws.number-none _ _ (no-digit-at _ _ _ (c .before .step .ensures) (not-digit (c .before .step .result) (c .match .keys2))))
+returns c = sym (laws.number-none _ _ (no-digit _ _ (not-digit _ _ (c .before .step .result) (c .before .step .ensures) (c .match .keys2))))
 
 add-t6 : tie.Need-add-t6
 add-t6 c = omega (arith, read (c .before .before))
