@@ -1,16 +1,17 @@
 -- From the functions below it to the call: what the reader, the planner and the walk give is what is printed.
 -- Assumes nothing.
-use Prim.Native.Nat.{ℕ, _+_, _*_, _≤_, _<_}
+use Prim.Native.Nat.{ℕ, _+_, _≤_, _<_}
 use mathlib.Core.Path.{_≡_, refl, sym, ap, _∙_, subst}
-use mathlib.Core.List.{List, [], _∷_, _++_}
-use mathlib.Core.Logic.{inl, ⊎-elim}
+use mathlib.Core.List.{List, [], _++_}
 use native.Mathlib.Omega.{arith}
 use lib.ListN.{length, take, drop}
 use lib.Seq.{take-at}
 use Rattle.selection.specs.Plan.{Fitting}
-use Rattle.taskset.specs.Words.{listHead, taskCount}
-use Rattle.taskset.specs.Quantities.{problem}
-use Rattle.taskset.specs.Refusals.{number, second, NoneOk, check, Accepts, Refuses, readyChecks, plannerChecks, walkChecks}
+use Rattle.layout.specs.Words.{taskCount}
+use Rattle.layout.specs.declared.Layout.the-variants.{Ordinary}
+use Rattle.taskset.specs.Quantities.{problem, workNeeded}
+use Rattle.taskset.specs.Refusals.{number, second, Accepts, Refuses, _▹_, wordChecks, hyperCheck, workCheck, roomCheck, noneCheck, planCheck, readyChecks, plannerChecks, walkChecks}
+use Rattle.taskset.specs.Calls.{SetAfter}
 use Rattle.taskset.specs.declared.Refusal.{Refusal}
 use Rattle.taskset.specs.declared.Refusal.the-variants.{TooShort}
 use Rattle.taskset.specs.declared.Checked.the-variants.{Good, Refused as NotGood}
@@ -18,27 +19,27 @@ use Rattle.taskset.specs.declared.CopyAnswer.{CopyAnswer}
 use Rattle.taskset.specs.declared.CopyAnswer.the-variants.{Wrote, Refused as NotCopied}
 use Rattle.taskset.specs.declared.PlannerAnswer.the-variants.{Planned, Refused as NotPlanned}
 use Rattle.taskset.specs.declared.WalkAnswer.the-variants.{Kept, Missed, Refused as NotWalked}
-use Rattle.taskset.proofs.Checks.{refuses-front, not-both}
+use Rattle.taskset.proofs.Checks.{accepts-but-last, accepts-next, refuses-next, refuses-before, passed, not-both}
 use Rattle.taskset.proofs.DemandThree.{outcome-kept, sound-plan}
 use Rattle.taskset.proofs.Copied.{copied, count-is, front-is}
-use Rattle.text.specs.Text.{Script, IsTextOf, WellFormed, FirstBad, words}
+use Rattle.text.specs.Text.{Script, words}
 use Rattle.text.specs.Calls.{ReaderGives}
 use Rattle.text.proofs.Sizes.{words-length}
 use Rattle.text.proofs.Writing.{placed, length-placed}
 use Rattle.printer.specs.Puts.{Put}
 use Rattle.lines.specs.Lines.{planLine, rateLines, walkLine, refusedLine}
+use Rattle.lines.proofs.Lengths.{plan-short}
 use Rattle.planner.specs.Answers.{PlannerCall}
-use Rattle.planner.specs.Ready.{ReadyAnswers}
 use Rattle.walk.specs.Answers.{Walked}
-use Rattle.answer.specs.Answer.{workLent, planLent, Prints, departs, refused, planned, RespondGives, Responds}
+use Rattle.answer.specs.Answer.{workLent, planLent, setLent, Read, Prints, unread, refused, planned, RespondGives, Responds}
 use Rattle.answer.specs.Steps as steps
 use Rattle.answer.specs.Steps.{PlanGiven, PrintsSet, PutSet, PutAnswer}
 use Rattle.answer.proofs.Outputs.{is-plan, plan-length, promise, seven-iff, output-short}
 
 -- ---- a plan and its walk
 module _ (s P : List ℕ) (unit load hyper energy : ℕ) (given : PlanGiven s P unit load hyper energy) where
-  pub plan-room : 210 + 49 * length P ≤ 2048
-  plan-room = omega (arith, plan-length s (given .accepts) P unit load hyper energy (given .selected))
+  pub plan-room : (b i p : ℕ) → length (planLine unit load hyper energy ++ (rateLines 1 P ++ walkLine b i p)) ≤ 2048
+  plan-room b i p = plan-short unit load hyper energy P b i p (plan-length s (given .accepts) P unit load hyper energy (given .selected))
 
   pub plan-kept : (b i p : ℕ) (d d′ : List ℕ) (n : ℕ) → Walked s P (Kept b i p)
       → Put (planLine unit load hyper energy ++ (rateLines 1 P ++ walkLine b i p)) d d′ n → PutSet s d d′ n
@@ -55,8 +56,11 @@ module _ (s P : List ℕ) (unit load hyper energy : ℕ) (given : PlanGiven s P 
 
   accepted : Accepts (walkChecks s P)
   accepted =
-      let a = given .accepts in
-      (a .0, (a .1 .0, (a .1 .1 .0, (sound-plan s P (is-plan s a P unit load hyper energy (given .selected)), tt))))
+      let checks = plannerChecks s planLent workLent in
+      let words = wordChecks Ordinary s in
+      accepts-next (words ▹ hyperCheck Ordinary s) (planCheck Ordinary s P)
+      (accepts-next words (hyperCheck Ordinary s) (passed 2 checks refl (given .accepts), (passed 3 checks refl (given .accepts), tt)) (passed 4 checks refl (given .accepts)))
+      (sound-plan s P (is-plan s (given .accepts) P unit load hyper energy (given .selected)))
 
   pub not-refused : (r : Refusal) → Walked s P (NotWalked r) → ⊥
   not-refused r w = not-both (walkChecks s P) (number r) (second r) accepted (w .answers)
@@ -66,14 +70,21 @@ pub set-refused : (s d d′ : List ℕ) (n : ℕ) (r : Refusal) → Refuses (pla
     → Put (refusedLine (number r) (second r)) d d′ n → PutSet s d d′ n
 set-refused s d d′ n r h put = (refusedLine (number r) (second r), steps.refused (number r) (second r) h refl, put)
 
-pub ready-refused : (s : List ℕ) (r : Refusal) → ReadyAnswers s planLent workLent (NotGood r) → Refuses (plannerChecks s planLent workLent) (number r) (second r)
-ready-refused s r h = refuses-front (readyChecks s planLent workLent) (check 7 (NoneOk (Fitting (problem s))) ∷ []) (number r) (second r) h
+pub ready-refused : (s : List ℕ) (r : Refusal) → SetAfter (readyChecks s planLent workLent) Ordinary s (NotGood r)
+    → Refuses (plannerChecks s planLent workLent) (number r) (second r)
+ready-refused s r h = refuses-before (readyChecks s planLent workLent) (noneCheck (Fitting (problem s))) (number r) (second r) h
 
 -- What passes checks 2 to 6 with some words passes them with more.
-pub more-room : (s : List ℕ) (p w p′ w′ m n l : ℕ) → p ≤ p′ → w ≤ w′ → ReadyAnswers s p w (Good m n l) → ReadyAnswers s p′ w′ (Good m n l)
+pub more-room : (s : List ℕ) (p w p′ w′ m n l : ℕ) → p ≤ p′ → w ≤ w′
+    → SetAfter (readyChecks s p w) Ordinary s (Good m n l) → SetAfter (readyChecks s p′ w′) Ordinary s (Good m n l)
 more-room s p w p′ w′ m n l a b h =
-    let set = h .0 in (
-      (set .0, (set .1 .0, (set .1 .1 .0, ((λ k x. set .1 .1 .1 .0 k (omega (arith, x .0), x .1)), ((λ k x. set .1 .1 .1 .1 .0 k (omega (arith, x .0), x .1)), tt))))),
+    let set = wordChecks Ordinary s ▹ hyperCheck Ordinary s in
+    let five = workCheck (workNeeded s) w in
+    let six = roomCheck (taskCount Ordinary s) p in (
+      accepts-next (set ▹ workCheck (workNeeded s) w′) (roomCheck (taskCount Ordinary s) p′)
+          (accepts-next set (workCheck (workNeeded s) w′) (accepts-but-last set five (accepts-but-last (set ▹ five) six (h .0)))
+          (λ k x. passed 5 (readyChecks s p w) refl (h .0) k (omega (arith, x .0), x .1)))
+          (λ k x. passed 6 (readyChecks s p w) refl (h .0) k (omega (arith, x .0), x .1)),
       h .1,
       h .2,
       h .3,
@@ -84,46 +95,33 @@ module _ (s plan work plan′ work′ : List ℕ) (lp : length plan ≡ planLent
   pub call-refused : (r : Refusal) → PlannerCall s plan work plan′ work′ (NotPlanned r) → Refuses (plannerChecks s planLent workLent) (number r) (second r)
   call-refused r c = rw (lp, lw) at (c .gives .0)
 
-  pub call-planned : (n u l h e : ℕ) → n ≡ taskCount listHead s → PlannerCall s plan work plan′ work′ (Planned u l h e) → PlanGiven s (take n plan′) u l h e
+  pub call-planned : (n u l h e : ℕ) → n ≡ taskCount Ordinary s → PlannerCall s plan work plan′ work′ (Planned u l h e) → PlanGiven s (take n plan′) u l h e
   call-planned n u l h e count c =
       let g = c .gives .1 in
       let is : take n plan′ ≡ g .0 = ap (λ (k : ℕ). take k plan′) count ∙ g .2 .front in
       record { accepts = rw (lp, lw) at (c .gives .0); selected = rw is (g .1) }
 
 -- ---- a text
-module _ (t set set′ : List ℕ) (lent : length set ≡ 331) where
+module _ (t set set′ : List ℕ) (lent : length set ≡ setLent) where
   -- A script's words are few enough for the list.
-  fits : (s : Script) → IsTextOf s t → length (words s) ≤ 331
-  fits s h = words-length s (h .script)
-
-  pub read-fits : (n : ℕ) → ReaderGives t set set′ (Wrote n) → n ≤ 331
-  read-fits n g = omega (arith, count-is (words (g .1 .0)) set set′ n (g .1 .2), fits (g .1 .0) (g .1 .1))
+  pub read-fits : (n : ℕ) → ReaderGives t set set′ (Wrote n) → n ≤ setLent
+  read-fits n g = omega (arith, count-is (words (g .1 .0)) set set′ n (g .1 .2), words-length (g .1 .0) (g .1 .1 .script))
 
   pub read-set : (n : ℕ) (d d′ : List ℕ) (k : ℕ) → ReaderGives t set set′ (Wrote n) → PutSet (take n set′) d d′ k → PutAnswer t d d′ k
   read-set n d d′ k g p =
       let s = g .1 .0 in
       let is : take n set′ ≡ words s = front-is (words s) set set′ n (g .1 .2) in
-      (p .0, go s (g .1 .1) (p .0) (subst (λ (w : List ℕ). PrintsSet w (p .0)) is (p .1)), p .2)
+      (p .0, go s (record { accepts = rw lent at (g .0); text = g .1 .1 }) (p .0) (subst (λ (w : List ℕ). PrintsSet w (p .0)) is (p .1)), p .2)
     where
-      go : (s : Script) → IsTextOf s t → (out : List ℕ) → PrintsSet (words s) out → Prints t out
+      go : (s : Script) → Read s t → (out : List ℕ) → PrintsSet (words s) out → Prints t out
       go s h out (steps.refused n k r e) = refused s n k h r e
       go s h out (steps.planned P u l hh e b i p x) = planned s P u l hh e b i p h x
 
-  -- The reader's refusal is 1: its list is long enough for every script.
+  -- The reader's refusal, whichever it is.
   pub text-refused : (r : Refusal) (d d′ : List ℕ) (k : ℕ) → ReaderGives t set set′ (NotCopied r)
       → Put (refusedLine (number r) (second r)) d d′ k → PutAnswer t d d′ k
-  text-refused r d d′ k g put = (
-    refusedLine (number r) (second r),
-    ⊎-elim
-        (λ (x : (number r ≡ 1) × FirstBad WellFormed t (second r)). departs (second r) (x .1) (ap (λ (n : ℕ). refusedLine n (second r)) (x .0)))
-        (λ x.
-        ⊎-elim
-        (λ y. absurd (omega (arith, y .1 .2 .0, fits (y .1 .0) (y .1 .1))))
-        (λ y. absurd (y .1))
-        (x .1))
-        (g .0),
-    put,
-  )
+  text-refused r d d′ k g put =
+      (refusedLine (number r) (second r), unread (number r) (second r) (rw lent at (g .0)) refl, put)
 
 -- ---- the call
 module _ (t d : List ℕ) where
@@ -149,7 +147,7 @@ module _ (t d : List ℕ) where
     pub too-short : length d < n → Responds t d d (NotCopied (TooShort n))
     too-short h =
         let e = answer .2 .size in
-        responds d (NotCopied (TooShort n)) (answer .0, answer .1, inl (refl, (omega (arith, e), e)), refl)
+        responds d (NotCopied (TooShort n)) (answer .0, answer .1, refuses-next [] (roomCheck (length (answer .0)) (length d)) n tt (omega (arith, e), e), refl)
 
     pub wrote : (d′ : List ℕ) (k : ℕ) → n ≤ length d → Put (take n text′) d d′ k → Responds t d d′ (Wrote k)
     unfolding placed
@@ -159,6 +157,6 @@ module _ (t d : List ℕ) where
         responds d′ (Wrote k) (
           answer .0,
           answer .1,
-          ((λ j x. omega (arith, e, x .0)), tt),
+          accepts-next [] (roomCheck (length (answer .0)) (length d)) tt (λ j x. omega (arith, e, x .0)),
           copied (answer .0) d d′ k size (put .is ∙ ap (λ (l : List ℕ). l ++ drop (length l) d) answer-is),
         )

@@ -3,73 +3,67 @@
 use Prim.Native.Nat.{ℕ, suc, _+_, _≤_, _<_}
 use mathlib.Core.Path.{_≡_, refl, sym, ap, _∙_, subst}
 use mathlib.Core.List.{List, [], _∷_, _++_}
-use mathlib.Core.Logic.{_↔_, _⊎_, ⊎-elim}
+use mathlib.Core.Logic.{_↔_, inl, ⊎-elim}
 use native.Mathlib.Omega.{arith}
 use lib.ListN.{length, take, length-append}
 use lib.Seq.{take-take, length-take-le, take-all}
 use Rattle.numbers.proofs.Tests.{lt-or-le}
 use Rattle.schedule.specs.Counted.{IsKept, kept, walk}
-use Rattle.selection.specs.Plan.{IsPlan}
-use Rattle.taskset.specs.Words.{listHead, listExtra, taskCount}
-use Rattle.taskset.specs.Quantities.{hyperPeriod, problem, tasks}
-use Rattle.taskset.specs.Refusals.{number, second, Accepts, Refuses, setChecks, lengthChecks, readyChecks, plannerChecks}
+use Rattle.selection.specs.Plan.{Fitting, IsPlan}
+use Rattle.layout.specs.Words.{mostTasks, taskCount}
+use Rattle.taskset.specs.Quantities.{hyperPeriod, problem, walkTasks}
+use Rattle.taskset.specs.Refusals.{number, second, Accepts, Refuses, roomCheck, noneCheck, readyChecks, plannerChecks}
 use Rattle.taskset.specs.Calls.{Selected, Copied}
 use Rattle.taskset.specs.DemandThree.{PlanPromise, NoneKeeps}
 use Rattle.taskset.specs.declared.CopyAnswer.{CopyAnswer}
 use Rattle.taskset.specs.declared.CopyAnswer.the-variants.{Wrote, Refused as NotCopied}
-use Rattle.taskset.proofs.Checks.{Without, refuses-unique, not-both}
-use Rattle.taskset.proofs.Whole.{whole-of}
-use Rattle.taskset.proofs.Checks.{no-word-fault}
-use Rattle.taskset.proofs.Unique.{planner-single, selected-unique, short-single, refusal-unique}
-use Rattle.taskset.proofs.DemandThree.{plan-given, walk-decides, refused-7-iff}
+use Rattle.taskset.proofs.Checks.{accepts-but-last, accepts-next, refuses-unique, passed, not-both}
+use Rattle.taskset.proofs.Sets.{IsSet}
+use Rattle.layout.specs.declared.Layout.the-variants.{Ordinary}
+use Rattle.taskset.proofs.Unique.{planner-single, selected-unique, short-single, single-next, refusal-unique}
+use Rattle.taskset.proofs.DemandThree.{plan-given, walk-decides, refused-7-iff, ready-set, ready-not-7}
 use Rattle.taskset.proofs.Copied.{SameCopied, count-is, copied-one}
 use Rattle.text.specs.Text.{Script, WellFormed, FirstBad, words}
 use Rattle.text.proofs.Sizes.{text-length}
-use Rattle.text.proofs.Pieces.{first-bad-one, no-first-bad}
-use Rattle.text.proofs.Copies.{one-script}
-use Rattle.lines.specs.Lines.{planLine, rateLines, walkLine, refusedLine}
-use Rattle.lines.proofs.Lengths.{plan-short, rates-short, walk-short, refused-short}
-use Rattle.answer.specs.Answer.{workLent, planLent, PrintsPlan, Prints, departs, refused, planned, roomCheck, RespondGives, Responds}
+use Rattle.text.specs.Calls.{readerChecks}
+use Rattle.text.proofs.Copies.{one-script, reader-single}
+use Rattle.lines.proofs.Lengths.{plan-short, refused-short}
+use Rattle.answer.specs.Answer.{workLent, planLent, setLent, PrintsPlan, Prints, unread, refused, planned, outputChecks, RespondGives, Responds}
 
 -- ---- of a set that the planner takes
 module _ (s : List ℕ) (accepts : Accepts (plannerChecks s planLent workLent)) where
-  pub passes : Accepts (setChecks listHead listExtra s)
-  passes = (accepts .0, (accepts .1 .0, (accepts .1 .1 .0, tt)))
+  pub is-set : IsSet Ordinary s
+  is-set = ready-set s planLent workLent (accepts-but-last (readyChecks s planLent workLent) (noneCheck (Fitting (problem s))) accepts)
 
-  pub tasks-few : taskCount listHead s ≤ 32
-  tasks-few = whole-of listHead listExtra s (no-word-fault listHead listExtra s (accepts .0)) .tasks-range .1
+  pub tasks-few : taskCount Ordinary s ≤ mostTasks
+  tasks-few = is-set .whole .tasks-range .1
 
   module _ (P : List ℕ) (unit load hyper energy : ℕ) (selected : Selected s P (unit ∷ load ∷ hyper ∷ energy ∷ [])) where
     pub is-plan : IsPlan (problem s) P
     is-plan = selected .planned .chosen .ok .plan
 
-    pub plan-length : length P ≤ 32
+    pub plan-length : length P ≤ mostTasks
     plan-length = omega (arith, is-plan .size, tasks-few)
 
     -- Demand 3.
     pub promise : PlanPromise s P energy
-    promise = plan-given s passes P unit load hyper energy selected
+    promise = plan-given s is-set P unit load hyper energy selected
 
     -- After a plan the walk is kept: there is no other line.
-    pub walk-kept : IsKept (walk (tasks s P) (hyperPeriod listHead listExtra s))
-    walk-kept = walk-decides s passes P .1 (promise .keeps .for-ever)
-
-not-7 : (s : List ℕ) → Without 7 (lengthChecks s planLent workLent)
-not-7 s = ((λ e. omega arith), ((λ e. omega arith), tt))
+    pub walk-kept : IsKept (walk (walkTasks Ordinary s P) (hyperPeriod Ordinary s))
+    walk-kept = walk-decides s is-set P .1 (promise .keeps .for-ever)
 
 pub seven-iff : (s : List ℕ) → Refuses (plannerChecks s planLent workLent) 7 0 ↔ (Accepts (readyChecks s planLent workLent) × NoneKeeps s)
-seven-iff s = refused-7-iff s (lengthChecks s planLent workLent) (not-7 s)
+seven-iff s = refused-7-iff s (readyChecks s planLent workLent) (ready-set s planLent workLent) (ready-not-7 s planLent workLent)
 
 -- ---- how long
 plan-lines : (s P out : List ℕ) (u l h e b i p : ℕ) → PrintsPlan s P out u l h e b i p → length out ≤ 2048
 plan-lines s P out u l h e b i p x =
-    let size = ap length (x .lines) ∙ length-append (planLine u l h e) (rateLines 1 P ++ walkLine b i p) in
-    let few = plan-length s (x .accepts) P u l h e (x .selected) in
-    omega (arith, size, length-append (rateLines 1 P) (walkLine b i p), plan-short u l h e, rates-short 1 P, walk-short b i p, few)
+    omega (arith, ap length (x .lines), plan-short u l h e P b i p (plan-length s (x .accepts) P u l h e (x .selected)))
 
 -- The most bytes that can be needed.
 pub output-short : (t out : List ℕ) → Prints t out → length out ≤ 2048
-output-short t out (departs o f e) = omega (arith, ap length e, refused-short 1 o)
+output-short t out (unread n k r e) = omega (arith, ap length e, refused-short n k)
 output-short t out (refused s n k h r e) = omega (arith, ap length e, refused-short n k)
 output-short t out (planned s P u l h e b i p x y) = plan-lines (words s) P out u l h e b i p y
 
@@ -83,29 +77,33 @@ plans-same s P Q o₁ o₂ u l h e b i p v m k f c j q x y =
     let same = selected-unique s P Q _ _ (x .selected) (y .selected) in
     let values = same .1 in
     let plan = same .0 in
-    let one : walk (tasks s P) (hyperPeriod listHead listExtra s) ≡ walk (tasks s Q) (hyperPeriod listHead listExtra s) =
-    ap (λ (R : List ℕ). walk (tasks s R) (hyperPeriod listHead listExtra s)) plan in
+    let one : walk (walkTasks Ordinary s P) (hyperPeriod Ordinary s) ≡ walk (walkTasks Ordinary s Q) (hyperPeriod Ordinary s) =
+    ap (λ (R : List ℕ). walk (walkTasks Ordinary s R) (hyperPeriod Ordinary s)) plan in
     let counts = kept-same b i p c j q (sym (x .walked) ∙ one ∙ y .walked) in
     x .lines ∙ cc (values, plan, counts .0, counts .1, counts .2) ∙ sym (y .lines)
 
 -- Two outputs for one input are equal.
 pub one-output : (t o₁ o₂ : List ℕ) → Prints t o₁ → Prints t o₂ → o₁ ≡ o₂
-one-output t o₁ o₂ (departs o f x) (departs q g y) = x ∙ ap (refusedLine 1) (first-bad-one WellFormed t o q f g) ∙ sym y
-one-output t o₁ o₂ (departs o f x) (refused s n k h r y) = absurd (no-first-bad WellFormed t o (s, h) f)
-one-output t o₁ o₂ (departs o f x) (planned s P u l h e b i p is y) = absurd (no-first-bad WellFormed t o (s, is) f)
-one-output t o₁ o₂ (refused s n k h r x) (departs o f y) = absurd (no-first-bad WellFormed t o (s, h) f)
+one-output t o₁ o₂ (unread n k r x) (unread n′ k′ r′ y) =
+    let e = refuses-unique (readerChecks t setLent) (reader-single t setLent) n k n′ k′ r r′ in
+    x ∙ cc (e .0, e .1) ∙ sym y
+one-output t o₁ o₂ (unread n k r x) (refused s n′ k′ h r′ y) = absurd (not-both (readerChecks t setLent) n k (h .accepts) r)
+one-output t o₁ o₂ (unread n k r x) (planned s P u l h e b i p is y) = absurd (not-both (readerChecks t setLent) n k (is .accepts) r)
+one-output t o₁ o₂ (refused s n k h r x) (unread n′ k′ r′ y) = absurd (not-both (readerChecks t setLent) n′ k′ (h .accepts) r′)
 one-output t o₁ o₂ (refused s n k h r x) (refused s′ n′ k′ h′ r′ y) =
-    let r″ = subst (λ (z : Script). Refuses (plannerChecks (words z) planLent workLent) n′ k′) (one-script s′ s t h′ h) r′ in
+    let r″ = subst (λ (z : Script). Refuses (plannerChecks (words z) planLent workLent) n′ k′) (one-script s′ s t (h′ .text) (h .text)) r′ in
     let e = refuses-unique (plannerChecks (words s) planLent workLent) (planner-single (words s) planLent workLent) n k n′ k′ r r″ in
     x ∙ cc (e .0, e .1) ∙ sym y
 one-output t o₁ o₂ (refused s n k h r x) (planned s′ P u l hh e b i p is y) =
-    absurd (not-both (plannerChecks (words s) planLent workLent) n k (subst (λ (z : Script). Accepts (plannerChecks (words z) planLent workLent)) (one-script s′ s t is h) (y .accepts)) r)
-one-output t o₁ o₂ (planned s P u l h e b i p is x) (departs o f y) = absurd (no-first-bad WellFormed t o (s, is) f)
+    absurd (not-both (plannerChecks (words s) planLent workLent) n k
+    (subst (λ (z : Script). Accepts (plannerChecks (words z) planLent workLent)) (one-script s′ s t (is .text) (h .text)) (y .accepts)) r)
+one-output t o₁ o₂ (planned s P u l h e b i p is x) (unread n k r y) = absurd (not-both (readerChecks t setLent) n k (is .accepts) r)
 one-output t o₁ o₂ (planned s P u l hh e b i p is x) (refused s′ n k h r y) =
-    absurd (not-both (plannerChecks (words s′) planLent workLent) n k (subst (λ (z : Script). Accepts (plannerChecks (words z) planLent workLent)) (one-script s s′ t is h) (x .accepts)) r)
+    absurd (not-both (plannerChecks (words s′) planLent workLent) n k
+    (subst (λ (z : Script). Accepts (plannerChecks (words z) planLent workLent)) (one-script s s′ t (is .text) (h .text)) (x .accepts)) r)
 one-output t o₁ o₂ (planned s P u l h e b i p is x) (planned s′ Q v m k f c j q is′ y) =
     plans-same (words s) P Q o₁ o₂ u l h e b i p v m k f c j q x
-    (subst (λ (z : Script). PrintsPlan (words z) Q o₂ v m k f c j q) (one-script s′ s t is′ is) y)
+    (subst (λ (z : Script). PrintsPlan (words z) Q o₂ v m k f c j q) (one-script s′ s t (is′ .text) (is .text)) y)
 
 -- ---- an input over 8,192 bytes
 -- A first bad offset lies below 5,000.
@@ -148,6 +146,13 @@ module _ (t : List ℕ) (long : 8192 < length t) where
   cut-bad : WellFormed (take 8192 t) → ⊥
   cut-bad w = omega (arith, text-length (w .0) (take 8192 t) (w .1), cut)
 
+  -- Neither is read, and where the one departs from the form the other does too.
+  same-refusal : (n k : ℕ) → Refuses (readerChecks (take 8192 t) setLent) n k ↔ Refuses (readerChecks t setLent) n k
+  same-refusal n k = (
+    λ r. ⊎-elim (λ x. inl (x .0, bad-whole k (x .1))) (λ x. ⊎-elim (λ y. absurd (cut-bad (y .1 .0, y .1 .1))) (λ y. absurd (y .1)) (x .1)) r,
+    λ r. ⊎-elim (λ x. inl (x .0, bad-cut k (x .1))) (λ x. ⊎-elim (λ y. absurd (long-bad t long (y .1 .0, y .1 .1))) (λ y. absurd (y .1)) (x .1)) r,
+  )
+
   long-same : (out : List ℕ) → Prints (take 8192 t) out ↔ Prints t out
   long-same out = (
     there,
@@ -155,14 +160,14 @@ module _ (t : List ℕ) (long : 8192 < length t) where
   )
     where
       there : Prints (take 8192 t) out → Prints t out
-      there (departs o f e) = departs o (bad-whole o f) e
-      there (refused s n k h r e) = absurd (cut-bad (s, h))
-      there (planned s P u l h e b i p is x) = absurd (cut-bad (s, is))
+      there (unread n k r e) = unread n k (same-refusal n k .0 r) e
+      there (refused s n k h r e) = absurd (cut-bad (s, h .text))
+      there (planned s P u l h e b i p is x) = absurd (cut-bad (s, is .text))
 
       back : Prints t out → Prints (take 8192 t) out
-      back (departs o f e) = departs o (bad-cut o f) e
-      back (refused s n k h r e) = absurd (long-bad t long (s, h))
-      back (planned s P u l h e b i p is x) = absurd (long-bad t long (s, is))
+      back (unread n k r e) = unread n k (same-refusal n k .1 r) e
+      back (refused s n k h r e) = absurd (long-bad t long (s, h .text))
+      back (planned s P u l h e b i p is x) = absurd (long-bad t long (s, is .text))
 
 -- "reads at most 8,192 bytes": the answer to the first 8,192 bytes of an input is the answer to all of it.
 pub first-8192 : (t out : List ℕ) → Prints (take 8192 t) out ↔ Prints t out
@@ -183,29 +188,28 @@ respond-unique t d d₁ d₂ a b x y = go a b (x .gives) (y .gives)
         copied-one (y .0) d d₁ d₂ (Wrote n) (Wrote k) (subst (λ (o : List ℕ). Copied o d d₁ (Wrote n)) same (x .3)) (y .3)
     go (Wrote n) (NotCopied r) x y =
         let same = one-output t (x .0) (y .0) (x .1) (y .1) in
-        absurd (not-both (roomCheck (length (y .0)) (length d)) (number r) (second r) (subst (λ (o : List ℕ). Accepts (roomCheck (length o) (length d))) same (x .2)) (y .2))
+        absurd (not-both (outputChecks (length (y .0)) (length d)) (number r) (second r) (subst (λ (o : List ℕ). Accepts (outputChecks (length o) (length d))) same (x .2)) (y .2))
     go (NotCopied r) (Wrote n) x y =
         let same = one-output t (y .0) (x .0) (y .1) (x .1) in
-        absurd (not-both (roomCheck (length (x .0)) (length d)) (number r) (second r) (subst (λ (o : List ℕ). Accepts (roomCheck (length o) (length d))) same (y .2)) (x .2))
+        absurd (not-both (outputChecks (length (x .0)) (length d)) (number r) (second r) (subst (λ (o : List ℕ). Accepts (outputChecks (length o) (length d))) same (y .2)) (x .2))
     go (NotCopied q) (NotCopied r) x y =
         let same = one-output t (y .0) (x .0) (y .1) (x .1) in
-        let z = subst (λ (o : List ℕ). Refuses (roomCheck (length o) (length d)) (number r) (second r)) same (y .2) in
+        let z = subst (λ (o : List ℕ). Refuses (outputChecks (length o) (length d)) (number r) (second r)) same (y .2) in
         record {
-          answer = ap NotCopied (refusal-unique (roomCheck (length (x .0)) (length d)) (short-single (length (x .0)) (length d), tt) q r (x .2) z);
+          answer = ap NotCopied (refusal-unique (outputChecks (length (x .0)) (length d)) (single-next [] (roomCheck (length (x .0)) (length d)) tt (short-single (length (x .0)) (length d))) q r (x .2) z);
           list = x .3 ∙ sym (y .3);
         }
 
 -- In a buffer of 2,048 bytes the answer has room: the program never runs short.
 pub never-short : (t d d′ : List ℕ) (r : _) → 2048 ≤ length d → Responds t d d′ (NotCopied r) → ⊥
 never-short t d d′ r room x =
-    ⊎-elim
-    (λ y. omega (arith, y .1 .0, output-short t (x .gives .0) (x .gives .1)))
-    (λ y. absurd (y .1))
+    not-both (outputChecks (length (x .gives .0)) (length d)) (number r) (second r)
+    (accepts-next [] (roomCheck (length (x .gives .0)) (length d)) tt (λ k h. omega (arith, h .0, output-short t (x .gives .0) (x .gives .1))))
     (x .gives .2)
 
 pub wrote-within : (t d d′ : List ℕ) (n : ℕ) → Responds t d d′ (Wrote n) → n ≤ length d
 wrote-within t d d′ n x =
     ⊎-elim
-    (λ (l : length d < length (x .gives .0)). absurd (x .gives .2 .0 (length (x .gives .0)) (l, refl)))
+    (λ (l : length d < length (x .gives .0)). absurd (passed 6 (outputChecks (length (x .gives .0)) (length d)) refl (x .gives .2) (length (x .gives .0)) (l, refl)))
     (λ (l : length (x .gives .0) ≤ length d). omega (arith, count-is (x .gives .0) d d′ n (x .gives .3)))
     (lt-or-le (length d) (length (x .gives .0)))

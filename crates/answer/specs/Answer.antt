@@ -5,15 +5,17 @@ use mathlib.Core.Path.{_≡_}
 use mathlib.Core.List.{List, [], _∷_, _++_}
 use mathlib.Core.Logic.{_↔_}
 use lib.ListN.{length}
+use Rattle.layout.specs.Words.{mostTasks, mostWords}
+use Rattle.layout.specs.declared.Layout.the-variants.{Ordinary}
 use Rattle.schedule.specs.Counted.{walk, kept}
-use Rattle.taskset.specs.Words.{listHead, listExtra}
-use Rattle.taskset.specs.Quantities.{hyperPeriod, tasks}
-use Rattle.taskset.specs.Refusals.{number, second, IsShort, Check, check, Accepts, Refuses, readyChecks, plannerChecks}
+use Rattle.taskset.specs.Quantities.{hyperPeriod, walkTasks}
+use Rattle.taskset.specs.Refusals.{number, second, Check, Accepts, Refuses, roomCheck, readyChecks, plannerChecks}
 use Rattle.taskset.specs.Calls.{Selected, Copied}
 use Rattle.taskset.specs.DemandThree.{PlanPromise, NoneKeeps}
 use Rattle.taskset.specs.declared.CopyAnswer.{CopyAnswer}
 use Rattle.taskset.specs.declared.CopyAnswer.the-variants.{Wrote, Refused as NotCopied}
-use Rattle.text.specs.Text.{Script, IsTextOf, WellFormed, FirstBad, words}
+use Rattle.text.specs.Text.{Script, IsTextOf, words}
+use Rattle.text.specs.Calls.{readerChecks}
 use Rattle.lines.specs.Lines.{planLine, rateLines, walkLine, refusedLine}
 
 -- "It has 16,384 working words": and a plan word for each of as many tasks as a set can have.
@@ -21,33 +23,42 @@ abbrev pub workLent : ℕ
 workLent = 16384
 
 abbrev pub planLent : ℕ
-planLent = 32
+planLent = mostTasks
+
+-- Its list for the words that it reads has room for every set.
+abbrev pub setLent : ℕ
+setLent = mostWords
 
 -- THE LINES OF A PLAN. For the set s: no check of the planner's holds; P is the plan that document 01 selects, with its unit, load, L and
 -- energy; the walk of P is kept with its counts; and out is their lines: the plan's, one a task from task number 1 on, the walk's.
 pub record PrintsPlan (s P out : List ℕ) (unit load hyper energy busy idle preempted : ℕ) : Type 0 where
   pub accepts : Accepts (plannerChecks s planLent workLent)
   pub selected : Selected s P (unit ∷ load ∷ hyper ∷ energy ∷ [])
-  pub walked : walk (tasks s P) (hyperPeriod listHead listExtra s) ≡ kept busy idle preempted
+  pub walked : walk (walkTasks Ordinary s P) (hyperPeriod Ordinary s) ≡ kept busy idle preempted
   pub lines : out ≡ planLine unit load hyper energy ++ (rateLines 1 P ++ walkLine busy idle preempted)
+
+-- The reader takes t, and t is the text of the script s.
+pub record Read (s : Script) (t : List ℕ) : Type 0 where
+  pub accepts : Accepts (readerChecks t setLent)
+  pub text : IsTextOf s t
 
 -- THE OUTPUT for an input t: "For a refusal it prints only `(refused 7 0)`, with that number and place": of the reader, or of the planner on the
 -- words of t's script; else a plan's lines.
 pub data Prints (t out : List ℕ) : Type 0 where
-  departs : (o : ℕ) → FirstBad WellFormed t o → out ≡ refusedLine 1 o → Prints t out
-  refused : (s : Script) (n k : ℕ) → IsTextOf s t → Refuses (plannerChecks (words s) planLent workLent) n k → out ≡ refusedLine n k → Prints t out
+  unread : (n k : ℕ) → Refuses (readerChecks t setLent) n k → out ≡ refusedLine n k → Prints t out
+  refused : (s : Script) (n k : ℕ) → Read s t → Refuses (plannerChecks (words s) planLent workLent) n k → out ≡ refusedLine n k → Prints t out
   planned : (s : Script) (P : List ℕ) (unit load hyper energy busy idle preempted : ℕ)
-      → IsTextOf s t → PrintsPlan (words s) P out unit load hyper energy busy idle preempted → Prints t out
+      → Read s t → PrintsPlan (words s) P out unit load hyper energy busy idle preempted → Prints t out
 
 -- THE CALL. Its one check is 6: "Receiving list or buffer too short", with the bytes needed. d is the buffer as lent, d′ as given back.
-abbrev pub roomCheck : ℕ → ℕ → List Check
-roomCheck needed lent = check 6 (IsShort needed lent) ∷ []
+abbrev pub outputChecks : ℕ → ℕ → List Check
+outputChecks needed lent = roomCheck needed lent ∷ []
 
 abbrev pub RespondGives : (t d d′ : List ℕ) → CopyAnswer → Type 0
 RespondGives t d d′ (Wrote n) =
-    (out : List ℕ) × Prints t out × Accepts (roomCheck (length out) (length d)) × Copied out d d′ (Wrote n)
+    (out : List ℕ) × Prints t out × Accepts (outputChecks (length out) (length d)) × Copied out d d′ (Wrote n)
 RespondGives t d d′ (NotCopied r) =
-    (out : List ℕ) × Prints t out × Refuses (roomCheck (length out) (length d)) (number r) (second r) × (d′ ≡ d)
+    (out : List ℕ) × Prints t out × Refuses (outputChecks (length out) (length d)) (number r) (second r) × (d′ ≡ d)
 
 -- The call's contract: the above; and demand 3 of whatever it prints: a plan keeps every deadline for ever, its energy is its own and within the
 -- slack of the least; and the planner's refusal is 7 exactly when checks 2 to 6 pass and no plan keeps every deadline for ever.

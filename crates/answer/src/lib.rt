@@ -2,11 +2,16 @@
 // the refusal. Standard input and output are left to the program.
 ghost use Rattle.answer.specs.Answer.{Responds};
 ghost use Rattle.answer.specs.Steps.{PutAnswer, PutSet, PlanGiven};
+use layout::MOST_TASKS;
+use layout::MOST_WORDS;
 use taskset::Checked;
 use taskset::CopyAnswer;
 use taskset::PlannerAnswer;
 use taskset::Refusal;
 use taskset::WalkAnswer;
+
+// The working words that the program has.
+const WORK_WORDS: usize = 16_384;
 
 // The lines of a plan that was given, with those of its walk. A plan from the planner is always kept, so the other answers do not occur.
 fn answer_plan(
@@ -36,9 +41,9 @@ fn answer_plan(
 fn answer_set(set: &[u32], text: &mut [u8; 2048]) -> usize
     ensures { λ r. ⌜ PutSet (now (set .entry)) (now (text .entry)) (now (text .exit)) r ⌝ }
 {
-    let mut plan = [0u32; 32];
-    let mut work = [0u32; 16384];
-    match planner::ready(set, 32, 16384) {
+    let mut plan = [0u32; MOST_TASKS];
+    let mut work = [0u32; WORK_WORDS];
+    match planner::ready(set, MOST_TASKS, WORK_WORDS) {
         Checked::Refused(r) => lines::put_refused(text, r),
         Checked::Good {
             rates,
@@ -62,7 +67,7 @@ fn answer_set(set: &[u32], text: &mut [u8; 2048]) -> usize
 fn answer_text(input: &[u8], text: &mut [u8; 2048]) -> usize
     ensures { λ r. ⌜ PutAnswer (now (input .entry)) (now (text .entry)) (now (text .exit)) r ⌝ }
 {
-    let mut set = [0u32; 331];
+    let mut set = [0u32; MOST_WORDS];
     match reader::read(input, &mut set) {
         CopyAnswer::Wrote(n) => answer_set(&set[..n], text),
         CopyAnswer::Refused(r) => lines::put_refused(text, r),

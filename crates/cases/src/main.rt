@@ -35,10 +35,9 @@ use input::Line;
 use input::Window;
 use items::Counted;
 use items::Value;
+use layout::Layout;
 use libc::STDOUT_FILENO;
 use taskset::CopyAnswer;
-use taskset::LIST_EXTRA;
-use taskset::LIST_HEAD;
 
 // What a record gets: so many bytes of a line in the buffer, or none where the record is not of its form.
 enum Said {
@@ -58,7 +57,7 @@ fn check_record(s: &[u8], at: usize, out: &mut [u8; 65536], n: usize) -> Said
     if end < s.len() {
         return Said::Bad;
     }
-    let a = checks::check_set(&words[..k], LIST_HEAD, LIST_EXTRA);
+    let a = checks::check_set(&words[..k], Layout::Ordinary);
     Said::Line(print::put_checked(out, n, a))
 }
 

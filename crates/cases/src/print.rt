@@ -104,7 +104,7 @@ fn put_refused(out: &mut [u8; 65536], at: usize, f: Refusal) -> usize
         out,
         at,
         b" refused",
-        &[lines::number_of(f), lines::second_of(f)],
+        &[taskset::number_of(f), taskset::second_of(f)],
     )
 }
 

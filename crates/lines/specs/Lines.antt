@@ -9,9 +9,13 @@ planLine unit load hyper energy =
     bytes "(plan (unit " ++ (decimal unit ++ (bytes ") (load " ++ (decimal load ++ (bytes " " ++ (decimal hyper ++
     (bytes ") (energy " ++ (decimal energy ++ bytes "))\n")))))))
 
+-- A name and two numbers: the two lines that have just these.
+abbrev pub pairLine : List ℕ → (first second : ℕ) → List ℕ
+pairLine name first second = name ++ (decimal first ++ (bytes " " ++ (decimal second ++ bytes ")\n")))
+
 -- `(rate 1 2)`: "A rate line has task number, then rate number."
 unfoldable pub rateLine : (task rate : ℕ) → List ℕ
-rateLine task rate = bytes "(rate " ++ (decimal task ++ (bytes " " ++ (decimal rate ++ bytes ")\n")))
+rateLine task rate = pairLine (bytes "(rate ") task rate
 
 -- A line for each rate number of a plan, from a task number on.
 abbrev pub rateLines : ℕ → List ℕ → List ℕ
@@ -25,4 +29,4 @@ walkLine busy idle preempted =
 
 -- "For a refusal it prints only `(refused 7 0)`, with that number and place."
 unfoldable pub refusedLine : (number second : ℕ) → List ℕ
-refusedLine number second = bytes "(refused " ++ (decimal number ++ (bytes " " ++ (decimal second ++ bytes ")\n")))
+refusedLine number second = pairLine (bytes "(refused ") number second

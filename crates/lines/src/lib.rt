@@ -1,76 +1,47 @@
 // The lines that the program prints: of a plan, of its rates, of its walk, and of a refusal. What stands in them is left to the caller.
-ghost use mathlib.Core.Path.{_≡_};
 ghost use mathlib.Core.List.{_++_};
-ghost use Prim.Native.Nat.{_+_, _*_, _≤_};
+ghost use Prim.Native.Nat.{_+_, _≤_};
 ghost use lib.ListN.{length};
 ghost use Rattle.taskset.specs.Refusals.{number, second};
 ghost use Rattle.printer.specs.Puts.{Put, Added};
-ghost use Rattle.lines.specs.Lines.{planLine, rateLine, rateLines, walkLine, refusedLine};
+ghost use Rattle.lines.specs.Lines.{pairLine, planLine, rateLine, rateLines, walkLine, refusedLine};
 use taskset::Refusal;
 
-// The number of a refusal.
-pub fn number_of(f: Refusal) -> u64
-    ensures { λ r. ⌜ r ≡ number f ⌝ }
+// A line of two numbers behind a name, to a buffer from a place on. The place after it.
+fn add_pair(buf: &mut [u8], at: usize, name: &[u8], first: u64, beside: u64) -> usize
+    requires { ⌜ at + length (pairLine (now name) first beside) ≤ length (now buf) ⌝ }
+    ensures { λ r. ⌜ Added at (pairLine (now (name .entry)) first beside) (now (buf .entry)) (now (buf .exit)) r ⌝ }
 {
-    match f {
-        Refusal::TextDeparts(_) => 1,
-        Refusal::BadWord(_) => 2,
-        Refusal::NotAbove(_) => 3,
-        Refusal::TooLong(_) => 4,
-        Refusal::WorkShort(_) => 5,
-        Refusal::TooShort(_) => 6,
-        Refusal::NoPlan => 7,
-        Refusal::BadPlan(_) => 8,
-    }
-}
-
-// The number that is returned beside it.
-pub fn second_of(f: Refusal) -> u64
-    ensures { λ r. ⌜ r ≡ second f ⌝ }
-{
-    match f {
-        Refusal::TextDeparts(k) => k as u64,
-        Refusal::BadWord(k) => k as u64,
-        Refusal::NotAbove(k) => k as u64,
-        Refusal::TooLong(k) => k as u64,
-        Refusal::WorkShort(k) => k as u64,
-        Refusal::TooShort(k) => k as u64,
-        Refusal::NoPlan => 0,
-        Refusal::BadPlan(k) => k as u64,
-    }
-}
-
-// The line of a refusal, by its two numbers, to the front of a buffer. How many bytes.
-fn put_numbers(buf: &mut [u8], first: u64, beside: u64) -> usize
-    requires { ⌜ 52 ≤ length (now buf) ⌝ }
-    ensures { λ r. ⌜ Put (refusedLine first beside) (now (buf .entry)) (now (buf .exit)) r ⌝ }
-{
-    let a = printer::add_field(buf, 0, b"(refused ", first);
+    let a = printer::add_field(buf, at, name, first);
     let b = printer::add_field(buf, a, b" ", beside);
     printer::add_bytes(buf, b, b")\n")
 }
 
-// The same of a refusal.
+// The line of a refusal, to the front of a buffer. How many bytes.
 pub fn put_refused(buf: &mut [u8], f: Refusal) -> usize
-    requires { ⌜ 52 ≤ length (now buf) ⌝ }
+    requires { ⌜ length (refusedLine (number f) (second f)) ≤ length (now buf) ⌝ }
     ensures { λ r. ⌜ Put (refusedLine (number f) (second f)) (now (buf .entry)) (now (buf .exit)) r ⌝ }
 {
-    put_numbers(buf, number_of(f), second_of(f))
+    add_pair(
+        buf,
+        0,
+        b"(refused ",
+        taskset::number_of(f),
+        taskset::second_of(f),
+    )
 }
 
-// A task's line, to a buffer from a place on. The place after it.
+// A task's line. (A function of its own: a byte string in a loop would be part of the loop's invariant.)
 fn add_rate(buf: &mut [u8], at: usize, task: u64, rate: u64) -> usize
-    requires { ⌜ at + 49 ≤ length (now buf) ⌝ }
+    requires { ⌜ at + length (rateLine task rate) ≤ length (now buf) ⌝ }
     ensures { λ r. ⌜ Added at (rateLine task rate) (now (buf .entry)) (now (buf .exit)) r ⌝ }
 {
-    let a = printer::add_field(buf, at, b"(rate ", task);
-    let b = printer::add_field(buf, a, b" ", rate);
-    printer::add_bytes(buf, b, b")\n")
+    add_pair(buf, at, b"(rate ", task, rate)
 }
 
 // A line for each rate number of a plan.
 fn add_rates(buf: &mut [u8], at: usize, plan: &[u32]) -> usize
-    requires { ⌜ at + 49 * length (now plan) ≤ length (now buf) ⌝ }
+    requires { ⌜ at + length (rateLines 1 (now plan)) ≤ length (now buf) ⌝ }
     ensures { λ r. ⌜ Added at (rateLines 1 (now (plan .entry))) (now (buf .entry)) (now (buf .exit)) r ⌝ }
 {
     let mut p = at;
@@ -84,7 +55,7 @@ fn add_rates(buf: &mut [u8], at: usize, plan: &[u32]) -> usize
 
 // The plan's own line.
 fn add_plan(buf: &mut [u8], unit: u64, load: u64, hyper: u64, energy: u64) -> usize
-    requires { ⌜ 114 ≤ length (now buf) ⌝ }
+    requires { ⌜ length (planLine unit load hyper energy) ≤ length (now buf) ⌝ }
     ensures { λ r. ⌜ Added 0 (planLine unit load hyper energy) (now (buf .entry)) (now (buf .exit)) r ⌝ }
 {
     let a = printer::add_field(buf, 0, b"(plan (unit ", unit);
@@ -96,7 +67,7 @@ fn add_plan(buf: &mut [u8], unit: u64, load: u64, hyper: u64, energy: u64) -> us
 
 // The line of a walk that was kept.
 fn add_walk(buf: &mut [u8], at: usize, busy: u64, idle: u64, preempted: u64) -> usize
-    requires { ⌜ at + 96 ≤ length (now buf) ⌝ }
+    requires { ⌜ at + length (walkLine busy idle preempted) ≤ length (now buf) ⌝ }
     ensures { λ r. ⌜ Added at (walkLine busy idle preempted) (now (buf .entry)) (now (buf .exit)) r ⌝ }
 {
     let a = printer::add_field(buf, at, b"(walk (busy ", busy);
@@ -117,7 +88,7 @@ pub fn put_plan(
     idle: u64,
     preempted: u64,
 ) -> usize
-    requires { ⌜ 210 + 49 * length (now plan) ≤ length (now buf) ⌝ }
+    requires { ⌜ length (planLine unit load hyper energy ++ (rateLines 1 (now plan) ++ walkLine busy idle preempted)) ≤ length (now buf) ⌝ }
     ensures { λ r. ⌜ Put (planLine unit load hyper energy ++ (rateLines 1 (now (plan .entry)) ++ walkLine busy idle preempted)) (now (buf .entry)) (now (buf .exit)) r ⌝ }
 {
     let a = add_plan(buf, unit, load, hyper, energy);

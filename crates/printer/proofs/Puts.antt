@@ -109,22 +109,28 @@ fill-all {v} {x} {i} {n} {d} q h k m = record {
 }
 
 -- ---- parts
--- The rest of a buffer was lent, and xs written to it.
-pub lent : (xs d e : List ℕ) (at n : ℕ) → at ≤ length d → Put xs (take (length d - at) (drop at d)) e n → Added at xs d (putMid at (length d - at) d e) (at + n)
-unfolding placed written
-lent xs d e at n h q =
-    let all : take (length d - at) (drop at d) ≡ drop at d = take-all (length d - at) (drop at d) (rw length-drop (omega arith)) in
-    record { size = omega (arith, q .size); is = rw (q .is, all, post-is at (length d) d h, drop-length, append-nil) }
-
 -- Nothing yet, from a place on.
-pub none-added : (d : List ℕ) (at : ℕ) → Added at [] d d at
-none-added d at = record { size = omega arith; is = written-none d at }
+pub none-added : (d : List ℕ) (at : ℕ) → at ≤ length d → Added at [] d d at
+none-added d at h = record { inside = h; size = omega arith; is = written-none d at }
 
-pub then : {xs ys d e f : List ℕ} {at p r : ℕ} → at ≤ length d → Added at xs d e p → Added p ys e f r → Added at (xs ++ ys) d f r
-then {xs} {ys} {d} {e} {f} {at} {p} {r} h a b = record {
+-- A part, and then a part behind it.
+pub then : {xs ys d e f : List ℕ} {at p r : ℕ} → Added at xs d e p → Added p ys e f r → Added at (xs ++ ys) d f r
+then {xs} {ys} {d} {e} {f} {at} {p} {r} a b = record {
+  inside = a .inside;
   size = omega (arith, a .size, b .size, length-append xs ys);
-  is = b .is ∙ ap (written p ys) (a .is) ∙ written-then xs ys d at p (a .size) h;
+  is = b .is ∙ ap (written p ys) (a .is) ∙ written-then xs ys d at p (a .size) (a .inside);
 }
+
+-- The rest of a buffer was lent, and ys written to it.
+lent : {ys e f : List ℕ} {p n : ℕ} → p ≤ length e → Put ys (take (length e - p) (drop p e)) f n → Added p ys e (putMid p (length e - p) e f) (p + n)
+unfolding placed written
+lent {ys} {e} {f} {p} {n} h q =
+    let all : take (length e - p) (drop p e) ≡ drop p e = take-all (length e - p) (drop p e) (rw length-drop (omega arith)) in
+    record { inside = h; size = omega (arith, q .size); is = rw (q .is, all, post-is p (length e) e h, drop-length, append-nil) }
+
+pub then-lent : {xs ys d e f : List ℕ} {at p n : ℕ}
+    → Added at xs d e p → p ≤ length e → Put ys (take (length e - p) (drop p e)) f n → Added at (xs ++ ys) d (putMid p (length e - p) e f) (p + n)
+then-lent a h q = then a (lent h q)
 
 -- A buffer stays as long as it was.
 pub added-length : {xs d e : List ℕ} {at n : ℕ} → n ≤ length d → Added at xs d e n → length e ≡ length d
@@ -134,14 +140,5 @@ added-length {xs} {d} {e} {at} {n} h a = ap length (a .is) ∙ length-written xs
 pub front : {xs d e : List ℕ} {n : ℕ} → Added 0 xs d e n → Put xs d e n
 front {xs} {d} a = record { size = omega (arith, a .size); is = a .is ∙ written-front xs d }
 
--- The text so far, from a place of a buffer on that is as long as it was.
-pub record Part (at : ℕ) (xs d e : List ℕ) (n : ℕ) : Type 0 where
-  pub inside : at ≤ length d
-  pub added : Added at xs d e n
-  pub same : length e ≡ length d
-
-pub begin : {xs d e : List ℕ} {at n : ℕ} → at ≤ length d → Added at xs d e n → length e ≡ length d → Part at xs d e n
-begin h a s = record { inside = h; added = a; same = s }
-
-pub go-on : {xs ys d e f : List ℕ} {at n r : ℕ} → Part at xs d e n → Added n ys e f r → length f ≡ length e → Part at (xs ++ ys) d f r
-go-on p a s = record { inside = p .inside; added = then (p .inside) (p .added) a; same = s ∙ p .same }
+pub from-front : {xs d e : List ℕ} {n : ℕ} → Put xs d e n → Added 0 xs d e n
+from-front {xs} {d} q = record { inside = omega arith; size = omega (arith, q .size); is = q .is ∙ sym (written-front xs d) }

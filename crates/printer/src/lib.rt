@@ -1,5 +1,5 @@
-// Bytes of a text, part by part: fixed strings and numbers, to a buffer from a place on. What the parts make together is left to the
-// crates above. Each part's writer is lent the rest of the buffer that is not yet written.
+// Bytes of a text, part by part: fixed strings and numbers, to a buffer from a place on, or only counted. What the parts make together is
+// left to the crates above. Each part's writer is lent the rest of the buffer that is not yet written.
 ghost use mathlib.Core.Path.{_≡_};
 ghost use mathlib.Core.List.{_++_};
 ghost use Prim.Native.Nat.{_+_, _^_, _≤_, _<_};
@@ -93,9 +93,24 @@ fn add_number(buf: &mut [u8], at: usize, v: u64) -> usize
 
 // A fixed string and a number behind it.
 pub fn add_field(buf: &mut [u8], at: usize, l: &[u8], v: u64) -> usize
-    requires { ⌜ at + (length (now l) + length (decimal v)) ≤ length (now buf) ⌝ }
+    requires { ⌜ at + length (now l ++ decimal v) ≤ length (now buf) ⌝ }
     ensures { λ r. ⌜ Added at (now (l .entry) ++ decimal v) (now (buf .entry)) (now (buf .exit)) r ⌝ }
 {
     let a = add_bytes(buf, at, l);
     add_number(buf, a, v)
+}
+
+// The same parts without a buffer: only the place after each. What counts a line is then what puts it, part for part.
+pub fn count_bytes(at: usize, l: &[u8]) -> usize
+    requires { ⌜ at + length (now l) < 2 ^ 64 ⌝ }
+    ensures { λ r. ⌜ r ≡ at + length (now (l .entry)) ⌝ }
+{
+    at + l.len()
+}
+
+pub fn count_field(at: usize, l: &[u8], v: u64) -> usize
+    requires { ⌜ at + length (now l ++ decimal v) < 2 ^ 64 ⌝ }
+    ensures { λ r. ⌜ r ≡ at + length (now (l .entry) ++ decimal v) ⌝ }
+{
+    count_bytes(at, l) + count_number(v)
 }

@@ -1,17 +1,22 @@
 -- How long a text can be: every well-formed text is under 5,000 bytes.
 -- Assumes nothing.
-use Prim.Native.Nat.{ℕ, zero, suc, _*_, _/_, _%_, _^_, _+_, _≤_, _<_}
-use mathlib.Core.Path.{_≡_, subst}
+use Prim.Native.Nat.{ℕ, zero, suc, _*_, _/_, _%_, _+_, _≤_, _<_}
+use mathlib.Core.Path.{_≡_, refl, ap}
 use mathlib.Core.List.{List, [], _∷_, _++_}
 use mathlib.Core.Bool.{Bool, true, false, cond}
-use native.Mathlib.Nat.{suc-mul, pow-suc, mul-le-mul}
+use native.Mathlib.Bridge.{le-by-compare, IsLe}
+use native.Mathlib.Nat.{suc-mul}
 use native.Mathlib.Omega.{arith}
-use lib.ListN.{length, length-append}
+use lib.ListN.{length, replicate, length-append}
 use lib.Dec.{ltb}
-use borrow.Author.Tests.{lt-ltb}
+use borrow.Author.Tests.{ltb-true, ltb-false}
 use Rattle.numbers.specs.Numbers.{All}
+use Rattle.layout.specs.Words.{headKinds, extraKinds, mostRates, mostTasks, mostWords, taskSize, periodPlace}
+use Rattle.layout.specs.declared.Layout.the-variants.{Ordinary}
+use Rattle.layout.proofs.Layouts.{words-few}
 use Rattle.text.specs.Text.{TaskLine, Script, digits, decimal, joined, spaced, taskText, scriptText, taskWords, words, Word, TaskLineOk, ScriptOk, IsTextOf}
 
+-- ---- numbers
 digits-length : (k n : ℕ) → length (digits k n) ≤ k
 unfolding digits
 digits-length zero n = omega arith
@@ -21,64 +26,104 @@ digits-length (suc k) n = go (ltb n 10) (digits-length k (n / 10))
     go true h = omega arith
     go false h = rw length-append (omega arith)
 
--- A number below 10 ^ (j + 1) has at most j + 1 digits.
-short-digits : (j k n : ℕ) → n < 10 ^ suc j → length (digits k n) ≤ suc j
+digits-grow : (k a b : ℕ) → a ≤ b → length (digits k a) ≤ length (digits k b)
 unfolding digits
-short-digits j zero n h = omega arith
-short-digits zero (suc k) n h = rw (lt-ltb n 10 h) (omega arith)
-short-digits (suc j) (suc k) n h = go (ltb n 10) (short-digits j k (n / 10) (omega (arith, pow-suc 10 (suc j))))
+digits-grow zero a b h = omega arith
+digits-grow (suc k) a b h = go (ltb a 10) (ltb b 10) refl refl (digits-grow k (a / 10) (b / 10) (omega arith))
   where
-    go : (x : Bool) → length (digits k (n / 10)) ≤ suc j → length (cond x ((48 + n) ∷ []) (digits k (n / 10) ++ ((48 + n % 10) ∷ []))) ≤ suc (suc j)
-    go true e = omega arith
-    go false e = rw length-append (omega arith)
+    go : (x y : Bool) → ltb a 10 ≡ x → ltb b 10 ≡ y → length (digits k (a / 10)) ≤ length (digits k (b / 10))
+        → length (cond x ((48 + a) ∷ []) (digits k (a / 10) ++ ((48 + a % 10) ∷ []))) ≤ length (cond y ((48 + b) ∷ []) (digits k (b / 10) ++ ((48 + b % 10) ∷ [])))
+    go true true p q e = omega arith
+    go true false p q e = rw length-append (omega arith)
+    go false true p q e = absurd (omega (arith, ltb-false a 10 p, ltb-true b 10 q))
+    go false false p q e = simp length-append (omega arith)
 
--- Any number has at most twenty, one of 32 bits at most ten.
+-- A larger number has no fewer digits.
+pub decimal-grows : (a b : ℕ) → a ≤ b → length (decimal a) ≤ length (decimal b)
+unfolding decimal
+decimal-grows = digits-grow 20
+
+-- No number has more digits than `decimal` gives, and so none more than the largest of 64 bits; no word more than the largest of 32.
 pub decimal-length : (n : ℕ) → length (decimal n) ≤ 20
 unfolding decimal
-decimal-length n = digits-length 20 n
+decimal-length = digits-length 20
 
-pub word-length : (n : ℕ) → Word n → length (decimal n) ≤ 10
-unfolding decimal
-word-length n h = short-digits 9 20 n (omega arith)
+abbrev pub widestNumber : ℕ
+widestNumber = 18446744073709551615
 
--- Items of at most c bytes each.
-joined-length : {A : Type 0} (f : A → List ℕ) (P : A → Type 0) (c : ℕ) → ((x : A) → P x → length (f x) ≤ c)
-    → (xs : List A) → All P xs → length (joined f xs) ≤ length xs * c
-joined-length f P c h [] a = omega arith
-joined-length f P c h (x ∷ xs) a = rw length-append (omega (arith, h x (a .0), joined-length f P c h xs (a .1), suc-mul (length xs) c))
+pub decimal-widest : (n : ℕ) → length (decimal n) ≤ length (decimal widestNumber)
+unfolding decimal digits
+decimal-widest = decimal-length
 
-numbers-length : (xs : List ℕ) → All Word xs → length xs ≤ 8 → length (joined spaced xs) ≤ 88
-numbers-length xs a h = omega (arith, joined-length spaced Word 11 (λ v p. omega (arith, word-length v p)) xs a)
+abbrev widestWord : ℕ
+widestWord = 4294967295
 
--- A task's line has at most 144 bytes.
-task-length : (m : ℕ) (t : TaskLine) → m ≤ 8 → TaskLineOk m t → length (taskText t) ≤ 144
-task-length m t h k =
-    let p = word-length (t .period) (k .period) in
-    let c = word-length (t .cycles) (k .cycles) in
+word-widest : (n : ℕ) → Word n → length (decimal n) ≤ length (decimal widestWord)
+word-widest n h = decimal-grows n widestWord (omega arith)
+
+-- ---- texts: nothing is longer than what has the widest numbers, and as many of them as there may be
+-- Items of which none is longer than w: at most k of them.
+joined-length : {A : Type 0} (f : A → List ℕ) (P : A → Type 0) (w : A) → ((x : A) → P x → length (f x) ≤ length (f w))
+    → (k : ℕ) (xs : List A) → All P xs → length xs ≤ k → length (joined f xs) ≤ length (joined f (replicate k w))
+joined-length f P w h k [] a l = omega arith
+joined-length f P w h zero (x ∷ xs) a l = absurd (omega arith)
+joined-length f P w h (suc k) (x ∷ xs) a l =
+    simp length-append (omega (arith, h x (a .0), joined-length f P w h k xs (a .1) (omega arith)))
+
+unfoldable widestNumbers : List ℕ
+widestNumbers = replicate mostRates widestWord
+
+numbers-length : (xs : List ℕ) → All Word xs → length xs ≤ mostRates → length (joined spaced xs) ≤ length (joined spaced widestNumbers)
+unfolding widestNumbers
+numbers-length = joined-length spaced Word widestWord (λ v p. omega (arith, word-widest v p)) mostRates
+
+abbrev widestLine : TaskLine
+widestLine = record { period = widestWord; cycles = widestWord; energies = widestNumbers }
+
+unfoldable widestLines : List TaskLine
+widestLines = replicate mostTasks widestLine
+
+abbrev widestScript : Script
+widestScript = record { slack = widestWord; rates = widestNumbers; tasks = widestLines }
+
+task-length : (m : ℕ) → m ≤ mostRates → (t : TaskLine) → TaskLineOk m t → length (taskText t) ≤ length (taskText widestLine)
+task-length m h t k =
+    let p = word-widest (t .period) (k .period) in
+    let c = word-widest (t .cycles) (k .cycles) in
     let e = numbers-length (t .energies) (k .energies .each) (omega (arith, k .energies .most)) in
     simp length-append (omega arith)
 
-script-length : (s : Script) → ScriptOk s → length (scriptText s) < 5000
+lines-length : (m : ℕ) → m ≤ mostRates → (ts : List TaskLine) → All (TaskLineOk m) ts → length ts ≤ mostTasks
+    → length (joined taskText ts) ≤ length (joined taskText widestLines)
+unfolding widestLines
+lines-length m h = joined-length taskText (TaskLineOk m) widestLine (task-length m h) mostTasks
+
+script-length : (s : Script) → ScriptOk s → length (scriptText s) ≤ length (scriptText widestScript)
 script-length s k =
-    let g = word-length (s .slack) (k .slack) in
+    let g = word-widest (s .slack) (k .slack) in
     let r = numbers-length (s .rates) (k .rates .each) (k .rates .most) in
-    let t = joined-length taskText (TaskLineOk (length (s .rates))) 144 (λ x. task-length (length (s .rates)) x (k .rates .most)) (s .tasks) (k .tasks .each) in
-    let n = k .tasks .most in
+    let t = lines-length (length (s .rates)) (k .rates .most) (s .tasks) (k .tasks .each) (k .tasks .most) in
     simp length-append (omega arith)
 
--- A set's list has at most 331 words: that is the reader's own list.
-words-of-tasks : (m : ℕ) (ts : List TaskLine) → All (TaskLineOk m) ts → length (joined taskWords ts) ≡ length ts * (2 + m)
+widest-length : length (scriptText widestScript) < 5000
+unfolding widestNumbers widestLines decimal digits IsLe
+widest-length = le-by-compare _ _ tt
+
+pub text-length : (s : Script) (t : List ℕ) → IsTextOf s t → length t < 5000
+text-length s t h = omega (arith, ap length (h .text), script-length s (h .script), widest-length)
+
+-- ---- words
+-- A script's words are as many as its list's layout has for so many rates and tasks: few enough for the reader's own list.
+words-of-tasks : (m : ℕ) (ts : List TaskLine) → All (TaskLineOk m) ts → length (joined taskWords ts) ≡ length ts * taskSize Ordinary m
+unfolding extraKinds
 words-of-tasks m [] a = omega arith
 words-of-tasks m (t ∷ ts) a =
     let e = a .0 .energies in
-    rw length-append (omega (arith, e .least, e .most, words-of-tasks m ts (a .1), suc-mul (length ts) (2 + m)))
+    rw length-append (omega (arith, e .least, e .most, words-of-tasks m ts (a .1), suc-mul (length ts) (taskSize Ordinary m)))
 
-pub words-length : (s : Script) → ScriptOk s → length (words s) ≤ 331
-unfolding words
-words-length s k =
-    let n = words-of-tasks (length (s .rates)) (s .tasks) (k .tasks .each) in
-    let small = mul-le-mul {n₁ = length (s .tasks)} {m₁ = 2 + length (s .rates)} {n₂ = 32} {m₂ = 10} (k .tasks .most) (omega (arith, k .rates .most)) in
-    rw length-append (omega (arith, n, small, k .rates .most))
+pub words-size : (s : Script) → ScriptOk s → length (words s) ≡ periodPlace Ordinary (length (s .rates)) (length (s .tasks))
+unfolding words headKinds
+words-size s k = simp length-append (omega (arith, words-of-tasks (length (s .rates)) (s .tasks) (k .tasks .each)))
 
-pub text-length : (s : Script) (t : List ℕ) → IsTextOf s t → length t < 5000
-text-length s t h = subst (λ (u : List ℕ). length u < 5000) (h .text) (script-length s (h .script))
+pub words-length : (s : Script) → ScriptOk s → length (words s) ≤ mostWords
+words-length s k = omega (arith, words-size s k, words-few (length (s .rates)) (length (s .tasks)) (k .rates .most) (k .tasks .most))

@@ -1,30 +1,31 @@
 -- What the functions below the writer's call take and give. Not part of what a reader must believe: the call's own contract names none of it.
-use Prim.Native.Nat.{ℕ, _+_, _≤_}
+use Prim.Native.Nat.{ℕ, _<_}
+use mathlib.Core.Path.{_≡_}
 use mathlib.Core.List.{List, _++_}
-use lib.ListN.{length}
-use Rattle.taskset.specs.Words.{word, listHead, listExtra, slack, periodPlace}
-use Rattle.text.specs.Text.{TaskLine, bytes, decimal, joined, spaced, taskText, each}
+use Rattle.layout.specs.Words.{rateCount, taskCount}
+use Rattle.layout.specs.declared.Layout.the-variants.{Ordinary}
+use Rattle.layout.proofs.Whole.{IsWhole}
+use Rattle.text.specs.Text.{bytes, decimal, joined, spaced}
 
--- The n words from place k on, each behind a space.
-unfoldable pub row : List ℕ → ℕ → ℕ → List ℕ
-row w k n = joined spaced (each (λ i. word w (k + i)) 0 n)
+-- A list that passes check 2, and its rate count.
+pub record WithRates (w : List ℕ) (m : ℕ) : Type 0 where
+  pub whole : IsWhole Ordinary w
+  pub rates : m ≡ rateCount Ordinary w
 
--- The line of the task whose words stand from place k on, with m energies.
-abbrev pub lineAt : List ℕ → ℕ → ℕ → TaskLine
-lineAt w k m = record { period = word w k; cycles = word w (k + 1); energies = each (λ i. word w (k + (2 + listExtra) + i)) 0 m }
+-- The task at place t of such a list.
+pub record WithTask (w : List ℕ) (m t : ℕ) : Type 0 where
+  pub list : WithRates w m
+  pub task : t < taskCount Ordinary w
 
-unfoldable pub line : List ℕ → ℕ → ℕ → List ℕ
-line w k m = taskText (lineAt w k m)
+-- Its task count.
+pub record WithTasks (w : List ℕ) (m n : ℕ) : Type 0 where
+  pub list : WithRates w m
+  pub tasks : n ≡ taskCount Ordinary w
 
--- The lines of the first n tasks, and the whole text, of a list with m rates.
-unfoldable pub lines : List ℕ → ℕ → ℕ → List ℕ
-lines w m n = joined (λ (t : ℕ). line w (periodPlace listHead listExtra m t) m) (each (λ (t : ℕ). t) 0 n)
+-- The first two lines of a text, each from its own bracket to its own end. (`scriptText` has the bracket of the second at the end of the string
+-- before it, as the reader takes it.)
+unfoldable pub slackText : ℕ → List ℕ
+slackText slack = bytes "(slack " ++ (decimal slack ++ bytes ")\n")
 
-unfoldable pub whole : List ℕ → ℕ → ℕ → List ℕ
-whole w m n = bytes "(slack " ++ (decimal (slack w) ++ (bytes ")\n(rates" ++ (row w (listHead + 1) m ++ (bytes ")\n" ++ lines w m n))))
-
--- A list that has the words of m rates and n tasks.
-pub record Given (w : List ℕ) (m n : ℕ) : Type 0 where
-  pub rates : m ≤ 8
-  pub tasks : n ≤ 32
-  pub size : periodPlace listHead listExtra m n ≤ length w
+unfoldable pub ratesText : List ℕ → List ℕ
+ratesText rates = bytes "(rates" ++ (joined spaced rates ++ bytes ")\n")

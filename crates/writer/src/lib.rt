@@ -1,71 +1,55 @@
 // The writer of the bracketed text: checks 2 and 3, then the bytes needed are counted, and only where the buffer has them is it
-// written to. Each form's writer is lent the rest of the buffer that is not yet written.
+// written to. Each form has a writer, which is lent the rest of the buffer that is not yet written, and beside it a counter, which is the
+// writer without the buffer: the same parts in the same order.
 ghost use mathlib.Core.Path.{_≡_};
-ghost use Prim.Native.Nat.{_+_, _≤_};
+ghost use Prim.Native.Nat.{_+_, _^_, _≤_, _<_};
 ghost use lib.ListN.{length};
-ghost use Rattle.text.specs.Text.{spaced};
+ghost use Rattle.layout.specs.Words.{slackPlace};
+ghost use Rattle.text.specs.Text.{joined, spaced, taskText, scriptText, lineOf, scriptOf};
 ghost use Rattle.text.specs.Calls.{WriterGives};
 ghost use Rattle.printer.specs.Puts.{Put, Added};
-ghost use Rattle.writer.specs.Lines.{Given, row, line, lines, whole};
+ghost use Rattle.writer.specs.Lines.{WithRates, WithTask, WithTasks, slackText, ratesText};
+use layout::Layout;
 use taskset::CopyAnswer;
-use taskset::LIST_EXTRA;
-use taskset::LIST_HEAD;
 use taskset::Refusal;
 use taskset::Shape;
 
-// The bytes of the n words from place k on, each behind a space.
-fn count_numbers(w: &[u32], k: usize, n: usize) -> usize
-    requires { ⌜ (n ≤ 8) × (k + n ≤ length (now w)) ⌝ }
-    ensures { λ r. ⌜ r ≡ length (row (now (w .entry)) k n) ⌝ }
+// The words of a list that passes check 2: its rates, and of the task at place t its period, its cycles and its energies.
+fn rates_of(w: &[u32], m: usize) -> &[u32]
+    requires { ⌜ WithRates (now w) m ⌝ }
+    ensures { λ r. ⌜ now r ≡ scriptOf (now (w .entry)) .rates ⌝ }
 {
-    let mut c: usize = 0;
-    let mut i: usize = 0;
-    while i < n {
-        c += 1 + printer::count_number(w[k + i] as u64);
-        i += 1;
-    }
-    c
+    let first = layout::rate_place(Layout::Ordinary, 1);
+    let end = layout::task_count_place(Layout::Ordinary, m);
+    &w[first..end]
 }
 
-// The bytes of the line of the task whose words stand from place k on, with m energies.
-fn count_task(w: &[u32], k: usize, m: usize) -> usize
-    requires { ⌜ (m ≤ 8) × (k + 2 + m ≤ length (now w)) ⌝ }
-    ensures { λ r. ⌜ r ≡ length (line (now (w .entry)) k m) ⌝ }
+fn period_of(w: &[u32], m: usize, t: usize) -> u32
+    requires { ⌜ WithTask (now w) m t ⌝ }
+    ensures { λ r. ⌜ r ≡ lineOf (now (w .entry)) t .period ⌝ }
 {
-    let period = printer::count_number(w[k] as u64);
-    let cycles = printer::count_number(w[k + 1] as u64);
-    let energies = count_numbers(w, k + (2 + LIST_EXTRA), m);
-    36 + period + cycles + energies
+    let at = layout::period_place(Layout::Ordinary, m, t);
+    w[at]
 }
 
-// The bytes of the lines of n tasks.
-fn count_tasks(w: &[u32], m: usize, n: usize) -> usize
-    requires { ⌜ Given (now w) m n ⌝ }
-    ensures { λ r. ⌜ r ≡ length (lines (now (w .entry)) m n) ⌝ }
+fn cycles_of(w: &[u32], m: usize, t: usize) -> u32
+    requires { ⌜ WithTask (now w) m t ⌝ }
+    ensures { λ r. ⌜ r ≡ lineOf (now (w .entry)) t .cycles ⌝ }
 {
-    let mut c: usize = 0;
-    let mut k = LIST_HEAD + 2 + m;
-    let mut t: usize = 0;
-    while t < n {
-        c += count_task(w, k, m);
-        k += 2 + LIST_EXTRA + m;
-        t += 1;
-    }
-    c
+    let at = layout::cycles_place(Layout::Ordinary, m, t);
+    w[at]
 }
 
-// The bytes of the whole text.
-fn count_text(w: &[u32], m: usize, n: usize) -> usize
-    requires { ⌜ Given (now w) m n ⌝ }
-    ensures { λ r. ⌜ r ≡ length (whole (now (w .entry)) m n) ⌝ }
+fn energies_of(w: &[u32], m: usize, t: usize) -> &[u32]
+    requires { ⌜ WithTask (now w) m t ⌝ }
+    ensures { λ r. ⌜ now r ≡ lineOf (now (w .entry)) t .energies ⌝ }
 {
-    let slack = printer::count_number(w[0] as u64);
-    let rates = count_numbers(w, LIST_HEAD + 1, m);
-    let tasks = count_tasks(w, m, n);
-    17 + slack + rates + tasks
+    let first = layout::energy_place(Layout::Ordinary, m, t, 1);
+    let end = first + m;
+    &w[first..end]
 }
 
-// A space and a number. (A function of its own: a byte string in a loop would be part of the loop's invariant.)
+// A space and a number. (Functions of their own: a byte string in a loop would be part of the loop's invariant.)
 fn add_spaced(buf: &mut [u8], at: usize, v: u32) -> usize
     requires { ⌜ at + length (spaced v) ≤ length (now buf) ⌝ }
     ensures { λ r. ⌜ Added at (spaced v) (now (buf .entry)) (now (buf .exit)) r ⌝ }
@@ -73,65 +57,160 @@ fn add_spaced(buf: &mut [u8], at: usize, v: u32) -> usize
     printer::add_field(buf, at, b" ", v as u64)
 }
 
-// The n words from place k on, each behind a space.
-fn add_numbers(buf: &mut [u8], at: usize, w: &[u32], k: usize, n: usize) -> usize
-    requires { ⌜ (k + n ≤ length (now w)) × (at + length (row (now w) k n) ≤ length (now buf)) ⌝ }
-    ensures { λ r. ⌜ Added at (row (now (w .entry)) k n) (now (buf .entry)) (now (buf .exit)) r ⌝ }
+fn count_spaced(at: usize, v: u32) -> usize
+    requires { ⌜ at + length (spaced v) < 2 ^ 64 ⌝ }
+    ensures { λ r. ⌜ r ≡ at + length (spaced v) ⌝ }
+{
+    printer::count_field(at, b" ", v as u64)
+}
+
+// Numbers in a row, each behind a space.
+fn add_numbers(buf: &mut [u8], at: usize, l: &[u32]) -> usize
+    requires { ⌜ at + length (joined spaced (now l)) ≤ length (now buf) ⌝ }
+    ensures { λ r. ⌜ Added at (joined spaced (now (l .entry))) (now (buf .entry)) (now (buf .exit)) r ⌝ }
 {
     let mut p = at;
     let mut i: usize = 0;
-    while i < n {
-        p = add_spaced(buf, p, w[k + i]);
+    while i < l.len() {
+        p = add_spaced(buf, p, l[i]);
         i += 1;
     }
     p
 }
 
-// The line of the task whose words stand from place k on, with m energies.
-fn put_task(buf: &mut [u8], w: &[u32], k: usize, m: usize) -> usize
-    requires { ⌜ (k + 2 + m ≤ length (now w)) × (length (line (now w) k m) ≤ length (now buf)) ⌝ }
-    ensures { λ r. ⌜ Put (line (now (w .entry)) k m) (now (buf .entry)) (now (buf .exit)) r ⌝ }
+fn count_numbers(at: usize, l: &[u32]) -> usize
+    requires { ⌜ at + length (joined spaced (now l)) < 2 ^ 64 ⌝ }
+    ensures { λ r. ⌜ r ≡ at + length (joined spaced (now (l .entry))) ⌝ }
 {
-    let a = printer::add_field(buf, 0, b"(task (period ", w[k] as u64);
-    let b = printer::add_field(buf, a, b") (cycles ", w[k + 1] as u64);
+    let mut p = at;
+    let mut i: usize = 0;
+    while i < l.len() {
+        p = count_spaced(p, l[i]);
+        i += 1;
+    }
+    p
+}
+
+// The slack's line.
+fn put_slack(buf: &mut [u8], w: &[u32]) -> usize
+    requires { ⌜ (slackPlace < length (now w)) × (length (slackText (scriptOf (now w) .slack)) ≤ length (now buf)) ⌝ }
+    ensures { λ r. ⌜ Put (slackText (scriptOf (now (w .entry)) .slack)) (now (buf .entry)) (now (buf .exit)) r ⌝ }
+{
+    let slack = checks::slack_of(w) as u64;
+    let a = printer::add_field(buf, 0, b"(slack ", slack);
+    printer::add_bytes(buf, a, b")\n")
+}
+
+fn count_slack(w: &[u32]) -> usize
+    requires { ⌜ (slackPlace < length (now w)) × (length (slackText (scriptOf (now w) .slack)) < 2 ^ 64) ⌝ }
+    ensures { λ r. ⌜ r ≡ length (slackText (scriptOf (now (w .entry)) .slack)) ⌝ }
+{
+    let slack = checks::slack_of(w) as u64;
+    let a = printer::count_field(0, b"(slack ", slack);
+    printer::count_bytes(a, b")\n")
+}
+
+// The rates' line.
+fn put_rates(buf: &mut [u8], w: &[u32], m: usize) -> usize
+    requires { ⌜ WithRates (now w) m × (length (ratesText (scriptOf (now w) .rates)) ≤ length (now buf)) ⌝ }
+    ensures { λ r. ⌜ Put (ratesText (scriptOf (now (w .entry)) .rates)) (now (buf .entry)) (now (buf .exit)) r ⌝ }
+{
+    let rates = rates_of(w, m);
+    let a = printer::add_bytes(buf, 0, b"(rates");
+    let b = add_numbers(buf, a, rates);
+    printer::add_bytes(buf, b, b")\n")
+}
+
+fn count_rates(w: &[u32], m: usize) -> usize
+    requires { ⌜ WithRates (now w) m × (length (ratesText (scriptOf (now w) .rates)) < 2 ^ 64) ⌝ }
+    ensures { λ r. ⌜ r ≡ length (ratesText (scriptOf (now (w .entry)) .rates)) ⌝ }
+{
+    let rates = rates_of(w, m);
+    let a = printer::count_bytes(0, b"(rates");
+    let b = count_numbers(a, rates);
+    printer::count_bytes(b, b")\n")
+}
+
+// The line of the task at place t.
+fn put_task(buf: &mut [u8], w: &[u32], m: usize, t: usize) -> usize
+    requires { ⌜ WithTask (now w) m t × (length (taskText (lineOf (now w) t)) ≤ length (now buf)) ⌝ }
+    ensures { λ r. ⌜ Put (taskText (lineOf (now (w .entry)) t)) (now (buf .entry)) (now (buf .exit)) r ⌝ }
+{
+    let period = period_of(w, m, t) as u64;
+    let cycles = cycles_of(w, m, t) as u64;
+    let energies = energies_of(w, m, t);
+    let a = printer::add_field(buf, 0, b"(task (period ", period);
+    let b = printer::add_field(buf, a, b") (cycles ", cycles);
     let c = printer::add_bytes(buf, b, b") (energy");
-    let d = add_numbers(buf, c, w, k + (2 + LIST_EXTRA), m);
+    let d = add_numbers(buf, c, energies);
     printer::add_bytes(buf, d, b"))\n")
 }
 
-// The lines of n tasks: the rest of the buffer is lent for each.
+fn count_task(w: &[u32], m: usize, t: usize) -> usize
+    requires { ⌜ WithTask (now w) m t × (length (taskText (lineOf (now w) t)) < 2 ^ 64) ⌝ }
+    ensures { λ r. ⌜ r ≡ length (taskText (lineOf (now (w .entry)) t)) ⌝ }
+{
+    let period = period_of(w, m, t) as u64;
+    let cycles = cycles_of(w, m, t) as u64;
+    let energies = energies_of(w, m, t);
+    let a = printer::count_field(0, b"(task (period ", period);
+    let b = printer::count_field(a, b") (cycles ", cycles);
+    let c = printer::count_bytes(b, b") (energy");
+    let d = count_numbers(c, energies);
+    printer::count_bytes(d, b"))\n")
+}
+
+// The lines of the n tasks: the rest of the buffer is lent for each.
 fn put_tasks(buf: &mut [u8], w: &[u32], m: usize, n: usize) -> usize
-    requires { ⌜ Given (now w) m n × (length (lines (now w) m n) ≤ length (now buf)) ⌝ }
-    ensures { λ r. ⌜ Put (lines (now (w .entry)) m n) (now (buf .entry)) (now (buf .exit)) r ⌝ }
+    requires { ⌜ WithTasks (now w) m n × (length (joined taskText (scriptOf (now w) .tasks)) ≤ length (now buf)) ⌝ }
+    ensures { λ r. ⌜ Put (joined taskText (scriptOf (now (w .entry)) .tasks)) (now (buf .entry)) (now (buf .exit)) r ⌝ }
 {
     let mut p: usize = 0;
-    let mut k = LIST_HEAD + 2 + m;
     let mut t: usize = 0;
     while t < n {
-        p += put_task(&mut buf[p..], w, k, m);
-        k += 2 + LIST_EXTRA + m;
+        p += put_task(&mut buf[p..], w, m, t);
         t += 1;
     }
     p
 }
 
-// The whole text.
-fn put_text(buf: &mut [u8], w: &[u32], m: usize, n: usize) -> usize
-    requires { ⌜ Given (now w) m n × (length (whole (now w) m n) ≤ length (now buf)) ⌝ }
-    ensures { λ r. ⌜ Put (whole (now (w .entry)) m n) (now (buf .entry)) (now (buf .exit)) r ⌝ }
+fn count_tasks(w: &[u32], m: usize, n: usize) -> usize
+    requires { ⌜ WithTasks (now w) m n × (length (joined taskText (scriptOf (now w) .tasks)) < 2 ^ 64) ⌝ }
+    ensures { λ r. ⌜ r ≡ length (joined taskText (scriptOf (now (w .entry)) .tasks)) ⌝ }
 {
-    let a = printer::add_field(buf, 0, b"(slack ", w[0] as u64);
-    let b = printer::add_bytes(buf, a, b")\n(rates");
-    let c = add_numbers(buf, b, w, LIST_HEAD + 1, m);
-    let d = printer::add_bytes(buf, c, b")\n");
-    d + put_tasks(&mut buf[d..], w, m, n)
+    let mut p: usize = 0;
+    let mut t: usize = 0;
+    while t < n {
+        p += count_task(w, m, t);
+        t += 1;
+    }
+    p
+}
+
+// The whole text: the rest of the buffer is lent for each form.
+fn put_text(buf: &mut [u8], w: &[u32], m: usize, n: usize) -> usize
+    requires { ⌜ WithTasks (now w) m n × (length (scriptText (scriptOf (now w))) ≤ length (now buf)) ⌝ }
+    ensures { λ r. ⌜ Put (scriptText (scriptOf (now (w .entry)))) (now (buf .entry)) (now (buf .exit)) r ⌝ }
+{
+    let a = put_slack(buf, w);
+    let b = a + put_rates(&mut buf[a..], w, m);
+    b + put_tasks(&mut buf[b..], w, m, n)
+}
+
+fn count_text(w: &[u32], m: usize, n: usize) -> usize
+    requires { ⌜ WithTasks (now w) m n ⌝ }
+    ensures { λ r. ⌜ r ≡ length (scriptText (scriptOf (now (w .entry)))) ⌝ }
+{
+    let a = count_slack(w);
+    let b = a + count_rates(w, m);
+    b + count_tasks(w, m, n)
 }
 
 // The text of a set of words that passes checks 2 and 3; how many bytes, or a refusal that leaves the buffer as it was.
 pub fn write(set: &[u32], text: &mut [u8]) -> CopyAnswer
     ensures { λ a. ⌜ WriterGives (now (set .entry)) (now (text .entry)) (now (text .exit)) a ⌝ }
 {
-    let shape = checks::check_words(set, LIST_HEAD, LIST_EXTRA);
+    let shape = checks::check_words(set, Layout::Ordinary);
     match shape {
         Shape::Refused(r) => CopyAnswer::Refused(r),
         Shape::Whole { rates, tasks } => {

@@ -17,9 +17,11 @@ enum-known-busy c = search needs
 
 put-plan-requires : tie.Need-put-plan-requires
 put-plan-requires c κs =
-    let s = c .before .before .before .before .before .before .before in
+    let b = c .before .before in
+    let s = b .before .before .before .before .before in
     let a = s .args in
-    omega (arith, plan-room (now (a .set)) (now (a .plan)) (a .unit) (a .load) (a .hyper) (a .energy) (s .pre))
+    let v = b .busy .given .0 in
+    omega (arith, plan-room (now (a .set)) (now (a .plan)) (a .unit) (a .load) (a .hyper) (a .energy) (s .pre) (v .0) (v .1 .0) (v .1 .1 .0))
 
 enum-told : tie.Need-enum-told
 enum-told c = search needs

@@ -10,22 +10,26 @@ use lib.Seq.{length-take-le}
 use Rattle.taskset.specs.declared.Checked.the-variants.{Good}
 use Rattle.taskset.specs.declared.PlannerAnswer.the-variants.{Planned}
 use Rattle.planner.specs.Answers.{PlannerCall}
-use Rattle.planner.specs.Ready.{ReadyAnswers}
+use Rattle.layout.specs.declared.Layout.the-variants.{Ordinary}
+use Rattle.taskset.specs.Refusals.{readyChecks}
+use Rattle.taskset.specs.Calls.{SetAfter}
 use Rattle.answer.specs.Answer.{planLent, workLent}
 use Rattle.answer.specs.Steps.{PlanGiven}
 use Rattle.answer.proofs.Outputs.{tasks-few}
 use Rattle.answer.proofs.Calls.{set-refused, ready-refused, more-room, call-refused, call-planned}
+use Rattle.taskset.specs.Refusals.{number, second}
+use Rattle.lines.proofs.Lengths.{refused-short}
 use borrow.Author.Needs.{needs}
 use Rattle.answer.proofs.answer_set.Statement.{statement}
 use Rattle.answer.proofs.answer_set.Tie as tie
 
 -- What checks 2 to 6 gave.
 ready : (c : tie.After-rates) → let x = c .before .before in let a = x .before .before .args in
-    ReadyAnswers (now (a .set)) planLent workLent (Good (c .rates .given .0 .0) (c .rates .given .0 .1 .0) (c .rates .given .0 .1 .1 .0))
+    SetAfter (readyChecks (now (a .set)) planLent workLent) Ordinary (now (a .set)) (Good (c .rates .given .0 .0) (c .rates .given .0 .1 .0) (c .rates .given .0 .1 .1 .0))
 ready c =
     let x = c .before .before in
     more-room (now (x .before .before .args .set)) _ _ planLent workLent _ _ _ (omega arith) (omega arith)
-    (subst (ReadyAnswers (now (x .before .before .args .set)) _ _) (c .rates .given .1) (x .ready .ensures))
+    (subst (SetAfter (readyChecks (now (x .before .before .args .set)) _ _) Ordinary (now (x .before .before .args .set))) (c .rates .given .1) (x .ready .ensures))
 
 -- What the planner gave.
 abbrev at-rates : tie.After-plan-checked → tie.After-rates
@@ -35,11 +39,11 @@ abbrev set-of : tie.After-plan-checked → List ℕ
 set-of p = now (at-rates p .before .before .before .before .args .set)
 
 given : (c : tie.After-unit) → let p = c .before .before .before .before in
-    PlannerCall (set-of p) (replicate 32 0) (replicate 16384 0) (p .plan-checked .last .1 .0) (p .plan-checked .last .1 .1 .0)
+    PlannerCall (set-of p) (replicate planLent 0) (replicate workLent 0) (p .plan-checked .last .1 .0) (p .plan-checked .last .1 .1 .0)
     (Planned (c .unit .given .0 .0) (c .unit .given .0 .1 .0) (c .unit .given .0 .1 .1 .0) (c .unit .given .0 .1 .1 .1 .0))
 given c =
     let p = c .before .before .before .before in
-    subst (PlannerCall (set-of p) (replicate 32 0) (replicate 16384 0) (p .plan-checked .last .1 .0) (p .plan-checked .last .1 .1 .0)) (c .unit .given .1) (p .plan-checked .ensures)
+    subst (PlannerCall (set-of p) (replicate planLent 0) (replicate workLent 0) (p .plan-checked .last .1 .0) (p .plan-checked .last .1 .1 .0)) (c .unit .given .1) (p .plan-checked .ensures)
 
 plan-of : (c : tie.After-unit) → let p = c .before .before .before .before in
     PlanGiven (set-of p) (take (at-rates p .rates .given .0 .1 .0) (p .plan-checked .last .1 .0))
@@ -60,7 +64,9 @@ enum-known-r : tie.Need-enum-known-r
 enum-known-r c = search needs
 
 put-refused-requires : tie.Need-put-refused-requires
-put-refused-requires c κs = search needs
+put-refused-requires c κs =
+    let r = c .before .before .r .given .0 .0 in
+    omega (arith, refused-short (number r) (second r))
 
 enum-known-rates : tie.Need-enum-known-rates
 enum-known-rates c = search needs
@@ -78,7 +84,9 @@ enum-known-r-2 : tie.Need-enum-known-r-2
 enum-known-r-2 c = search needs
 
 put-refused-requires-2 : tie.Need-put-refused-requires-2
-put-refused-requires-2 c κs = search needs
+put-refused-requires-2 c κs =
+    let r = c .before .before .r2 .given .0 .0 in
+    omega (arith, refused-short (number r) (second r))
 
 enum-known-unit : tie.Need-enum-known-unit
 enum-known-unit c = search needs
@@ -98,7 +106,7 @@ returns c =
     let x = r .before .before in
     let s = now (x .before .before .args .set) in
     set-refused s _ _ _ (r .r .given .0 .0)
-    (ready-refused s (r .r .given .0 .0) (subst (ReadyAnswers s planLent workLent) (r .r .given .1) (x .ready .ensures)))
+    (ready-refused s (r .r .given .0 .0) (subst (SetAfter (readyChecks s planLent workLent) Ordinary s) (r .r .given .1) (x .ready .ensures)))
     (c .put-refused .ensures)
 
 returns-2 : tie.Need-returns-2
@@ -108,7 +116,7 @@ returns-2 c =
     let s = set-of p in
     set-refused s _ _ _ (r .r2 .given .0 .0)
     (call-refused s _ _ _ _ refl refl (r .r2 .given .0 .0)
-    (subst (PlannerCall s (replicate 32 0) (replicate 16384 0) (p .plan-checked .last .1 .0) (p .plan-checked .last .1 .1 .0)) (r .r2 .given .1) (p .plan-checked .ensures)))
+    (subst (PlannerCall s (replicate planLent 0) (replicate workLent 0) (p .plan-checked .last .1 .0) (p .plan-checked .last .1 .1 .0)) (r .r2 .given .1) (p .plan-checked .ensures)))
     (c .put-refused2 .ensures)
 
 returns-3 : tie.Need-returns-3

@@ -1,86 +1,23 @@
--- A task's line: each part goes behind those before it.
+-- A task's line is a line of two numbers.
 -- Assumes nothing.
-use Prim.Native.Nat.{ℕ, _+_}
-use mathlib.Core.Path.{_≡_}
-use mathlib.Core.List.{List, _++_, append-assoc}
-use native.Mathlib.Omega.{arith}
-use denote.Ref.{now}
-use lib.ListN.{length-append}
-use Rattle.text.specs.Text.{bytes, decimal}
-use Rattle.text.proofs.Sizes.{decimal-length}
-use Rattle.printer.proofs.Puts.{Part, begin, go-on}
 use Rattle.lines.specs.Lines.{rateLine}
 use borrow.Author.Needs.{needs}
 use Rattle.lines.proofs.add_rate.Statement.{statement}
 use Rattle.lines.proofs.add_rate.Tie as tie
 
--- The entry, and the text so far, at each call.
-abbrev s1 : tie.After-add-field → tie.Start
-s1 c = c .before .before .before .before
+slice-aggregate-add-pair : tie.Need-slice-aggregate-add-pair
+slice-aggregate-add-pair c = search needs
 
-abbrev x1 : tie.After-add-field → List ℕ
-x1 c = bytes "(rate " ++ decimal (s1 c .args .task)
-
-p1 : (c : tie.After-add-field) → Part (s1 c .args .at) (x1 c) (now (s1 c .args .buf)) (c .add-field .last .0) (c .add-field .result)
-p1 c = begin (omega (arith, c .before .before .before .before .pre)) (c .add-field .ensures) (c .add-field .kept .0)
-
-abbrev s2 : tie.After-add-field2 → tie.Start
-s2 c = s1 (c .before .before .before .before .before)
-
-abbrev x2 : tie.After-add-field2 → List ℕ
-x2 c = x1 (c .before .before .before .before .before) ++ (bytes " " ++ decimal (s2 c .args .rate))
-
-p2 : (c : tie.After-add-field2) → Part (s2 c .args .at) (x2 c) (now (s2 c .args .buf)) (c .add-field2 .last .0) (c .add-field2 .result)
-p2 c = go-on (p1 (c .before .before .before .before .before)) (c .add-field2 .ensures) (c .add-field2 .kept .0)
-
-abbrev s3 : tie.After-add-bytes → tie.Start
-s3 c = s2 (c .before .before .before .before .before)
-
-abbrev x3 : tie.After-add-bytes → List ℕ
-x3 c = x2 (c .before .before .before .before .before) ++ (bytes ")\n")
-
-p3 : (c : tie.After-add-bytes) → Part (s3 c .args .at) (x3 c) (now (s3 c .args .buf)) (c .add-bytes .last .0) (c .add-bytes .result)
-p3 c = go-on (p2 (c .before .before .before .before .before)) (c .add-bytes .ensures) (c .add-bytes .kept .0)
-
-is-line : (c : tie.After-add-bytes) → x3 c ≡ rateLine (s3 c .args .task) (s3 c .args .rate)
+add-pair-requires : tie.Need-add-pair-requires
 unfolding rateLine
-is-line c = simp append-assoc
-
-slice-aggregate-add-field : tie.Need-slice-aggregate-add-field
-slice-aggregate-add-field c = search needs
-
-add-field-requires : tie.Need-add-field-requires
-add-field-requires c κs =
-    let s = c .before .before .before in
-    let a = s .args in
-    omega (arith, s .pre, decimal-length (a .task), decimal-length (a .rate))
-
-slice-aggregate-add-field-2 : tie.Need-slice-aggregate-add-field-2
-slice-aggregate-add-field-2 c = search needs
-
-add-field-requires-2 : tie.Need-add-field-requires-2
-add-field-requires-2 c κs =
-    let n = c .before .before .before .before in
-    let a = s1 n .args in
-    omega (arith, decimal-length (a .task), decimal-length (a .rate), simp length-append at (p1 n .added .size), p1 n .same, s1 n .pre)
-
-slice-aggregate-add-bytes : tie.Need-slice-aggregate-add-bytes
-slice-aggregate-add-bytes c = search needs
-
-add-bytes-requires : tie.Need-add-bytes-requires
-add-bytes-requires c κs =
-    let n = c .before .before .before .before in
-    let a = s2 n .args in
-    omega (arith, decimal-length (a .task), decimal-length (a .rate), simp length-append at (p2 n .added .size), p2 n .same, s2 n .pre)
+add-pair-requires c κs = c .before .before .before .pre
 
 same-length : tie.Need-same-length
 same-length c = search needs
 
 returns : tie.Need-returns
-returns c =
-    let n = c .before .before in
-    let e : x3 n ≡ rateLine (s3 n .args .task) (s3 n .args .rate) = is-line n in
-    rw e at ((p3 n .added))
+unfolding rateLine
+returns c = c .before .before .add-pair .ensures
 
 pub add-rate-spec : {M : Type 1} → statement M
-add-rate-spec = tie.close (tie.spec slice-aggregate-add-field add-field-requires slice-aggregate-add-field-2 add-field-requires-2 slice-aggregate-add-bytes add-bytes-requires same-length returns)
+add-rate-spec = tie.close (tie.spec slice-aggregate-add-pair add-pair-requires same-length returns)

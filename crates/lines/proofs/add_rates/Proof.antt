@@ -1,16 +1,15 @@
 -- A line for each rate. The loop's invariant: those of the first `i` tasks are in place.
 -- Assumes nothing.
-use Prim.Native.Nat.{_+_, _-_, _≤_}
+use Prim.Native.Nat.{_-_, _≤_}
 use mathlib.Core.Path.{_≡_, refl, _∙_}
 use native.Mathlib.Omega.{arith}
-use native.Mathlib.Numerals.{add-one}
 use denote.Ref.{now}
 use lib.ListN.{length, take}
-use lib.Seq.{take-suc, take-length, length-take-le}
+use lib.Seq.{take-length}
 use Rattle.printer.specs.Puts.{Added}
 use Rattle.printer.proofs.Puts.{none-added, then}
 use Rattle.lines.specs.Lines.{rateLines}
-use Rattle.lines.proofs.Lengths.{rates-short, rates-more}
+use Rattle.lines.proofs.Lengths.{rates-more, rate-room}
 use borrow.Author.Needs.{needs}
 use Rattle.lines.proofs.add_rates.Statement.{statement}
 use Rattle.lines.proofs.add_rates.Tie as tie
@@ -24,7 +23,7 @@ abbrev μ-loop : tie.MeasureT-loop
 loop-holds : tie.Need-loop-holds Inv-loop μ-loop
 loop-holds c =
     let a = c .before .before .args in
-    (omega arith, refl, none-added (now (a .buf)) (a .at))
+    (omega arith, refl, none-added (now (a .buf)) (a .at) (omega arith))
 
 add-add-rate : tie.Need-add-add-rate Inv-loop μ-loop
 add-add-rate c = search needs
@@ -41,11 +40,7 @@ cast-add-rate c = omega (arith, c .shared-slice-known2 .given (c .before .before
 add-rate-requires : tie.Need-add-rate-requires Inv-loop μ-loop
 add-rate-requires c κs =
     let q = c .before .before .before in
-    let s = q .before .before .before in
-    let P = now (s .args .plan) in
-    let i = q .loop .i in
-    let l = length-take-le i P (omega arith) in
-    omega (arith, s .pre, q .loop .inv .1, q .loop .inv .2 .size, rates-short 1 (take i P), l)
+    rate-room (now (q .before .before .before .args .plan)) (q .loop .i) (omega arith) _ _ _ _ (omega arith) (q .loop .inv .2 .size) (omega arith)
 
 add-i : tie.Need-add-i Inv-loop μ-loop
 add-i c = search needs
@@ -56,15 +51,10 @@ loop-less c = omega arith
 loop-again : tie.Need-loop-again Inv-loop μ-loop
 loop-again c =
     let x = c .before .before in
-    let q = x .before .before .before .before in
-    let s = q .before .before .before in
-    let P = now (s .args .plan) in
-    let i = q .loop .i in
-    let l = length-take-le i P (omega arith) in
-    let there : 1 + length (take i P) ≡ i + 1 = omega (arith, l) in (
+    let q = x .before .before .before .before in (
       omega arith,
       x .add-rate .kept .0 ∙ q .loop .inv .1,
-      rw (add-one i, take-suc P i 0 (omega arith), rates-more, there) (then (omega (arith, s .pre)) (q .loop .inv .2) (x .add-rate .ensures)),
+      rw (rates-more (now (q .before .before .before .args .plan)) (q .loop .i) (omega arith)) (then (q .loop .inv .2) (x .add-rate .ensures)),
     )
 
 same-length : tie.Need-same-length Inv-loop μ-loop
@@ -80,4 +70,17 @@ returns c =
 pub add-rates-spec : {M : Type 1} → statement M
 add-rates-spec =
     tie.close
-    (tie.spec Inv-loop μ-loop loop-holds add-add-rate mul-add-rate shared-slice-read-add-rate cast-add-rate add-rate-requires add-i loop-less loop-again same-length returns)
+    (tie.spec
+    Inv-loop
+    μ-loop
+    loop-holds
+    add-add-rate
+    mul-add-rate
+    shared-slice-read-add-rate
+    cast-add-rate
+    add-rate-requires
+    add-i
+    loop-less
+    loop-again
+    same-length
+    returns)

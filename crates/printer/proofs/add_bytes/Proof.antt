@@ -2,7 +2,7 @@
 -- Assumes nothing.
 use native.Mathlib.Omega.{arith}
 use denote.Ref.{now}
-use Rattle.printer.proofs.Puts.{lent}
+use Rattle.printer.proofs.Puts.{none-added, then-lent}
 use borrow.Author.Needs.{needs}
 use Rattle.printer.proofs.add_bytes.Statement.{statement}
 use Rattle.printer.proofs.add_bytes.Tie as tie
@@ -27,8 +27,8 @@ same-length c = search needs
 
 returns : tie.Need-returns
 returns c =
-    let a = c .before .before .before .before .before .before in
-    lent (now (a .args .l)) (now (a .args .buf)) (c .before .before .put-bytes .last .0) (a .args .at) (c .before .before .put-bytes .result) (omega (arith, a .pre)) (c .before .before .put-bytes .ensures)
+    let s = c .before .before .before .before .before .before in
+    then-lent (none-added (now (s .args .buf)) (s .args .at) (omega arith)) (omega arith) (c .before .before .put-bytes .ensures)
 
 pub add-bytes-spec : {M : Type 1} → statement M
 add-bytes-spec =

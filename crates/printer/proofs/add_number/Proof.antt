@@ -2,8 +2,7 @@
 -- Assumes nothing.
 use native.Mathlib.Omega.{arith}
 use denote.Ref.{now}
-use Rattle.text.specs.Text.{decimal}
-use Rattle.printer.proofs.Puts.{lent}
+use Rattle.printer.proofs.Puts.{none-added, then-lent}
 use borrow.Author.Needs.{needs}
 use Rattle.printer.proofs.add_number.Statement.{statement}
 use Rattle.printer.proofs.add_number.Tie as tie
@@ -28,8 +27,8 @@ same-length c = search needs
 
 returns : tie.Need-returns
 returns c =
-    let a = c .before .before .before .before .before in
-    lent (decimal (a .args .v)) (now (a .args .buf)) (c .before .before .put-number .last .0) (a .args .at) (c .before .before .put-number .result) (omega (arith, a .pre)) (c .before .before .put-number .ensures)
+    let s = c .before .before .before .before .before in
+    then-lent (none-added (now (s .args .buf)) (s .args .at) (omega arith)) (omega arith) (c .before .before .put-number .ensures)
 
 pub add-number-spec : {M : Type 1} → statement M
 add-number-spec =

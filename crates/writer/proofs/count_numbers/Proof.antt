@@ -1,76 +1,64 @@
--- Numbers in a row. The loop's invariant: the bytes of the first i.
+-- Numbers in a row. The loop's invariant: the first `i` are counted.
 -- Assumes nothing.
 use Prim.Native.Nat.{_+_, _-_, _≤_}
-use mathlib.Core.Path.{_≡_, sym, ap}
+use mathlib.Core.Path.{_≡_}
 use native.Mathlib.Omega.{arith}
 use denote.Ref.{now}
-use lib.ListN.{length}
-use Rattle.taskset.specs.Words.{word}
-use Rattle.text.proofs.Sizes.{decimal-length}
-use Rattle.writer.specs.Lines.{row}
-use Rattle.writer.proofs.Rows.{row-none, row-longer, row-short}
-use borrow.Author.Needs.{needs}
+use lib.ListN.{length, take, length-append}
+use lib.Seq.{take-length}
+use Rattle.text.specs.Text.{joined, spaced}
+use Rattle.writer.proofs.Rows.{one-more, one-room}
 use Rattle.writer.proofs.count_numbers.Statement.{statement}
 use Rattle.writer.proofs.count_numbers.Tie as tie
 
 abbrev Inv-loop : tie.InvT-loop
-Inv-loop w k n c₀ i₀ c i = (i ≤ n) × (c ≡ length (row w k i))
+Inv-loop at l p₀ i₀ p i = (i ≤ length l) × (p ≡ at + length (joined spaced (take i l)))
 
 abbrev μ-loop : tie.MeasureT-loop
-μ-loop w k n c₀ i₀ c i = n - i
+μ-loop at l p₀ i₀ p i = length l - i
 
 loop-holds : tie.Need-loop-holds Inv-loop μ-loop
-loop-holds c = (omega arith, sym (ap length (row-none (now (c .before .args .w)) (c .before .args .k))))
+loop-holds c = (omega arith, omega arith)
 
-add-count-number : tie.Need-add-count-number Inv-loop μ-loop
-add-count-number c = search needs
+mul-count-spaced : tie.Need-mul-count-spaced Inv-loop μ-loop
+mul-count-spaced c = omega arith
 
-mul-count-number : tie.Need-mul-count-number Inv-loop μ-loop
-mul-count-number c = search needs
+shared-slice-read-count-spaced : tie.Need-shared-slice-read-count-spaced Inv-loop μ-loop
+shared-slice-read-count-spaced c = omega arith
 
-shared-slice-read-count-number : tie.Need-shared-slice-read-count-number Inv-loop μ-loop
-shared-slice-read-count-number c = search needs
-
-count-number-requires : tie.Need-count-number-requires Inv-loop μ-loop
-count-number-requires c κs = search needs
-
-add-c : tie.Need-add-c Inv-loop μ-loop
-add-c c =
-    let q = c .before .before .before in
-    let a = q .before .before in
-    let w = now (a .args .w) in
-    omega (arith, c .count-number .ensures, decimal-length (word w (a .args .k + q .loop .i)))
-
-add-c-2 : tie.Need-add-c-2 Inv-loop μ-loop
-add-c-2 c =
-    let q = c .before .before .before in
-    let a = q .before .before in
-    let w = now (a .args .w) in
-    omega (arith, c .count-number .ensures, decimal-length (word w (a .args .k + q .loop .i)), q .loop .inv .1, row-short w (a .args .k) (q .loop .i))
+count-spaced-requires : tie.Need-count-spaced-requires Inv-loop μ-loop
+count-spaced-requires c κs =
+    let q = c .before .before in
+    omega (arith, one-room spaced (now (q .before .before .args .l)) (q .loop .i) 0 (omega arith))
 
 add-i : tie.Need-add-i Inv-loop μ-loop
-add-i c = search needs
+add-i c = omega arith
 
 loop-less : tie.Need-loop-less Inv-loop μ-loop
-loop-less c = search needs
+loop-less c = omega arith
 
 loop-again : tie.Need-loop-again Inv-loop μ-loop
 loop-again c =
     let q = c .before .before .before in
-    let a = q .before .before in
-    let w = now (a .args .w) in
-    (omega arith, omega (arith, c .count-number .ensures, q .loop .inv .1, row-longer w (a .args .k) (q .loop .i)))
+    (omega arith, rw (one-more spaced (now (q .before .before .args .l)) (q .loop .i) 0 (omega arith), length-append) (omega arith))
 
 returns : tie.Need-returns Inv-loop μ-loop
 returns c =
     let q = c .before in
-    let e : q .loop .i ≡ q .before .before .args .n = omega arith in
-    rw (← e) (q .loop .inv .1)
-
-cast-count-number : tie.Need-cast-count-number Inv-loop μ-loop
-cast-count-number c = omega (arith, c .shared-slice-known2 .given (c .before .before .before .before .args .k + c .before .before .loop .i))
+    let e : q .loop .i ≡ length (now (q .before .before .args .l)) = omega arith in
+    rw (e, take-length) at (q .loop .inv .1)
 
 pub count-numbers-spec : {M : Type 1} → statement M
 count-numbers-spec =
     tie.close
-    (tie.spec Inv-loop μ-loop loop-holds add-count-number mul-count-number shared-slice-read-count-number cast-count-number count-number-requires add-c add-c-2 add-i loop-less loop-again returns)
+    (tie.spec
+    Inv-loop
+    μ-loop
+    loop-holds
+    mul-count-spaced
+    shared-slice-read-count-spaced
+    count-spaced-requires
+    add-i
+    loop-less
+    loop-again
+    returns)

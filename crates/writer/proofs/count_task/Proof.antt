@@ -1,76 +1,104 @@
--- A task's line: its fixed strings, and its numbers.
+-- A task's line: the bytes of each part behind those before it.
 -- Assumes nothing.
-use Prim.Native.Nat.{_+_}
+use Prim.Native.Nat.{_^_, _<_}
+use mathlib.Core.Path.{_≡_, ap}
 use native.Mathlib.Omega.{arith}
 use denote.Ref.{now}
-use Rattle.taskset.specs.Words.{word}
-use Rattle.text.proofs.Sizes.{decimal-length}
-use Rattle.writer.proofs.Rows.{line-length, row-short}
+use lib.ListN.{length, length-append}
+use Rattle.text.specs.Text.{TaskLine, taskText, lineOf}
+use Rattle.writer.proofs.Lists.{taskLine, line-same}
 use borrow.Author.Needs.{needs}
 use Rattle.writer.proofs.count_task.Statement.{statement}
 use Rattle.writer.proofs.count_task.Tie as tie
 
-mul-count-number : tie.Need-mul-count-number
-mul-count-number c = search needs
+-- The line, by what was taken from the list, and that it fits.
+abbrev start : tie.After-energies-of → tie.Start
+start c = c .before .before .before .before
 
-shared-slice-read-count-number : tie.Need-shared-slice-read-count-number
-shared-slice-read-count-number c = search needs
+abbrev line : tie.After-energies-of → TaskLine
+line c = taskLine (c .before .before .period-of .result) (c .before .cycles-of .result) (now (c .energies-of .result))
 
-count-number-requires : tie.Need-count-number-requires
-count-number-requires c κs = search needs
+same : (c : tie.After-energies-of) → taskText (line c) ≡ taskText (lineOf (now (start c .args .w)) (start c .args .t))
+same c = line-same (now (start c .args .w)) (start c .args .t) (c .before .before .period-of .ensures) (c .before .cycles-of .ensures) (c .energies-of .ensures)
 
-add-count-number : tie.Need-add-count-number
-add-count-number c = search needs
+fits : (c : tie.After-energies-of) → length (taskText (line c)) < 2 ^ 64
+fits c = omega (arith, ap length (same c), start c .pre .1)
 
-mul-count-number-2 : tie.Need-mul-count-number-2
-mul-count-number-2 c = search needs
+period-of-requires : tie.Need-period-of-requires
+period-of-requires c κs = c .before .pre .0
 
-shared-slice-read-count-number-2 : tie.Need-shared-slice-read-count-number-2
-shared-slice-read-count-number-2 c = search needs
+cast-period : tie.Need-cast-period
+cast-period c = search needs
 
-count-number-requires-2 : tie.Need-count-number-requires-2
-count-number-requires-2 c κs = search needs
+cycles-of-requires : tie.Need-cycles-of-requires
+cycles-of-requires c κs = c .before .before .pre .0
 
-add-count-numbers : tie.Need-add-count-numbers
-add-count-numbers c = search needs
+cast-cycles : tie.Need-cast-cycles
+cast-cycles c = search needs
+
+energies-of-requires : tie.Need-energies-of-requires
+energies-of-requires c κs = c .before .before .before .pre .0
+
+slice-aggregate-count-field : tie.Need-slice-aggregate-count-field
+slice-aggregate-count-field c = search needs
+
+count-field-requires : tie.Need-count-field-requires
+count-field-requires c κs = omega (arith, simp length-append at (fits (c .before)))
+
+slice-aggregate-count-field-2 : tie.Need-slice-aggregate-count-field-2
+slice-aggregate-count-field-2 c = search needs
+
+count-field-requires-2 : tie.Need-count-field-requires-2
+count-field-requires-2 c κs =
+    let one = c .before in
+    omega (arith, simp length-append at (fits (one .before .before)))
+
+slice-aggregate-count-bytes : tie.Need-slice-aggregate-count-bytes
+slice-aggregate-count-bytes c = search needs
+
+count-bytes-requires : tie.Need-count-bytes-requires
+count-bytes-requires c κs =
+    let two = c .before in
+    let one = two .before .before in
+    omega (arith, simp length-append at (fits (one .before .before)))
 
 count-numbers-requires : tie.Need-count-numbers-requires
-count-numbers-requires c κs = search needs
+count-numbers-requires c κs =
+    let three = c in
+    let two = three .before .before in
+    let one = two .before .before in
+    omega (arith, simp length-append at (fits (one .before .before)))
 
-add-result : tie.Need-add-result
-add-result c =
-    let a = c .before .before .before .before .before .before .args in
-    let w = now (a .w) in
-    omega (arith, c .count-numbers .ensures, c .before .count-number2 .ensures, c .before .before .before .count-number .ensures, decimal-length (word w (a .k)), decimal-length (word w (a .k + 1)), row-short w (a .k + 2) (a .m))
+slice-aggregate-count-bytes-2 : tie.Need-slice-aggregate-count-bytes-2
+slice-aggregate-count-bytes-2 c = search needs
 
-add-result-2 : tie.Need-add-result-2
-add-result-2 c =
-    let a = c .before .before .before .before .before .before .args in
-    let w = now (a .w) in
-    omega (arith, c .count-numbers .ensures, c .before .count-number2 .ensures, c .before .before .before .count-number .ensures, decimal-length (word w (a .k)), decimal-length (word w (a .k + 1)), row-short w (a .k + 2) (a .m))
-
-add-result-3 : tie.Need-add-result-3
-add-result-3 c =
-    let a = c .before .before .before .before .before .before .args in
-    let w = now (a .w) in
-    omega (arith, c .count-numbers .ensures, c .before .count-number2 .ensures, c .before .before .before .count-number .ensures, decimal-length (word w (a .k)), decimal-length (word w (a .k + 1)), row-short w (a .k + 2) (a .m))
+count-bytes-requires-2 : tie.Need-count-bytes-requires-2
+count-bytes-requires-2 c κs =
+    let four = c .before in
+    let three = four .before in
+    let two = three .before .before in
+    let one = two .before .before in
+    omega (arith, simp length-append at (fits (one .before .before)))
 
 returns : tie.Need-returns
-returns c =
-    let a = c .before .before .before .before .before .before .args in
-    let w = now (a .w) in
-    omega (arith, c .count-numbers .ensures, c .before .count-number2 .ensures, c .before .before .before .count-number .ensures, line-length w (a .k) (a .m))
-
-cast-count-number : tie.Need-cast-count-number
-cast-count-number c = omega (arith, c .shared-slice-known2 .given (c .before .before .args .k))
-
-cast-count-number-2 : tie.Need-cast-count-number-2
-cast-count-number-2 c = omega (arith, c .shared-slice-known3 .given (c .before .before .before .before .args .k + 1))
-
-add-count-numbers-2 : tie.Need-add-count-numbers-2
-add-count-numbers-2 c = search needs
+returns c = simp length-append (omega (arith, simp length-append at (ap length (same (c .before .before .before .before .before .before .before .before .before)))))
 
 pub count-task-spec : {M : Type 1} → statement M
 count-task-spec =
     tie.close
-    (tie.spec mul-count-number shared-slice-read-count-number cast-count-number count-number-requires add-count-number mul-count-number-2 shared-slice-read-count-number-2 cast-count-number-2 count-number-requires-2 add-count-numbers add-count-numbers-2 count-numbers-requires add-result add-result-2 add-result-3 returns)
+    (tie.spec
+    period-of-requires
+    cast-period
+    cycles-of-requires
+    cast-cycles
+    energies-of-requires
+    slice-aggregate-count-field
+    count-field-requires
+    slice-aggregate-count-field-2
+    count-field-requires-2
+    slice-aggregate-count-bytes
+    count-bytes-requires
+    count-numbers-requires
+    slice-aggregate-count-bytes-2
+    count-bytes-requires-2
+    returns)

@@ -1,0 +1,89 @@
+-- The words of a list that passes check 2, the lines that they make, and the whole text.
+-- Assumes nothing.
+use Prim.Native.Nat.{ℕ, _+_, _-_, _≤_, _<_}
+use mathlib.Core.Path.{_≡_, refl, ap, _∙_}
+use mathlib.Core.List.{List, _++_, append-assoc}
+use native.Mathlib.Nat.{zero-add}
+use native.Mathlib.Omega.{arith}
+use lib.ListN.{length, getD, take, drop, length-append}
+use Rattle.layout.specs.Words.{slackPlace, headSize, mostRates, mostTasks, word, rateCount, taskCount, ratePlace, taskCountPlace, taskSize, energyPlace, rate, energy}
+use Rattle.layout.specs.declared.Layout.the-variants.{Ordinary}
+use Rattle.layout.proofs.Whole.{in-list}
+use Rattle.text.specs.Text.{TaskLine, Script, joined, taskText, scriptText, each, lineOf, scriptOf}
+use Rattle.text.proofs.Sizes.{text-length}
+use Rattle.text.proofs.RoundTrip.{each-length, script-of-list}
+use Rattle.writer.specs.Lines.{WithRates, WithTask, WithTasks, slackText, ratesText}
+use Rattle.writer.proofs.Rows.{one-more, one-room, each-at, part}
+
+-- ---- the words of a list that passes check 2
+module _ {w : List ℕ} {m : ℕ} (has : WithRates w m) where
+  pub rates-few : m ≤ mostRates
+  rates-few = omega (arith, has .rates, has .whole .rates-range .1)
+
+  pub rates-inside : taskCountPlace Ordinary m ≤ length w
+  rates-inside = omega (arith, has .rates, has .whole .size)
+
+  pub slack-inside : slackPlace < length w
+  slack-inside = omega (arith, has .whole .size)
+
+  pub rates-are : (a e : ℕ) → a ≡ ratePlace Ordinary 1 → e ≡ taskCountPlace Ordinary m → take (e - a) (drop a w) ≡ scriptOf w .rates
+  unfolding scriptOf
+  rates-are a e x y =
+      part w (rate Ordinary w) (headSize Ordinary) (λ j. refl) 1 m a e x y (omega (arith, rates-inside)) ∙ ap (each (rate Ordinary w) 1) (has .rates)
+
+module _ {w : List ℕ} {m t : ℕ} (has : WithTask w m t) where
+  pub task-few : (m ≤ mostRates) × (t ≤ mostTasks)
+  task-few = (rates-few (has .list), omega (arith, has .task, has .list .whole .tasks-range .1))
+
+  pub task-inside : energyPlace Ordinary m t 1 + m ≤ length w
+  task-inside =
+      rw (has .list .rates)
+      (omega (arith, in-list Ordinary w (has .list .whole) t (taskSize Ordinary (rateCount Ordinary w) - 1) (has .task) (omega arith)))
+
+  pub energies-are : (a e : ℕ) → a ≡ energyPlace Ordinary m t 1 → e ≡ a + m → take (e - a) (drop a w) ≡ lineOf w t .energies
+  energies-are a e x y =
+      let r = has .list .rates in
+      let z : a ≡ energyPlace Ordinary (rateCount Ordinary w) t 0 + 1 = x ∙ ap (λ (k : ℕ). energyPlace Ordinary k t 1) r ∙ omega arith in
+      part w (energy Ordinary w t) (energyPlace Ordinary (rateCount Ordinary w) t 0) (λ j. ap (word w) (omega arith)) 1 (rateCount Ordinary w)
+      a e z (omega (arith, r)) (omega (arith, task-inside))
+
+-- ---- the lines of such a list's tasks
+-- A line by its numbers, and that of the numbers that were taken from the list.
+abbrev pub taskLine : (period cycles : ℕ) → (energies : List ℕ) → TaskLine
+taskLine period cycles energies = record { period = period; cycles = cycles; energies = energies }
+
+pub line-same : (w : List ℕ) (t : ℕ) {p c : ℕ} {e : List ℕ} → p ≡ lineOf w t .period → c ≡ lineOf w t .cycles → e ≡ lineOf w t .energies
+    → taskText (taskLine p c e) ≡ taskText (lineOf w t)
+line-same w t x y z = rw (x, y, z)
+
+module _ {w : List ℕ} {m n : ℕ} (has : WithTasks w m n) where
+  pub tasks-count : length (scriptOf w .tasks) ≡ n
+  unfolding scriptOf
+  tasks-count = omega (arith, each-length (lineOf w) 0 (taskCount Ordinary w), has .tasks)
+
+  module _ (t : ℕ) (h : t < n) where
+    pub task-of : WithTask w m t
+    task-of = record { list = has .list; task = omega (arith, has .tasks) }
+
+    line-is : getD (scriptOf w .tasks) t (lineOf w t) ≡ lineOf w t
+    unfolding scriptOf
+    line-is = each-at (lineOf w) 0 (taskCount Ordinary w) t (task-of .task) (lineOf w t) ∙ ap (lineOf w) (zero-add t)
+
+    pub lines-more : joined taskText (take (t + 1) (scriptOf w .tasks)) ≡ joined taskText (take t (scriptOf w .tasks)) ++ taskText (lineOf w t)
+    lines-more = rw line-is at (one-more taskText (scriptOf w .tasks) t (lineOf w t) (omega (arith, tasks-count)))
+
+    pub lines-room : length (joined taskText (take t (scriptOf w .tasks))) + length (taskText (lineOf w t)) ≤ length (joined taskText (scriptOf w .tasks))
+    lines-room = rw line-is at (one-room taskText (scriptOf w .tasks) t (lineOf w t) (omega (arith, tasks-count)))
+
+-- ---- the whole text
+pub cut : (s : Script) → scriptText s ≡ (slackText (s .slack) ++ ratesText (s .rates)) ++ joined taskText (s .tasks)
+unfolding slackText ratesText
+cut s = simp append-assoc
+
+pub cut-length : (s : Script) → length (scriptText s) ≡ length (slackText (s .slack)) + length (ratesText (s .rates)) + length (joined taskText (s .tasks))
+cut-length s =
+    let head = slackText (s .slack) ++ ratesText (s .rates) in
+    omega (arith, ap length (cut s), length-append head (joined taskText (s .tasks)), length-append (slackText (s .slack)) (ratesText (s .rates)))
+
+pub text-short : {w : List ℕ} {m : ℕ} → WithRates w m → length (scriptText (scriptOf w)) < 5000
+text-short {w} has = text-length (scriptOf w) (scriptText (scriptOf w)) (record { script = script-of-list w (has .whole); text = refl })
