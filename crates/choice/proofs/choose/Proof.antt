@@ -5,13 +5,6 @@ use Rattle.choice.proofs.Choosing.{search-ready, last-low, way-ready, o
 use borrow.Author.Needs.{needs}
 use Rattle.choice.proofs.choose.Statement.{statement}
 use Rattle.choice.proofs.choose.Tie as tie
-use Rattle.choice.proofs.choose.Reads as reads
-use Rattle.choice.proofs.choose.Lts as lts
-use Rattle.choice.proofs.clear.Reads as clear-reads
-use Rattle.choice.proofs.find_unit.Reads as find-unit-reads
-use Rattle.choice.proofs.last_column.Reads as last-column-reads
-use Rattle.choice.proofs.sum.Reads as sum-reads
-use Rattle.choice.proofs.way_back.Reads as way-back-reads
 
 last-column-requires : tie.Need-last-column-requires
 last-column-requires c κs = search needs

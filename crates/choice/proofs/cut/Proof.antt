@@ -6,9 +6,6 @@ use Rattle.table.proofs.Writing.{written-none, written-more, written-to}
 use borrow.Author.Needs.{needs}
 use Rattle.choice.proofs.cut.Statement.{statement}
 use Rattle.choice.proofs.cut.Tie as tie
-use Rattle.choice.proofs.cut.Reads as reads
-use Rattle.choice.proofs.cut.Lts as lts
-use Rattle.choice.proofs.cut_one.Reads as cut-one-reads
 
 abbrev Inv-loop : tie.InvT-loop
 Inv-loop loads n cap load₀ end k₀ load k = (k ≤ n * 16) × Written (cutOf loads cap) 0 k load₀ load

@@ -3,9 +3,6 @@ use Rattle.choice.proofs.Adding.{fastest-same, fastest-ready}
 use borrow.Author.Needs.{needs}
 use Rattle.choice.proofs.fastest_sum.Statement.{statement}
 use Rattle.choice.proofs.fastest_sum.Tie as tie
-use Rattle.choice.proofs.fastest_sum.Reads as reads
-use Rattle.choice.proofs.fastest_sum.Lts as lts
-use Rattle.choice.proofs.sum.Reads as sum-reads
 
 cast-plan : tie.Need-cast-plan
 cast-plan c = search needs

@@ -6,12 +6,6 @@ use Rattle.choice.proofs.Trying.{Trying, trying-start, unit-ready, leas
 use borrow.Author.Needs.{needs}
 use Rattle.choice.proofs.find_unit.Statement.{statement}
 use Rattle.choice.proofs.find_unit.Tie as tie
-use Rattle.choice.proofs.find_unit.Reads as reads
-use Rattle.choice.proofs.find_unit.Lts as lts
-use Rattle.numbers.proofs.least_power.Reads as least-power-reads
-use Rattle.choice.proofs.cut.Reads as cut-reads
-use Rattle.choice.proofs.fastest_sum.Reads as fastest-sum-reads
-use Rattle.choice.proofs.least_energy.Reads as least-energy-reads
 
 abbrev Inv-loop : tie.InvT-loop
 Inv-loop loads energies n m limit slack load cost₀ work₀ cap a₀ unit₀ last₀ cost work a unit last =

@@ -2,11 +2,6 @@ use Rattle.choice.proofs.Trying.{unit-tabled}
 use borrow.Author.Needs.{needs}
 use Rattle.choice.proofs.least_energy.Statement.{statement}
 use Rattle.choice.proofs.least_energy.Tie as tie
-use Rattle.choice.proofs.least_energy.Reads as reads
-use Rattle.choice.proofs.least_energy.Lts as lts
-use Rattle.table.proofs.least_column.Reads as least-column-reads
-use Rattle.choice.proofs.round_up.Reads as round-up-reads
-use Rattle.table.proofs.table.Reads as table-reads
 
 add-columns : tie.Need-add-columns
 add-columns c = search needs

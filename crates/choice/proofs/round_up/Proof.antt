@@ -7,8 +7,6 @@ use Rattle.table.proofs.Writing.{written-none, written-more, written-to}
 use borrow.Author.Needs.{needs}
 use Rattle.choice.proofs.round_up.Statement.{statement}
 use Rattle.choice.proofs.round_up.Tie as tie
-use Rattle.choice.proofs.round_up.Reads as reads
-use Rattle.choice.proofs.round_up.Lts as lts
 
 abbrev Inv-loop : tie.InvT-loop
 Inv-loop energies n a unit cost₀ less end k₀ cost k = (k ≤ n * 16) × Written (costOf energies a) 0 k cost₀ cost

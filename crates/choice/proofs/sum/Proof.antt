@@ -9,8 +9,6 @@ use Rattle.table.specs.Rows.{optionAt}
 use borrow.Author.Needs.{needs}
 use Rattle.choice.proofs.sum.Statement.{statement}
 use Rattle.choice.proofs.sum.Tie as tie
-use Rattle.choice.proofs.sum.Reads as reads
-use Rattle.choice.proofs.sum.Lts as lts
 
 abbrev Inv-loop : tie.InvT-loop
 Inv-loop options n plan s₀ t₀ s t = (t ≤ n) × (s ≡ total (optionAt options) t plan)

@@ -9,9 +9,6 @@ use Rattle.choice.proofs.Ways.{OnWay, way-start, row-here, rate-ready, 
 use borrow.Author.Needs.{needs}
 use Rattle.choice.proofs.way_back.Statement.{statement}
 use Rattle.choice.proofs.way_back.Tie as tie
-use Rattle.choice.proofs.way_back.Reads as reads
-use Rattle.choice.proofs.way_back.Lts as lts
-use Rattle.table.proofs.rate_at.Reads as rate-at-reads
 
 abbrev Inv-loop : tie.InvT-loop
 Inv-loop plan₀ d n t e m cost load cap left₀ i₀ a₀ plan left i a = OnWay cap n t m e cost load plan₀ plan left i a

@@ -6,8 +6,6 @@ use Rattle.table.specs.Rows.{Written}
 use Rattle.table.proofs.Writing.{written-none, written-more, written-to}
 use Rattle.table.proofs.fill.Statement.{statement}
 use Rattle.table.proofs.fill.Tie as tie
-use Rattle.table.proofs.fill.Reads as reads
-use Rattle.table.proofs.fill.Lts as lts
 
 abbrev Inv-loop : tie.InvT-loop
 Inv-loop d₀ lo hi v i₀ d i = (lo ≤ i) × (i ≤ hi) × Written (λ p. v) lo i d₀ d

@@ -7,8 +7,6 @@ use Rattle.table.specs.Rows.{Defined}
 use borrow.Author.Needs.{needs}
 use Rattle.table.proofs.least_column.Statement.{statement}
 use Rattle.table.proofs.least_column.Tie as tie
-use Rattle.table.proofs.least_column.Reads as reads
-use Rattle.table.proofs.least_column.Lts as lts
 
 abbrev Inv-loop : tie.InvT-loop
 Inv-loop d a n cap e₀ e = (e ≤ n) × ((k : ℕ) → 0 ≤ k → k < e → Defined d a cap k → ⊥)

@@ -8,8 +8,6 @@ use Rattle.table.proofs.Rates.{rate-from, rate-to, sum-fits, rate-pass,
 use borrow.Author.Needs.{needs}
 use Rattle.table.proofs.rate_at.Statement.{statement}
 use Rattle.table.proofs.rate_at.Tie as tie
-use Rattle.table.proofs.rate_at.Reads as reads
-use Rattle.table.proofs.rate_at.Lts as lts
 
 abbrev Inv-loop : tie.InvT-loop
 Inv-loop d a e v i m cost load cap r₀ r = (1 ≤ r) × (r ≤ rateOf cap m cost load i e)

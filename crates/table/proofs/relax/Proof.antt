@@ -5,9 +5,6 @@ use Rattle.table.specs.Rows.{Written, relaxed}
 use Rattle.table.proofs.Writing.{written-none, written-more, written-to, relax-sum, relax-turn}
 use Rattle.table.proofs.relax.Statement.{statement}
 use Rattle.table.proofs.relax.Tie as tie
-use Rattle.table.proofs.relax.Reads as reads
-use Rattle.table.proofs.relax.Lts as lts
-use Rattle.table.proofs.lesser.Reads as lesser-reads
 
 abbrev Inv-loop : tie.InvT-loop
 Inv-loop d₀ lo hi s l p₀ d p = (lo ≤ p) × (p ≤ hi) × Written (relaxed s l d₀) lo p d₀ d

@@ -7,10 +7,6 @@ use Rattle.table.specs.Rows.{Written}
 use Rattle.table.proofs.Rows.{done, row-skip, row-turn, row-start, row-prev, row-end, row-relaxable}
 use Rattle.table.proofs.row.Statement.{statement}
 use Rattle.table.proofs.row.Tie as tie
-use Rattle.table.proofs.row.Reads as reads
-use Rattle.table.proofs.row.Lts as lts
-use Rattle.table.proofs.fill.Reads as fill-reads
-use Rattle.table.proofs.relax.Reads as relax-reads
 
 abbrev Inv-loop : tie.InvT-loop
 Inv-loop d₀ a n i m cost load cap b end r₀ d r = (1 ≤ r) × (r ≤ m + 1) × Written (done cap m cost load i (a + n) r) (a + n) (a + n + n) d₀ d

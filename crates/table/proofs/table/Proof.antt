@@ -7,10 +7,6 @@ use Rattle.table.specs.Rows.{Tabled}
 use Rattle.table.proofs.Rows.{next-row, row-within, row-ready, table-start, table-more, table-end, ready-after}
 use Rattle.table.proofs.table.Statement.{statement}
 use Rattle.table.proofs.table.Tie as tie
-use Rattle.table.proofs.table.Reads as reads
-use Rattle.table.proofs.table.Lts as lts
-use Rattle.table.proofs.fill.Reads as fill-reads
-use Rattle.table.proofs.row.Reads as row-reads
 
 abbrev Inv-loop : tie.InvT-loop
 Inv-loop d₀ n t m cost load cap a₀ i₀ d a i = (i ≤ t) × (a ≡ i * n) × Tabled cap n i m cost load d₀ d
