@@ -8,7 +8,7 @@
  * - A list is a pointer and its length: the number of words (uint32_t) or bytes (uint8_t) that are lent. No call reads or
  *   writes outside them.
  * - A pointer is not null and is aligned to its words, also where the length is 0.
- * - Lists lent together do not overlap, unless both are only read.
+ * - Lists lent together do not overlap, unless both are only read; and nothing else changes them during the call.
  * - A call returns 0, or a refusal: its number x 2^32 + its second number (SEEDSPELL_REFUSAL, SEEDSPELL_SECOND).
  * - On a refusal no lent word or byte has changed. On success only those that the call names have.
  * - Calls keep nothing from one to the next, take no memory of their own beyond the stack, and always return.
