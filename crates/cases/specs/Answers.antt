@@ -1,4 +1,4 @@
--- The texts of the answers.
+-- The texts of the test program's answers. Not part of what a reader must believe: no other program or call uses it.
 use Prim.Native.Nat.{ℕ, _+_, _<_}
 use Prim.Native.Char.{code}
 use Prim.Native.String as Str

@@ -1,4 +1,4 @@
--- Numbers in the records and in the answers.
+-- Numbers in the test program's records and answers. Not part of what a reader must believe: no other program or call uses it.
 use Prim.Native.Nat.{ℕ, zero, suc, _+_, _/_, _%_}
 use mathlib.Core.Bool.{cond}
 use mathlib.Core.List.{List, [], _∷_, _++_}

@@ -1,4 +1,5 @@
--- What the readers of items find in the bytes s of a record. Of a record that they turn down nothing is said.
+-- What the readers of items find in the bytes s of a record. Of a record that they turn down nothing is said. Not part of what a
+-- reader must believe: no other program or call uses it.
 use Prim.Native.Nat.{ℕ, _+_, _≤_, _<_}
 use mathlib.Core.Path.{_≡_}
 use mathlib.Core.List.{List, _∷_, _++_}

@@ -1,4 +1,5 @@
--- The bounds of what taking a line answers: the line's bytes are at the front of the list d, and the window lies in the buffer.
+-- The bounds of what taking a line answers: the line's bytes are at the front of the list d, and the window lies in the buffer. Not
+-- part of what a reader must believe: no other program or call uses it.
 use Prim.Native.Nat.{ℕ, _≤_}
 use mathlib.Core.List.{List}
 use Rattle.io.specs.Counts.{Counts}

@@ -19,7 +19,7 @@ pub record Walked (s P : List ℕ) (a : WalkAnswer) : Type 0 where
   pub answers : WalkAnswers s P a
   pub owes : WalkOwes s P a
 
--- BELOW THE CALL.
+-- BELOW THE CALL. Not part of what a reader must believe.
 
 -- Check 8.
 abbrev pub PlanAnswers : ℕ → ℕ → List ℕ → PlanCheck → Type 0
