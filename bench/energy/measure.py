@@ -18,10 +18,10 @@ from pathlib import Path
 sys.dont_write_bytecode = True
 sys.path.insert(0, str(Path(__file__).resolve().parent.parent.parent / 'tests'))
 
-import make_cases as m
 import optimum as o
 import reference as r
 import workload as w
+from records.shared import Draw
 
 COUNTS = (20, 25, 30)
 SLACKS = (100, 500)
@@ -129,7 +129,7 @@ def main(arguments):
     cells = {}
     for number, (kind, N) in enumerate((kind, N) for kind in w.TYPES for N in COUNTS):
         # A generator for each cell: more sets go on from the same first ones.
-        draw = m.Draw(100 * seed + number)
+        draw = Draw(100 * seed + number)
         cells[kind, N] = [Case(w.some_set(draw, kind, N), folder) for _ in range(sets)]
         for slack in SLACKS:
             plan_all(driver, cells[kind, N], slack)

@@ -16,24 +16,25 @@ from pathlib import Path
 sys.dont_write_bytecode = True
 sys.path.insert(0, str(Path(__file__).resolve().parent.parent.parent / 'tests'))
 
-import make_cases as m
 import reference as r
+from records.planner import largest, some_large, some_planned
+from records.shared import FEW_PLANS, Draw, costed, needed, period_of
 
 
 def some_set(draw):
     if draw.between(1, 8) == 1:
-        words = m.some_large(draw)
+        words = some_large(draw)
         if draw.between(1, 4) == 1:
-            words = m.largest(draw, 1, draw.one_of(['random', 'rising', 'small']),
-                              draw.one_of(['short', 'long']))
+            words = largest(draw, 1, draw.one_of(['random', 'rising', 'small']),
+                            draw.one_of(['short', 'long']))
     else:
-        words = m.some_planned(draw)
+        words = some_planned(draw)
     words[0] = draw.one_of([1, 1, 1, 2, 5, 20, 50])
     if draw.between(1, 8) == 1:
         # The fastest rate costs next to nothing, the others as much as there is.
         M, N = words[1], words[2 + words[1]]
         for task in range(1, N + 1):
-            at = m.period_of(M, task) + 2
+            at = period_of(M, task) + 2
             words[at:at + M] = [1_000_000 - draw.between(0, 9) for _ in range(M - 1)] + [1]
     return words
 
@@ -43,7 +44,7 @@ def wide_costs():
     and 2^13 at the fast one: at 32 bits the slow rate would be the cheaper."""
     span = 2 ** 23
     for energy in (524_287, 524_288, 524_289, 1_000_000):
-        yield m.costed((1, 2), [(2, 1, energy, 1)] + [(span, 1, 1, 1)] * 3, 1)
+        yield costed((1, 2), [(2, 1, energy, 1)] + [(span, 1, 1, 1)] * 3, 1)
 
 
 def flat(answer):
@@ -56,14 +57,14 @@ def main(arguments):
         print('use: compare.py PROGRAM [COUNT [SEED]]', file=sys.stderr)
         return 2
     count, seed = (list(map(int, arguments[1:])) + [400, 1][len(arguments) - 1:])
-    draw = m.Draw(seed)
+    draw = Draw(seed)
     questions, wanted = [], []
     sets = list(wide_costs()) + [some_set(draw) for _ in range(count)]
     for number, words in enumerate(sets, 1):
-        N, W = words[2 + words[1]], m.needed(words)
+        N, W = words[2 + words[1]], needed(words)
         J = N - (draw.between(1, 30) == 1)
         A = W - (draw.between(1, 30) == 1)
-        few = words[1] ** N <= m.FEW_PLANS
+        few = words[1] ** N <= FEW_PLANS
         answer = r.plan(words, J, A, 'all' if few else 'table')
         if few and (answer[0] == 'planned' or answer[1] == 7):
             assert r.objection(words, answer, 500) is None, words

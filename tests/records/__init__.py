@@ -1,0 +1,1 @@
+"""The records of the test program, a module for each call. ../make_cases.py is the command."""

@@ -1,0 +1,247 @@
+"""What all records are made with: their limits, the record itself, the answers, sets, texts and
+random choices."""
+
+import random
+import re
+
+SEED = 20_011
+RANDOM_CASES = 3_000
+MOST_WORDS = 400                # of a record's set
+MOST_PLAN = 40                  # of a record's plan
+MOST_LENT = 64                  # words of a plan list lent to the planner
+MOST_WORK = 16_384              # working words lent
+MOST_READ = 400                 # words lent to the reader
+MOST_WRITTEN = 8_192            # bytes lent to the writer
+MOST_PRINTED = 2_048            # bytes lent to the program's call, which never needs more
+MOST_TEXT = 16_384              # bytes of a record's text
+LONGEST_RANDOM = 2_000          # the hyper-period of a random walk: the reference is slow
+RANDOM_PLANS = 1_500
+RANDOM_TEXTS = 500
+RANDOM_LISTS = 300              # each is written and read back
+RANDOM_PROGRAMS = 300           # texts of sets, and
+DAMAGED_PROGRAMS = 200          # damaged ones
+FEW_PLANS = 1_024               # up to so many, the reference looks at all of them
+TOP = 4_294_967_295             # the largest word
+
+questions = []
+answers = []
+names = set()
+
+
+# ------------------------------------------------------------------- records
+
+def record(kind, name, lists, answer, want, lent=()):
+    assert re.fullmatch(r'[a-z0-9-]{1,40}', name), name
+    assert name not in names, name
+    assert want is None or answer == want, '%s: %r, not %r' % (name, answer, want)
+    names.add(name)
+    items = [kind, name]
+    for words, most in zip(lists, (MOST_WORDS, MOST_PLAN)):
+        assert len(words) <= most and all(0 <= word <= TOP for word in words), name
+        items += [len(words), *words]
+    items += lent
+    questions.append(' '.join(map(str, items)))
+    answers.append(' '.join(map(str, (name, *answer))))
+
+
+def on_a_line(text):
+    assert b'/' not in text, text
+    return text.replace(b'\n', b'/').decode('latin-1')
+
+
+def refused(number, second):
+    return ('refused', number, second)
+
+
+def kept(busy, idle, preemptions):
+    return ('kept', busy, idle, preemptions)
+
+
+def missed(tick, task):
+    return ('missed', tick, task)
+
+
+def good(M, N, L):
+    return ('good', M, N, L)
+
+
+def planned(unit, load, L, energy, *rates):
+    return ('planned', unit, load, L, energy, *rates)
+
+
+def was_read(words):
+    return ('read', len(words), *words)
+
+
+def wrote(text):
+    return ('wrote', len(text), on_a_line(text))
+
+
+# ---------------------------------------------------------------------- sets
+
+S = [100, 3, 2, 4, 8, 2, 10, 12, 4, 9, 20, 15, 20, 7, 15, 30]
+
+
+# Periods and job times whose load is L. Added as fractions of 53 bits, and of 24 too,
+# they come to more than 1.
+PAST_ONE = [(30, 7), (60, 33), (60, 9), (60, 4)]
+assert 7 / 30 + 33 / 60 + 9 / 60 + 4 / 60 > 1
+
+
+def task_set(rates, tasks, slack=100):
+    """tasks are pairs of period and cycles; the energy at rate j is j."""
+    words = [slack, len(rates), *rates, len(tasks)]
+    for period, cycles in tasks:
+        words += [period, cycles, *range(1, len(rates) + 1)]
+    return words
+
+
+def costed(rates, tasks, slack=100):
+    """tasks are period, cycles and the energies."""
+    words = [slack, len(rates), *rates, len(tasks)]
+    for task in tasks:
+        assert len(task) == 2 + len(rates), task
+        words += task
+    return words
+
+
+def needed(words):
+    """W of a good list."""
+    M, N = words[1], words[2 + words[1]]
+    return (N + 1) * (4_000 * N // words[0] + 1)
+
+
+def with_periods(periods, M=2):
+    return task_set(range(1, M + 1), [(period, 1) for period in periods])
+
+
+def with_rates(rates, N=1):
+    return task_set(rates, [(10, 1)] * N)
+
+
+def same_tasks(M, N):
+    """A plain good list of M rates and N tasks, also where M or N is not allowed."""
+    return task_set(range(1, M + 1), [(10, 1)] * N)
+
+
+# The range of each kind of word.
+RANGES = {'slack': (1, 1_000), 'm': (2, 8), 'rate': (1, 1_000_000), 'n': (1, 32),
+          'period': (1, 10_000_000), 'cycles': (1, 4_000_000_000), 'energy': (1, 1_000_000)}
+
+
+def places_of(M, N):
+    """A label, the kind and the place of words of every kind, at both ends of a set of N tasks and M rates."""
+    places = [('slack', 'slack', 0), ('m', 'm', 1), ('rate-a', 'rate', 2),
+              ('rate-z', 'rate', last_rate(M)), ('n', 'n', task_count(M))]
+    for end, task in (('a', 1), ('z', N))[:N]:
+        at = period_of(M, task)
+        places += [('period-' + end, 'period', at), ('cycles-' + end, 'cycles', at + 1),
+                   ('energy-%sa' % end, 'energy', at + 2),
+                   ('energy-%sz' % end, 'energy', at + 1 + M)]
+    return places
+
+
+def put(words, place, word):
+    return words[:place] + [word] + words[place + 1:]
+
+
+def last_rate(M):
+    return 1 + M
+
+
+def task_count(M):
+    return 2 + M
+
+
+def period_of(M, task):
+    return 3 + M + (task - 1) * (2 + M)
+
+
+# --------------------------------------------------------------------- texts
+
+def row(items):
+    return ''.join(' %s' % item for item in items)
+
+
+def head_of(slack, rates):
+    return ('(slack %s)\n(rates%s)\n' % (slack, row(rates))).encode('latin-1')
+
+
+def line_of(period, cycles, *energies):
+    return ('(task (period %s) (cycles %s) (energy%s))\n'
+            % (period, cycles, row(energies))).encode('latin-1')
+
+
+def text_of(words):
+    """The text that says a list of words, whatever their ranges. M and N are those of the list."""
+    M = words[1]
+    tasks = [words[at:at + 2 + M] for at in range(3 + M, len(words), 2 + M)]
+    assert words[2 + M] == len(tasks)
+    return head_of(words[0], words[2:2 + M]) + b''.join(line_of(*task) for task in tasks)
+
+
+# ------------------------------------------------------------ random choices
+
+class Draw:
+    """Random choices made of random() alone, which gives the same numbers for
+    a seed with every Python 3; choice, sample and their kind need not."""
+
+    def __init__(self, seed):
+        self.random = random.Random(seed).random
+
+    def between(self, low, high):
+        return low + int(self.random() * (high - low + 1))
+
+    def one_of(self, items):
+        return items[self.between(0, len(items) - 1)]
+
+    def rising(self, count, most):
+        """count different numbers of 1 to most, in order."""
+        found = set()
+        while len(found) < count:
+            found.add(self.between(1, most))
+        return sorted(found)
+
+
+EDGES = [0, 0, 0, 1, 2, 8, 9, 10, 32, 33, 100, 1_000, 1_001, 65_536, 1_000_000, 1_000_001,
+         10_000_000, 10_000_001, 4_000_000_000, 4_000_000_001, TOP, TOP]
+
+
+def damaged(draw, words):
+    """A list with one fault or a few; now and then it is good again."""
+    words = list(words)
+    M = words[1]
+    for _ in range(draw.one_of([1, 1, 1, 2, 2, 3])):
+        if len(words) < 3:
+            break
+        how = draw.one_of(['edge', 'edge', 'edge', 'remove', 'insert', 'cut', 'more', 'swap',
+                           'swap', 'rates', 'rates', 'count', 'period'])
+        place = draw.between(0, len(words) - 1)
+        if how == 'edge':
+            words[place] = draw.one_of(EDGES)
+        elif how == 'remove':
+            del words[place]
+        elif how == 'insert':
+            words.insert(place, draw.one_of([1, 2, 5] + EDGES))
+        elif how == 'cut':
+            del words[place:]
+        elif how == 'more':
+            words += [draw.one_of([1, 2, 5] + EDGES) for _ in range(draw.between(1, 4))]
+        elif how == 'swap' and place > 0:
+            words[place - 1], words[place] = words[place], words[place - 1]
+        elif how == 'rates' and len(words) > 2 + M:
+            a, b = draw.between(2, 1 + M), draw.between(2, 1 + M)
+            if draw.between(0, 1):
+                words[a] = words[b]
+            else:
+                words[a], words[b] = words[b], words[a]
+        elif how == 'count':
+            at = draw.one_of([1, 2 + M])
+            if at < len(words) and 0 < words[at] < TOP:
+                words[at] += draw.one_of([1, -1])
+        elif how == 'period' and len(words) > 3 + M:
+            tasks = (len(words) - 3 - M) // (2 + M)
+            at = 3 + M + (2 + M) * draw.between(0, max(0, tasks - 1))
+            if at < len(words):
+                words[at] = draw.one_of([9_999_991, 9_999_999, 10_000_000, 7_654_321, 1_048_576])
+    return words
