@@ -2,7 +2,7 @@
 // powers of two. specs/ defines each once, proofs/ has its laws, and here is the code that works one out. Tasks, words and
 // times are left to the crates above.
 ghost use mathlib.Core.Path.{_≡_};
-ghost use Prim.Native.Nat.{_^_, _≤_};
+ghost use Prim.Native.Nat.{_^_, _≤_, min};
 ghost use Rattle.numbers.specs.Numbers.{between, gcd, LeastPower};
 
 // Whether w is low to high.
@@ -10,6 +10,13 @@ pub fn is_between(low: u64, high: u64, w: u64) -> bool
     ensures { λ r. ⌜ r ≡ between low high w ⌝ }
 {
     if low <= w { w <= high } else { false }
+}
+
+// The lesser of two numbers.
+pub fn lesser(x: u32, y: u32) -> u32
+    ensures { λ r. ⌜ r ≡ min x y ⌝ }
+{
+    if y < x { y } else { x }
 }
 
 // The greatest common divisor, by Euclid's division: the second number falls at each turn.

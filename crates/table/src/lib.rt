@@ -3,7 +3,7 @@
 // number is shifted by one and a place is found without a product. Loads are cut at cap, which stands for 'none', so that every sum
 // of two words fits.
 ghost use mathlib.Core.Path.{_≡_};
-ghost use Prim.Native.Nat.{_+_, _-_, _≤_, _<_, min};
+ghost use Prim.Native.Nat.{_+_, _-_, _≤_, _<_};
 ghost use lib.ListN.{length};
 ghost use Rattle.numbers.specs.Search.{Found};
 ghost use Rattle.table.specs.Rows.{Written, Relaxable, relaxed, RowReady, rowOf, TableReady, Tabled, Defined, RateReady, rateOf};
@@ -20,12 +20,6 @@ pub fn fill(d: &mut [u32], lo: usize, hi: usize, v: u32)
     }
 }
 
-fn lesser(x: u32, y: u32) -> u32
-    ensures { λ r. ⌜ r ≡ min x y ⌝ }
-{
-    if y < x { y } else { x }
-}
-
 // Lowers each word of d from lo up to hi to l more than the word s places before it, where that is less.
 fn relax(d: &mut [u32], lo: usize, hi: usize, s: usize, l: u32)
     requires { ⌜ Relaxable lo hi s l (now d) ⌝ }
@@ -33,7 +27,7 @@ fn relax(d: &mut [u32], lo: usize, hi: usize, s: usize, l: u32)
 {
     let mut p = lo;
     while p < hi {
-        d[p] = lesser(d[p], d[p - s] + l);
+        d[p] = numbers::lesser(d[p], d[p - s] + l);
         p += 1;
     }
 }
