@@ -4,19 +4,20 @@ use mathlib.Core.Path.{_≡_}
 use mathlib.Core.List.{List}
 use lib.ListN.{length, getD}
 use Rattle.selection.proofs.Cells.{entry, rateTo}
+use Rattle.table.specs.declared.Frame.{Frame}
 
 -- What stands for rate number r of the task at place t.
 abbrev pub optionAt : List ℕ → ℕ → ℕ → ℕ
 optionAt s t r = getD s (t * 16 + r) 0
 
--- The table's entry in row i, column e.
-abbrev pub entryOf : ℕ → ℕ → List ℕ → List ℕ → ℕ → ℕ → ℕ
-entryOf cap m cost load = entry (optionAt cost) (optionAt load) m cap
+-- The table's entry in row i, the one after i tasks, column e.
+abbrev pub entryOf : Frame → List ℕ → List ℕ → ℕ → ℕ → ℕ
+entryOf f cost load = entry (optionAt cost) (optionAt load) (f .rates) (f .cap)
 
--- d is d₀ with the places from lo up to hi holding f, and every other place as it was.
-pub record Written (f : ℕ → ℕ) (lo hi : ℕ) (d₀ d : List ℕ) : Type 0 where
+-- d is d₀ with the places from lo up to hi holding g, and every other place as it was.
+pub record Written (g : ℕ → ℕ) (lo hi : ℕ) (d₀ d : List ℕ) : Type 0 where
   pub same : length d ≡ length d₀
-  pub here : (p : ℕ) → lo ≤ p → p < hi → getD d p 0 ≡ f p
+  pub here : (p : ℕ) → lo ≤ p → p < hi → getD d p 0 ≡ g p
   pub below : (p : ℕ) → p < lo → getD d p 0 ≡ getD d₀ p 0
   pub above : (p : ℕ) → hi ≤ p → getD d p 0 ≡ getD d₀ p 0
 
@@ -32,48 +33,54 @@ pub record Relaxable (lo hi s l : ℕ) (d : List ℕ) : Type 0 where
   pub apart : hi ≤ lo + s
   pub sums : (p : ℕ) → lo ≤ p → p < hi → getD d (p - s) 0 + l < 2 ^ 32
 
--- Row i + 1 where it stands from b on.
-abbrev pub rowOf : ℕ → ℕ → List ℕ → List ℕ → ℕ → ℕ → ℕ → ℕ
-rowOf cap m cost load i b p = entryOf cap m cost load (i + 1) (p - b)
+-- The sizes that every table keeps to, and loads that are cut at the cap.
+pub record Framed (f : Frame) (load : List ℕ) : Type 0 where
+  pub tasks : f .tasks ≤ 32
+  pub rates : f .rates ≤ 8
+  pub small : f .cap + f .cap < 2 ^ 32
+  pub loads : (k : ℕ) → getD load k 0 ≤ f .cap
 
--- What a row asks: two rows of n words from a on are within d, and the first of them is row i.
-pub record RowReady (cap n a i m : ℕ) (cost load d : List ℕ) : Type 0 where
-  pub tasks : i < 32
-  pub rates : m ≤ 8
-  pub small : cap + cap < 2 ^ 32
-  pub loads : (k : ℕ) → getD load k 0 ≤ cap
-  pub rows : a + n + n ≤ length d
-  pub prev : (e : ℕ) → e < n → getD d (a + e) 0 ≡ entryOf cap m cost load i e
+-- The row from start on is row i.
+abbrev pub RowAt : Frame → ℕ → ℕ → List ℕ → List ℕ → List ℕ → Type 0
+RowAt f start i cost load d = (e : ℕ) → e < f .columns → getD d (start + e) 0 ≡ entryOf f cost load i e
 
--- What the table asks: t + 1 rows of n words are within d.
-pub record TableReady (cap n t m : ℕ) (load d : List ℕ) : Type 0 where
-  pub tasks : t ≤ 32
-  pub rates : m ≤ 8
-  pub small : cap + cap < 2 ^ 32
-  pub loads : (k : ℕ) → getD load k 0 ≤ cap
-  pub words : (t + 1) * n ≤ length d
+-- What a row asks: two rows from start on are within d, and the first of them is the row before the task.
+pub record RowReady (f : Frame) (start task : ℕ) (cost load d : List ℕ) : Type 0 where
+  pub framed : Framed f load
+  pub is-task : task < f .tasks
+  pub rows : start + f .columns + f .columns ≤ length d
+  pub prev : RowAt f start task cost load d
 
--- d is d₀ with the table of t tasks and n columns at its front, and every other place as it was.
-pub record Tabled (cap n t m : ℕ) (cost load d₀ d : List ℕ) : Type 0 where
+-- What it gives: the second is the row after the task, and every other place is as it was.
+abbrev pub RowWritten : Frame → ℕ → ℕ → List ℕ → List ℕ → List ℕ → List ℕ → Type 0
+RowWritten f start task cost load =
+    Written (λ p. entryOf f cost load (task + 1) (p - (start + f .columns))) (start + f .columns) (start + f .columns + f .columns)
+
+-- What the table asks: its rows are within d.
+pub record TableReady (f : Frame) (load d : List ℕ) : Type 0 where
+  pub framed : Framed f load
+  pub words : (f .tasks + 1) * f .columns ≤ length d
+
+-- d is d₀ with the rows 0 to n of the table at its front, and every other place as it was.
+pub record Tabled (f : Frame) (n : ℕ) (cost load d₀ d : List ℕ) : Type 0 where
   pub same : length d ≡ length d₀
-  pub cells : (i e : ℕ) → i ≤ t → e < n → getD d (i * n + e) 0 ≡ entryOf cap m cost load i e
-  pub above : (p : ℕ) → (t + 1) * n ≤ p → getD d p 0 ≡ getD d₀ p 0
+  pub cells : (i : ℕ) → i ≤ n → RowAt f (i * f .columns) i cost load d
+  pub above : (p : ℕ) → (n + 1) * f .columns ≤ p → getD d p 0 ≡ getD d₀ p 0
 
--- The word in column e of the row from a on is not 'none'.
+-- The word in column e of the row from start on is not 'none'.
 abbrev pub Defined : List ℕ → ℕ → ℕ → ℕ → Type 0
-Defined d a cap e = getD d (a + e) 0 < cap
+Defined d start cap e = getD d (start + e) 0 < cap
 
--- The lowest rate number that makes the entry in row i + 1, column e.
-abbrev pub rateOf : ℕ → ℕ → List ℕ → List ℕ → ℕ → ℕ → ℕ
-rateOf cap m cost load i e = rateTo (optionAt cost) (optionAt load) m cap i e (m + 1)
+-- The lowest rate number of the task that makes the entry in column e of the row after it.
+abbrev pub rateOf : Frame → List ℕ → List ℕ → ℕ → ℕ → ℕ
+rateOf f cost load task e = rateTo (optionAt cost) (optionAt load) (f .rates) (f .cap) task e (f .rates + 1)
 
--- What the search for a rate asks: row i up to column e from a on, and the entry in row i + 1, column e, that it is to make.
-pub record RateReady (cap a e v i m : ℕ) (cost load d : List ℕ) : Type 0 where
-  pub tasks : i < 32
-  pub rates : m ≤ 8
-  pub small : cap + cap < 2 ^ 32
-  pub loads : (k : ℕ) → getD load k 0 ≤ cap
-  pub within : a + e < length d
-  pub prev : (j : ℕ) → j ≤ e → getD d (a + j) 0 ≡ entryOf cap m cost load i j
-  pub makes : v ≡ entryOf cap m cost load (i + 1) e
-  pub some : v < cap
+-- What the search for a rate asks: the rows before and after the task, from start on, and a column of the second that is not 'none'.
+pub record RateReady (f : Frame) (start column task : ℕ) (cost load d : List ℕ) : Type 0 where
+  pub framed : Framed f load
+  pub is-task : task < f .tasks
+  pub rows : start + f .columns + f .columns ≤ length d
+  pub prev : RowAt f start task cost load d
+  pub next : RowAt f (start + f .columns) (task + 1) cost load d
+  pub place : column < f .columns
+  pub some : entryOf f cost load (task + 1) column < f .cap

@@ -1,12 +1,21 @@
-// The table that finds the plan, over arrays of costs and loads: which costs these are, and which way is taken through it, are left
-// to others. Options stand by task and rate number: the one of the task at place t with rate number r at t * 16 + r, so that no
-// number is shifted by one and a place is found without a product. Loads are cut at cap, which stands for 'none', so that every sum
-// of two words fits.
+// The table that finds the plan, over arrays of costs and loads: which costs these are, and which way is taken through
+// it, are left to others. Options stand by task and rate number: the one of the task at place t with rate number r at
+// t * 16 + r, so that no number is shifted by one and a place is found without a product. Loads are cut at cap, which
+// stands for 'none', so that every sum of two words fits.
 ghost use mathlib.Core.Path.{_≡_};
-ghost use Prim.Native.Nat.{_+_, _-_, _≤_, _<_};
+ghost use Prim.Native.Nat.{_+_, _≤_};
 ghost use lib.ListN.{length};
 ghost use Rattle.numbers.specs.Search.{Found};
-ghost use Rattle.table.specs.Rows.{Written, Relaxable, relaxed, RowReady, rowOf, TableReady, Tabled, Defined, RateReady, rateOf};
+ghost use Rattle.table.specs.Rows.{Written, Relaxable, relaxed, RowReady, RowWritten, TableReady, Tabled, Defined, RateReady, rateOf};
+
+// The size of a table: a row for no task and one more for each task, so many columns a row, and the rate numbers 1 to
+// `rates` of each task; and the cap of its loads.
+pub struct Frame {
+    pub tasks: usize,
+    pub rates: usize,
+    pub columns: usize,
+    pub cap: u32,
+}
 
 // Sets the words of d from lo up to hi to v.
 pub fn fill(d: &mut [u32], lo: usize, hi: usize, v: u32)
@@ -32,92 +41,78 @@ fn relax(d: &mut [u32], lo: usize, hi: usize, s: usize, l: u32)
     }
 }
 
-// Writes the row after the task at place i: the n words that follow the row of n words from a on.
-fn row(
-    d: &mut [u32],
-    a: usize,
-    n: usize,
-    i: usize,
-    m: usize,
-    cost: &[usize; 512],
-    load: &[u32; 512],
-    cap: u32,
-)
-    requires { ⌜ RowReady cap n a i m (now cost) (now load) (now d) ⌝ }
-    ensures { λ _. ⌜ Written (rowOf cap m (now (cost .entry)) (now (load .entry)) i (a + n)) (a + n) (a + n + n) (now (d .entry)) (now (d .exit)) ⌝ }
+// Writes the row after the task at a place, behind the row before it, which begins at `start`.
+fn row(d: &mut [u32], f: Frame, start: usize, task: usize, cost: &[usize; 512], load: &[u32; 512])
+    requires { ⌜ RowReady f start task (now cost) (now load) (now d) ⌝ }
+    ensures { λ _. ⌜ RowWritten f start task (now (cost .entry)) (now (load .entry)) (now (d .entry)) (now (d .exit)) ⌝ }
 {
-    let b = a + n;
-    let end = b + n;
-    fill(d, b, end, cap);
+    let columns = f.columns;
+    let here = start + columns;
+    let end = here + columns;
+    fill(d, here, end, f.cap);
     let mut r = 1;
-    while r <= m {
-        let c = cost[i * 16 + r];
-        let l = load[i * 16 + r];
-        if c < n {
-            relax(d, b + c, end, n + c, l);
+    while r <= f.rates {
+        let c = cost[task * 16 + r];
+        let l = load[task * 16 + r];
+        if c < columns {
+            relax(d, here + c, end, columns + c, l);
         }
         r += 1;
     }
 }
 
-// Writes the table of t tasks: t + 1 rows of n words, the first of them zeros.
-pub fn table(
-    d: &mut [u32],
-    n: usize,
-    t: usize,
-    m: usize,
-    cost: &[usize; 512],
-    load: &[u32; 512],
-    cap: u32,
-)
-    requires { ⌜ TableReady cap n t m (now load) (now d) ⌝ }
-    ensures { λ _. ⌜ Tabled cap n t m (now (cost .entry)) (now (load .entry)) (now (d .entry)) (now (d .exit)) ⌝ }
+// Writes a table, the first row of which is zeros.
+pub fn table(d: &mut [u32], f: Frame, cost: &[usize; 512], load: &[u32; 512])
+    requires { ⌜ TableReady f (now load) (now d) ⌝ }
+    ensures { λ _. ⌜ Tabled f (f .tasks) (now (cost .entry)) (now (load .entry)) (now (d .entry)) (now (d .exit)) ⌝ }
 {
-    fill(d, 0, n, 0);
-    let mut a = 0;
-    let mut i = 0;
-    while i < t {
-        row(d, a, n, i, m, cost, load, cap);
-        a += n;
-        i += 1;
+    let tasks = f.tasks;
+    let columns = f.columns;
+    fill(d, 0, columns, 0);
+    let mut start = 0;
+    let mut task = 0;
+    while task < tasks {
+        row(d, f, start, task, cost, load);
+        start += columns;
+        task += 1;
     }
 }
 
-// The least column, of the n words of d from a on, that is not 'none'; n where all are.
-pub fn least_column(d: &[u32], a: usize, n: usize, cap: u32) -> usize
-    requires { ⌜ a + n ≤ length (now d) ⌝ }
-    ensures { λ r. ⌜ Found (Defined (now (d .entry)) a cap) 0 n r ⌝ }
+// The least column, of the row that begins at `start`, that is not 'none'; `columns` where all are.
+pub fn least_column(d: &[u32], start: usize, columns: usize, cap: u32) -> usize
+    requires { ⌜ start + columns ≤ length (now d) ⌝ }
+    ensures { λ r. ⌜ Found (Defined (now (d .entry)) start cap) 0 columns r ⌝ }
 {
-    let mut e = 0;
-    while e < n {
-        if d[a + e] < cap {
-            return e;
+    let mut column = 0;
+    while column < columns {
+        if d[start + column] < cap {
+            return column;
         }
-        e += 1;
+        column += 1;
     }
-    e
+    column
 }
 
-// The lowest rate number of the task at place i that makes the entry v, in column e of the row after the one from a on.
+// The lowest rate number of the task at a place that makes the entry in a column of its row, where the row before that
+// begins at `start`.
 pub fn rate_at(
     d: &[u32],
-    a: usize,
-    e: usize,
-    v: u32,
-    i: usize,
-    m: usize,
+    f: Frame,
+    start: usize,
+    column: usize,
+    task: usize,
     cost: &[usize; 512],
     load: &[u32; 512],
-    cap: u32,
 ) -> usize
-    requires { ⌜ RateReady cap a e v i m (now cost) (now load) (now d) ⌝ }
-    ensures { λ r. ⌜ r ≡ rateOf cap m (now (cost .entry)) (now (load .entry)) i e ⌝ }
+    requires { ⌜ RateReady f start column task (now cost) (now load) (now d) ⌝ }
+    ensures { λ r. ⌜ r ≡ rateOf f (now (cost .entry)) (now (load .entry)) task column ⌝ }
 {
+    let made = d[start + f.columns + column];
     let mut r = 1;
-    while r <= m {
-        let c = cost[i * 16 + r];
-        if c <= e {
-            if d[a + (e - c)] + load[i * 16 + r] == v {
+    while r <= f.rates {
+        let c = cost[task * 16 + r];
+        if c <= column {
+            if d[start + (column - c)] + load[task * 16 + r] == made {
                 return r;
             }
         }

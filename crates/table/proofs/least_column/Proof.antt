@@ -9,10 +9,10 @@ use Rattle.table.proofs.least_column.Statement.{statement}
 use Rattle.table.proofs.least_column.Tie as tie
 
 abbrev Inv-loop : tie.InvT-loop
-Inv-loop d a n cap e₀ e = (e ≤ n) × ((k : ℕ) → 0 ≤ k → k < e → Defined d a cap k → ⊥)
+Inv-loop d start columns cap column₀ column = (column ≤ columns) × ((k : ℕ) → 0 ≤ k → k < column → Defined d start cap k → ⊥)
 
 abbrev μ-loop : tie.MeasureT-loop
-μ-loop d a n cap e₀ e = n - e
+μ-loop d start columns cap column₀ column = columns - column
 
 loop-holds : tie.Need-loop-holds Inv-loop μ-loop
 loop-holds c = (omega arith, (λ k a b. absurd (omega arith)))
@@ -29,8 +29,8 @@ shared-slice-read-if1 c = search needs
 returns : tie.Need-returns Inv-loop μ-loop
 returns c = found-here (omega arith) (c .before .before .before .loop .inv .1) (omega arith) (c .if1 .taken)
 
-add-e : tie.Need-add-e Inv-loop μ-loop
-add-e c = search needs
+add-column : tie.Need-add-column Inv-loop μ-loop
+add-column c = search needs
 
 loop-less : tie.Need-loop-less Inv-loop μ-loop
 loop-less c = search needs
@@ -52,7 +52,7 @@ least-column-spec =
     mul-if1
     shared-slice-read-if1
     returns
-    add-e
+    add-column
     loop-less
     loop-again
     returns-2)

@@ -1,21 +1,32 @@
-use borrow.Author.Needs.{needs}
+-- The invariant: the row holds the least loads by the rate numbers below the one in hand.
+-- Assumes nothing.
+use Prim.Native.Nat.{_≤_, _-_, _+_}
 use mathlib.Core.Path.{refl, _∙_}
 use mathlib.Core.Logic.{⊎-elim}
-use Prim.Native.Nat.{_≤_, _-_, _+_}
 use native.Mathlib.Omega.{arith}
-use Rattle.table.specs.Rows.{Written}
-use Rattle.table.proofs.Rows.{done, row-skip, row-turn, row-start, row-prev, row-end, row-relaxable}
+use Rattle.table.proofs.Rows.{RowTo, row-start, row-skip, row-relaxable, row-turn, row-end}
+use borrow.Author.Needs.{needs}
 use Rattle.table.proofs.row.Statement.{statement}
 use Rattle.table.proofs.row.Tie as tie
 
 abbrev Inv-loop : tie.InvT-loop
-Inv-loop d₀ a n i m cost load cap b end r₀ d r = (1 ≤ r) × (r ≤ m + 1) × Written (done cap m cost load i (a + n) r) (a + n) (a + n + n) d₀ d
+Inv-loop d₀ f start task cost load columns here end r₀ d r = (1 ≤ r) × (r ≤ f .rates + 1) × RowTo f task cost load r here end d₀ d
 
 abbrev μ-loop : tie.MeasureT-loop
-μ-loop d₀ a n i m cost load cap b end r₀ d r = m + 1 - r
+μ-loop d₀ f start task cost load columns here end r₀ d r = f .rates + 1 - r
 
-add-b : tie.Need-add-b Inv-loop μ-loop
-add-b c = search needs
+-- The way back from where a rate's cost and load were read.
+abbrev at-loop : tie.After-l Inv-loop μ-loop → tie.At-loop Inv-loop μ-loop
+at-loop c = c .before .before .before .before
+
+abbrev start : tie.At-loop Inv-loop μ-loop → tie.Start Inv-loop μ-loop
+start a = a .before .before .before .before .before .before
+
+abbrev to-fill : tie.At-loop Inv-loop μ-loop → tie.After-fill Inv-loop μ-loop
+to-fill a = a .before .before .before
+
+add-here : tie.Need-add-here Inv-loop μ-loop
+add-here c = search needs
 
 add-end : tie.Need-add-end Inv-loop μ-loop
 add-end c = search needs
@@ -26,8 +37,7 @@ fill-requires c κs = search needs
 loop-holds : tie.Need-loop-holds Inv-loop μ-loop
 loop-holds c =
     let f = c .before .before in
-    let g = f .before .before .before in
-    (omega arith, omega arith, row-start (g .args .cap) (g .args .m) (g .args .cost .now) (g .args .load .now) (g .args .i) (g .args .a) (g .args .n) _ _ (f .fill .ensures))
+    (omega arith, omega arith, row-start (f .before .before .before .pre) (f .fill .ensures))
 
 mul-c : tie.Need-mul-c Inv-loop μ-loop
 mul-c c = search needs
@@ -61,10 +71,8 @@ add-relax-2 c = search needs
 
 relax-requires : tie.Need-relax-requires Inv-loop μ-loop
 relax-requires c κs =
-    let a = c .before .before .before .before .before in
-    let f = a .before .before .before in
-    let g = f .before .before .before in
-    row-relaxable (g .args .cap) (g .args .m) (g .args .cost .now) (g .args .load .now) (g .args .i) (g .args .a) (g .args .n) _ _ (f .fill .ensures) _ _ _ (f .before .before .before .pre) (a .loop .inv .2) (omega arith)
+    let a = at-loop (c .before .before) in
+    row-relaxable (start a .pre) (to-fill a .fill .ensures) (a .loop .r) (a .loop .inv .2) _ _ (omega arith)
 
 add-r : tie.Need-add-r Inv-loop μ-loop
 add-r c = search needs
@@ -74,23 +82,18 @@ loop-less c = search needs
 
 loop-again : tie.Need-loop-again Inv-loop μ-loop
 loop-again c =
-    let a = c .before .before .before .before in
-    let f = a .before .before .before in
-    let g = f .before .before .before in
+    let a = at-loop (c .before) in
+    let g = start a .pre in
     ⊎-elim
-    (λ w. (omega arith, omega arith, rw (w .5) (row-turn (g .args .cap) (g .args .m) (g .args .cost .now) (g .args .load .now) (g .args .i) (g .args .a) (g .args .n) (a .loop .r) _ _ (a .loop .inv .2) (row-prev (g .args .cap) (g .args .m) (g .args .cost .now) (g .args .load .now) (g .args .i) (g .args .a) (g .args .n) _ _ (f .fill .ensures) (f .before .before .before .pre)) (omega arith) refl (w .2 .ensures))))
-    (λ w. (omega arith, omega arith, rw (w .1) (row-skip (g .args .cap) (g .args .m) (g .args .cost .now) (g .args .load .now) (g .args .i) (g .args .a) (g .args .n) (a .loop .r) _ _ (a .loop .inv .2) (w .0 .left))))
-    (c .if1 .came)
+    (λ w. (omega arith, omega arith, rw (w .5) (row-turn g (to-fill a .fill .ensures) (a .loop .r) (a .loop .inv .2) (omega arith) refl (w .2 .ensures))))
+    (λ w. (omega arith, omega arith, rw (w .1) (row-skip g (to-fill a .fill .ensures) (a .loop .r) (a .loop .inv .2) (w .0 .left))))
+    (c .if2 .came)
 
 same-length : tie.Need-same-length Inv-loop μ-loop
-same-length c = let a = c .before in a .loop .inv .2 .same ∙ a .before .before .before .fill .ensures .same
+same-length c = let a = c .before .before in a .loop .inv .2 .same ∙ to-fill a .fill .ensures .same
 
 returns : tie.Need-returns Inv-loop μ-loop
-returns c =
-    let a = c .before in
-    let f = a .before .before .before in
-    let g = f .before .before .before in
-    row-end (g .args .cap) (g .args .m) (g .args .cost .now) (g .args .load .now) (g .args .i) (g .args .a) (g .args .n) _ _ (f .fill .ensures) _ (omega arith) (a .loop .inv .2)
+returns c = let a = c .before .before in row-end (start a .pre) (to-fill a .fill .ensures) (a .loop .r) (a .loop .inv .2) (omega arith)
 
 pub row-spec : {M : Type 1} → statement M
 row-spec =
@@ -98,7 +101,7 @@ row-spec =
     (tie.spec
     Inv-loop
     μ-loop
-    add-b
+    add-here
     add-end
     fill-requires
     loop-holds
