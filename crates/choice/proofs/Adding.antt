@@ -8,6 +8,7 @@ use native.Mathlib.Numerals.{add-one}
 use native.Mathlib.Omega.{arith}
 use lib.ListN.{getD, replicate, length-replicate, getD-replicate}
 use Rattle.numbers.specs.Numbers.{total}
+use Rattle.numbers.specs.declared.Power.{Power}
 use Rattle.numbers.proofs.Sums.{total-more, total-bound, total-same}
 use Rattle.numbers.proofs.Powers.{power-positive}
 use Rattle.table.specs.Rows.{optionAt}
@@ -21,29 +22,30 @@ sum-low options plan t small few =
 pub sum-turn : (f : ℕ → ℕ → ℕ) (t : ℕ) (P : List ℕ) {s : ℕ} → s ≡ total f t P → s + f t (getD P t 0) ≡ total f (t + 1) P
 sum-turn f t P e = rw (add-one t) (ap (λ (x : ℕ). x + f t (getD P t 0)) e ∙ sym (total-more f t P))
 
--- A list of 32 times m says of n tasks what one of n times m says.
-module _ (n m : ℕ) (few : n ≤ 32) where
-  every : (t : ℕ) → t < n → getD (replicate {A = ℕ} 32 m) t 0 ≡ m
-  every t l = getD-replicate 32 t m 0 (omega arith)
+-- A list of 32 times a rate number says of so many tasks what one of their length says.
+module _ (tasks rates : ℕ) (few : tasks ≤ 32) where
+  every : (t : ℕ) → t < tasks → getD (replicate {A = ℕ} 32 rates) t 0 ≡ rates
+  every t l = getD-replicate 32 t rates 0 (omega arith)
 
-  pub fastest-same : (f : ℕ → ℕ → ℕ) → total f n (replicate 32 m) ≡ total f n (replicate n m)
-  fastest-same f = total-same f f n (replicate 32 m) (replicate n m) (λ t l. ap (f t) (every t l ∙ sym (getD-replicate n t m 0 l)))
+  pub fastest-same : (f : ℕ → ℕ → ℕ) → total f tasks (replicate 32 rates) ≡ total f tasks (replicate tasks rates)
+  fastest-same f =
+      total-same f f tasks (replicate 32 rates) (replicate tasks rates) (λ t l. ap (f t) (every t l ∙ sym (getD-replicate tasks t rates 0 l)))
 
-  pub fastest-ready : (options : List ℕ) → m ≤ 8 → Small options → SumReady n options (replicate 32 m)
+  pub fastest-ready : (options : List ℕ) → rates ≤ 8 → Small options → SumReady tasks options (replicate 32 rates)
   fastest-ready options h small = record {
-    tasks = few;
-    room = omega (arith, length-replicate {A = ℕ} 32 m);
+    few = few;
+    room = omega (arith, length-replicate {A = ℕ} 32 rates);
     numbers = λ t l. rw (every t l) h;
     small = small;
   }
 
 -- ---- costs
-module _ {n a unit : ℕ} {energies cost : List ℕ} (g : RoundReady n a unit energies cost) where
-  pub unit-positive : 1 ≤ unit
-  unit-positive = rw (g .power) (power-positive a)
+module _ {tasks : ℕ} {unit : Power} {energies cost : List ℕ} (g : RoundReady tasks unit energies cost) where
+  pub unit-positive : 1 ≤ unit .value
+  unit-positive = rw (g .power) (power-positive (unit .exponent))
 
-  pub unit-low : unit ≤ 2 ^ 63
+  pub unit-low : unit .value ≤ 2 ^ 63
   unit-low = rw (g .power) (pow-le-pow-right (omega arith) (g .low))
 
-  pub cost-is : (k : ℕ) → (getD energies k 0 + (unit - 1)) / 2 ^ a ≡ costOf energies a k
+  pub cost-is : (k : ℕ) → (getD energies k 0 + (unit .value - 1)) / 2 ^ (unit .exponent) ≡ costOf energies (unit .exponent) k
   cost-is k = rw (g .power) refl

@@ -14,8 +14,10 @@ use Rattle.selection.specs.Plan.{Fitting, IsChosenOf, lastColumn, workWords}
 use Rattle.selection.proofs.Bounds.{last-small}
 use Rattle.selection.proofs.Agree.{way-places}
 use Rattle.table.specs.Rows.{optionAt, Written}
+use Rattle.choice.specs.declared.Request.{Request}
+use Rattle.choice.specs.declared.Used.{Used}
 use Rattle.choice.specs.Choice.{arrays, ChoiceReady, Chose}
-use Rattle.choice.specs.Units.{Small, SumReady, WayReady, WayTaken, SearchReady, UnitUsed}
+use Rattle.choice.specs.Units.{frameOf, Small, SumReady, WayReady, WayTaken, SearchReady, UnitUsed}
 use Rattle.choice.proofs.Trying.{narrow-words, chosen-is}
 
 -- ---- lists from their words
@@ -52,78 +54,74 @@ rest-same n d₀ d size same =
     (λ i h. getD-drop n d i 0 ∙ same (n + i) (omega arith) ∙ sym (getD-drop n d₀ i 0))
 
 -- ---- the choice
-module _ {n m limit slack : ℕ} {loads energies plan₀ work₀ : List ℕ} (g : ChoiceReady n m limit slack loads energies plan₀ work₀) where
-  pub search-ready : SearchReady n m limit slack loads energies (replicate 512 0) (replicate 512 0) work₀
+module _ {q : Request} {loads energies plan₀ work₀ : List ℕ} (g : ChoiceReady q loads energies plan₀ work₀) where
+  pub search-ready : SearchReady q loads energies (replicate 512 0) (replicate 512 0) work₀
   search-ready = record {
-    tasks = g .tasks;
-    rates = g .rates;
-    small = g .small;
-    slacks = g .slacks;
+    asked = g .asked;
     energies-fit = g .energies-fit;
     load-size = length-replicate {A = ℕ} 512 0;
     load-none = zeros-at 512;
     cost-size = length-replicate {A = ℕ} 512 0;
-    fits = g .fits;
     work-room = g .work-room;
   }
 
-  pub last-low : lastColumn n slack ≤ 128000
-  last-low = last-small n slack (g .tasks) (g .slacks .0)
+  pub last-low : lastColumn (q .tasks) (q .slack) ≤ 128000
+  last-low = last-small (q .tasks) (q .slack) (g .asked .tasks) (g .asked .slacks .0)
 
-  module _ {load cost work : List ℕ} {unit last k : ℕ} (u : UnitUsed n m limit slack loads energies work₀ load cost work unit last k) where
-    pub way-ready : WayReady (limit + 1) (last + 1) n m k cost load work plan₀
+  module _ {load cost work : List ℕ} {o : Used} (u : UnitUsed q loads energies work₀ load cost work o) where
+    pub way-ready : WayReady (frameOf q (q .limit + 1) (o .columns)) (o .least) cost load work plan₀
     way-ready = record {
-      tasks = g .tasks;
-      rates = g .rates .1;
-      small = omega (arith, g .small);
-      loads = u .loads-low;
+      framed = record { tasks = g .asked .tasks; rates = g .asked .rates .1; small = omega (arith, g .asked .small); loads = u .loads-low };
       holds = u .holds;
-      place = omega (arith, u .place);
+      place = u .place;
       some = u .some;
       room = g .plan-room;
     }
 
     -- The table used is no larger than the words that are cleared.
-    pub own-words : (n + 1) * (last + 1) ≤ workWords n slack
-    own-words = narrow-words n slack last (u .narrow)
+    pub own-words : (q .tasks + 1) * o .columns ≤ workWords (q .tasks) (q .slack)
+    own-words = narrow-words (q .tasks) (q .slack) (o .columns) (u .narrow)
 
-    module _ {plan : List ℕ} (w : WayTaken (limit + 1) n m k cost load plan₀ plan) where
-      size : length (take n plan) ≡ n
-      size = omega (arith, length-take n plan, w .same, g .plan-room)
+    module _ {plan : List ℕ} (w : WayTaken (frameOf q (q .limit + 1) (o .columns)) (o .least) cost load plan₀ plan) where
+      size : length (take (q .tasks) plan) ≡ q .tasks
+      size = omega (arith, length-take (q .tasks) plan, w .same, g .plan-room)
 
-      same : (t : ℕ) → t < n → getD (take n plan) t 0 ≡ getD plan t 0
-      same t l = getD-take n plan t 0 l
+      same : (t : ℕ) → t < q .tasks → getD (take (q .tasks) plan) t 0 ≡ getD plan t 0
+      same t l = getD-take (q .tasks) plan t 0 l
 
-      chosen : IsChosenOf (Fitting (arrays n m limit loads energies)) (arrays n m limit loads energies) (2 ^ u .exponent) (take n plan)
+      chosen : IsChosenOf (Fitting (arrays q loads energies)) (arrays q loads energies) (2 ^ u .exponent) (take (q .tasks) plan)
       chosen =
-          chosen-is n m limit loads energies load cost (u .exponent) (g .rates .1) (u .loads-cut) (u .costs) k (u .some) (u .before) (take n plan) size
-          (way-places (optionAt cost) (optionAt load) m (limit + 1) n k plan (take n plan) (λ t l. sym (same t l)) (w .way))
+          chosen-is q loads energies load cost (u .exponent) (g .asked .rates .1) (u .loads-cut) (u .costs) (o .least) (u .some) (u .before)
+          (take (q .tasks) plan) size
+          (way-places (optionAt cost) (optionAt load) (q .rates) (q .limit + 1) (q .tasks) (o .least) plan (take (q .tasks) plan)
+          (λ t l. sym (same t l)) (w .way))
 
-      pub sum-ready : (options : List ℕ) → Small options → SumReady n options plan
+      pub sum-ready : (options : List ℕ) → Small options → SumReady (q .tasks) options plan
       sum-ready options small = record {
-        tasks = g .tasks;
+        few = g .asked .tasks;
         room = omega (arith, w .same, g .plan-room);
-        numbers = λ t l. omega (arith, same t l, chosen .ok .plan .below t l, g .rates .1);
+        numbers = λ t l. omega (arith, same t l, chosen .ok .plan .below t l, g .asked .rates .1);
         small = small;
       }
 
-      sums : (f : ℕ → ℕ → ℕ) → total f n plan ≡ total f n (take n plan)
-      sums f = total-same f f n plan (take n plan) (λ t l. ap (f t) (sym (same t l)))
+      sums : (f : ℕ → ℕ → ℕ) → total f (q .tasks) plan ≡ total f (q .tasks) (take (q .tasks) plan)
+      sums f = total-same f f (q .tasks) plan (take (q .tasks) plan) (λ t l. ap (f t) (sym (same t l)))
 
-      pub chose : {work′ : List ℕ} (l e f : ℕ) → l ≡ total (optionAt loads) n plan → e ≡ total (optionAt energies) n plan → f ≡ lastColumn n slack
-          → Written (λ p. 0) 0 ((n + 1) * (f + 1)) work work′
-          → Chose (arrays n m limit loads energies) slack (workWords n slack) plan₀ work₀ plan work′ unit l e
-      chose {work′} l e f x y q c =
-          let z : Written (λ p. 0) 0 (workWords n slack) work work′ = subst (λ (k : ℕ). Written (λ p. 0) 0 ((n + 1) * (k + 1)) work work′) q c in
+      pub chose : {work′ : List ℕ} {l e f : ℕ} → l ≡ total (optionAt loads) (q .tasks) plan → e ≡ total (optionAt energies) (q .tasks) plan
+          → f ≡ lastColumn (q .tasks) (q .slack) → Written (λ p. 0) 0 ((q .tasks + 1) * (f + 1)) work work′
+          → Chose q loads energies plan₀ work₀ plan work′ (record { unit = o .unit; load = l; energy = e })
+      chose {work′} x y is c =
+          let z : Written (λ p. 0) 0 (workWords (q .tasks) (q .slack)) work work′ =
+          subst (λ (k : ℕ). Written (λ p. 0) 0 ((q .tasks + 1) * (k + 1)) work work′) is c in
           record {
             exponent = u .exponent;
             unit-is = u .unit-is;
             planned = record { used = u .used; chosen = chosen };
             load-is = x ∙ sums (optionAt loads);
             energy-is = y ∙ sums (optionAt energies);
-            rest = rest-same n plan₀ plan (w .same) (w .rest);
+            rest = rest-same (q .tasks) plan₀ plan (w .same) (w .rest);
             cleared =
-                zeros-list (workWords n slack) work₀ work′ (g .work-room)
+                zeros-list (workWords (q .tasks) (q .slack)) work₀ work′ (g .work-room)
                 (record { same = z .same ∙ u .work-size; here = z .here; below = λ p h. absurd (omega arith); above = λ p h. z .above p h ∙ u .above p h });
             plan-size = w .same;
             work-size = z .same ∙ u .work-size;

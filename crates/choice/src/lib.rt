@@ -1,13 +1,23 @@
-// The choice of unit and plan by document 01's rule, over arrays of loads and energies: the table, unit by unit, the way back through
-// it, the plan's sums, and zeros where the table was. Whose loads and energies these are is left to others.
+// The choice of unit and plan by document 01's rule, over arrays of loads and energies: the table, unit by unit, the way
+// back through it, the plan's sums, and zeros where the table was. Whose loads and energies these are is left to others.
 ghost use mathlib.Core.Path.{_≡_};
 ghost use Prim.Native.Nat.{_+_, _*_, _≤_, min};
 ghost use lib.ListN.{length, replicate};
 ghost use Rattle.numbers.specs.Numbers.{total};
 ghost use Rattle.table.specs.Rows.{optionAt, Written};
-ghost use Rattle.selection.specs.Plan.{lastColumn, workWords};
-ghost use Rattle.choice.specs.Choice.{arrays, ChoiceReady, Chose};
+ghost use Rattle.selection.specs.Plan.{lastColumn};
+ghost use Rattle.choice.specs.Choice.{ChoiceReady, Chose};
 ghost use Rattle.choice.specs.Units.{WayReady, WayTaken, cutOf, costOf, Small, RoundReady, SumReady, ClearReady, UnitReady, UnitTabled, SearchReady, UnitUsed};
+use numbers::Power;
+use table::Frame;
+
+// What a plan is chosen for: so many tasks and rates, the limit of the plan's load, and the slack.
+pub struct Request {
+    pub tasks: usize,
+    pub rates: usize,
+    pub limit: u32,
+    pub slack: u32,
+}
 
 // What was chosen: the unit, and the plan's load and energy.
 pub struct Choice {
@@ -16,47 +26,45 @@ pub struct Choice {
     pub energy: u64,
 }
 
-// The unit used, the last column of its table, and the least rounded energy of a plan that fits.
+// The unit used, the columns of its table, and the least rounded energy of a plan that fits.
 struct Used {
     unit: u64,
-    last: usize,
+    columns: usize,
     least: usize,
 }
 
-// The last column that a table of n tasks may need at this slack.
-pub fn last_column(n: usize, slack: u32) -> usize
-    requires { ⌜ (n ≤ 32) × (1 ≤ slack) ⌝ }
-    ensures { λ r. ⌜ r ≡ lastColumn n slack ⌝ }
+// The last column that a table may need for so many tasks at this slack.
+pub fn last_column(tasks: usize, slack: u32) -> usize
+    requires { ⌜ (tasks ≤ 32) × (1 ≤ slack) ⌝ }
+    ensures { λ r. ⌜ r ≡ lastColumn tasks slack ⌝ }
 {
-    4_000 * n / slack as usize
+    4_000 * tasks / slack as usize
 }
 
-// Writes the way back through the table of t tasks from column e of its last row, n words a row: the lowest rate number that makes each
-// entry, from the last task down to the first.
+// Writes the way back through a table from a column of its last row: the lowest rate number that makes each entry, from
+// the last task down to the first.
 fn way_back(
     plan: &mut [u32],
     d: &[u32],
-    n: usize,
-    t: usize,
-    e: usize,
-    m: usize,
+    f: Frame,
+    column: usize,
     cost: &[usize; 512],
     load: &[u32; 512],
-    cap: u32,
 )
-    requires { ⌜ WayReady cap n t m e (now cost) (now load) (now d) (now plan) ⌝ }
-    ensures { λ _. ⌜ WayTaken cap t m e (now (cost .entry)) (now (load .entry)) (now (plan .entry)) (now (plan .exit)) ⌝ }
+    requires { ⌜ WayReady f column (now cost) (now load) (now d) (now plan) ⌝ }
+    ensures { λ _. ⌜ WayTaken f column (now (cost .entry)) (now (load .entry)) (now (plan .entry)) (now (plan .exit)) ⌝ }
 {
-    let mut left = e;
-    let mut i = t;
-    let mut a = t * n;
-    while 0 < i {
-        let v = d[a + left];
-        a -= n;
-        i -= 1;
-        let r = table::rate_at(d, a, left, v, i, m, cost, load, cap);
-        plan[i] = r as u32;
-        left -= cost[i * 16 + r];
+    let tasks = f.tasks;
+    let columns = f.columns;
+    let mut left = column;
+    let mut task = tasks;
+    let mut start = tasks * columns;
+    while 0 < task {
+        start -= columns;
+        task -= 1;
+        let r = table::rate_at(d, f, start, left, task, cost, load);
+        plan[task] = r as u32;
+        left -= cost[task * 16 + r];
     }
 }
 
@@ -67,12 +75,12 @@ fn cut_one(l: u64, cap: u32) -> u32
     if l < cap as u64 { l as u32 } else { cap }
 }
 
-// The loads of n tasks, cut at cap.
-fn cut(loads: &[u64; 512], n: usize, cap: u32, load: &mut [u32; 512])
-    requires { ⌜ (n ≤ 32) × (length (now load) ≡ 512) ⌝ }
-    ensures { λ _. ⌜ Written (cutOf (now (loads .entry)) cap) 0 (n * 16) (now (load .entry)) (now (load .exit)) ⌝ }
+// The loads of so many tasks, cut at cap.
+fn cut(loads: &[u64; 512], tasks: usize, cap: u32, load: &mut [u32; 512])
+    requires { ⌜ (tasks ≤ 32) × (length (now load) ≡ 512) ⌝ }
+    ensures { λ _. ⌜ Written (cutOf (now (loads .entry)) cap) 0 (tasks * 16) (now (load .entry)) (now (load .exit)) ⌝ }
 {
-    let end = n * 16;
+    let end = tasks * 16;
     let mut k = 0;
     while k < end {
         load[k] = cut_one(loads[k], cap);
@@ -80,28 +88,29 @@ fn cut(loads: &[u64; 512], n: usize, cap: u32, load: &mut [u32; 512])
     }
 }
 
-// The energies of n tasks divided by the unit, 2 to the power a, rounded up.
-fn round_up(energies: &[u64; 512], n: usize, a: u32, unit: u64, cost: &mut [usize; 512])
-    requires { ⌜ RoundReady n a unit (now energies) (now cost) ⌝ }
-    ensures { λ _. ⌜ Written (costOf (now (energies .entry)) a) 0 (n * 16) (now (cost .entry)) (now (cost .exit)) ⌝ }
+// The energies of so many tasks divided by the unit, rounded up.
+fn round_up(energies: &[u64; 512], tasks: usize, unit: Power, cost: &mut [usize; 512])
+    requires { ⌜ RoundReady tasks unit (now energies) (now cost) ⌝ }
+    ensures { λ _. ⌜ Written (costOf (now (energies .entry)) (unit .exponent)) 0 (tasks * 16) (now (cost .entry)) (now (cost .exit)) ⌝ }
 {
-    let less = unit - 1;
-    let end = n * 16;
+    let exponent = unit.exponent;
+    let less = unit.value - 1;
+    let end = tasks * 16;
     let mut k = 0;
     while k < end {
-        cost[k] = ((energies[k] + less) >> a) as usize;
+        cost[k] = ((energies[k] + less) >> exponent) as usize;
         k += 1;
     }
 }
 
-// What the first n tasks of a plan come to.
-fn sum(options: &[u64; 512], n: usize, plan: &[u32]) -> u64
-    requires { ⌜ SumReady n (now options) (now plan) ⌝ }
-    ensures { λ r. ⌜ r ≡ total (optionAt (now (options .entry))) n (now (plan .entry)) ⌝ }
+// What the first tasks of a plan come to.
+fn sum(options: &[u64; 512], tasks: usize, plan: &[u32]) -> u64
+    requires { ⌜ SumReady tasks (now options) (now plan) ⌝ }
+    ensures { λ r. ⌜ r ≡ total (optionAt (now (options .entry))) tasks (now (plan .entry)) ⌝ }
 {
     let mut s: u64 = 0;
     let mut t = 0;
-    while t < n {
+    while t < tasks {
         let r = plan[t] as usize;
         s += options[t * 16 + r];
         t += 1;
@@ -109,125 +118,122 @@ fn sum(options: &[u64; 512], n: usize, plan: &[u32]) -> u64
     s
 }
 
-// What n tasks come to with every task at rate number m.
-pub fn fastest_sum(options: &[u64; 512], n: usize, m: usize) -> u64
-    requires { ⌜ (n ≤ 32) × (m ≤ 8) × Small (now options) ⌝ }
-    ensures { λ r. ⌜ r ≡ total (optionAt (now (options .entry))) n (replicate n m) ⌝ }
+// What so many tasks come to with every task at the highest rate.
+pub fn fastest_sum(options: &[u64; 512], tasks: usize, rates: usize) -> u64
+    requires { ⌜ (tasks ≤ 32) × (rates ≤ 8) × Small (now options) ⌝ }
+    ensures { λ r. ⌜ r ≡ total (optionAt (now (options .entry))) tasks (replicate tasks rates) ⌝ }
 {
-    let plan = [m as u32; 32];
-    sum(options, n, &plan)
+    let plan = [rates as u32; 32];
+    sum(options, tasks, &plan)
 }
 
-// Sets the words of a table of n tasks to 0.
-fn clear(work: &mut [u32], n: usize, columns: usize)
-    requires { ⌜ ClearReady n columns (now work) ⌝ }
-    ensures { λ _. ⌜ Written (λ p. 0) 0 ((n + 1) * columns) (now (work .entry)) (now (work .exit)) ⌝ }
+// Sets the words of a table to 0.
+fn clear(work: &mut [u32], tasks: usize, columns: usize)
+    requires { ⌜ ClearReady tasks columns (now work) ⌝ }
+    ensures { λ _. ⌜ Written (λ p. 0) 0 ((tasks + 1) * columns) (now (work .entry)) (now (work .exit)) ⌝ }
 {
-    table::fill(work, 0, (n + 1) * columns, 0);
+    table::fill(work, 0, (tasks + 1) * columns, 0);
 }
 
-// The table at the unit 2 to the power a, with columns up to last; gives the least column at which the last row is not 'none', or last + 1.
+// The table at a unit; gives the least column at which its last row is not 'none', or as many columns as it has.
 fn least_energy(
     energies: &[u64; 512],
-    n: usize,
-    m: usize,
-    a: u32,
-    unit: u64,
-    last: usize,
+    f: Frame,
+    unit: Power,
     load: &[u32; 512],
-    cap: u32,
     cost: &mut [usize; 512],
     work: &mut [u32],
 ) -> usize
-    requires { ⌜ UnitReady cap last n m a unit (now energies) (now load) (now cost) (now work) ⌝ }
-    ensures { λ k. ⌜ UnitTabled cap last n m a (now (energies .entry)) (now (load .entry)) (now (cost .entry)) (now (work .entry)) (now (cost .exit)) (now (work .exit)) k ⌝ }
+    requires { ⌜ UnitReady f unit (now energies) (now load) (now cost) (now work) ⌝ }
+    ensures { λ k. ⌜ UnitTabled f (unit .exponent) (now (energies .entry)) (now (load .entry)) (now (cost .entry)) (now (work .entry)) (now (cost .exit)) (now (work .exit)) k ⌝ }
 {
-    let columns = last + 1;
-    round_up(energies, n, a, unit, cost);
-    table::table(work, columns, n, m, cost, load, cap);
-    table::least_column(work, n * columns, columns, cap)
+    let tasks = f.tasks;
+    let columns = f.columns;
+    round_up(energies, tasks, unit, cost);
+    table::table(work, f, cost, load);
+    table::least_column(work, tasks * columns, columns, f.cap)
 }
 
-// Finds the unit used: tries the first unit and halves it until the rule stops. Each unit's table is only as wide as is known to
-// suffice: at the first unit n, since there the plan with every task at the highest rate costs 1 a task at most; then twice the last
-// least energy, since at half the unit no rounded energy is more than doubled.
+// Finds the unit used: tries the first unit and halves it until the rule stops. Each unit's table is only as wide as is
+// known to suffice: at the first unit the last column is the number of tasks, since there the plan with every task at the
+// highest rate costs 1 a task at most; then it is twice the last least energy, since at half the unit no rounded energy
+// is more than doubled.
 fn find_unit(
     loads: &[u64; 512],
     energies: &[u64; 512],
-    n: usize,
-    m: usize,
-    limit: u32,
-    slack: u32,
+    q: Request,
     load: &mut [u32; 512],
     cost: &mut [usize; 512],
     work: &mut [u32],
 ) -> Used
-    requires { ⌜ SearchReady n m limit slack (now loads) (now energies) (now load) (now cost) (now work) ⌝ }
-    ensures { λ r. ⌜ UnitUsed n m limit slack (now (loads .entry)) (now (energies .entry)) (now (work .entry)) (now (load .exit)) (now (cost .exit)) (now (work .exit)) (r .unit) (r .last) (r .least) ⌝ }
+    requires { ⌜ SearchReady q (now loads) (now energies) (now load) (now cost) (now work) ⌝ }
+    ensures { λ r. ⌜ UnitUsed q (now (loads .entry)) (now (energies .entry)) (now (work .entry)) (now (load .exit)) (now (cost .exit)) (now (work .exit)) r ⌝ }
 {
-    let cap = limit + 1;
-    cut(loads, n, cap, load);
-    let first = numbers::least_power(fastest_sum(energies, n, m));
-    let mut a = first.exponent;
-    let mut unit = first.value;
-    let mut last = n;
+    let tasks = q.tasks;
+    let cap = q.limit + 1;
+    cut(loads, tasks, cap, load);
+    let mut unit = numbers::least_power(fastest_sum(energies, tasks, q.rates));
+    let mut columns = tasks + 1;
     loop {
-        let k = least_energy(energies, n, m, a, unit, last, load, cap, cost, work);
-        if a == 0 {
+        let f = Frame {
+            tasks,
+            rates: q.rates,
+            columns,
+            cap,
+        };
+        let k = least_energy(energies, f, unit, load, cost, work);
+        if unit.exponent == 0 {
             return Used {
-                unit,
-                last,
+                unit: unit.value,
+                columns,
                 least: k,
             };
         }
-        if 2_000 * n <= slack as usize * k {
+        if 2_000 * tasks <= q.slack as usize * k {
             return Used {
-                unit,
-                last,
+                unit: unit.value,
+                columns,
                 least: k,
             };
         }
-        a -= 1;
-        unit = unit / 2;
-        last = 2 * k;
+        let exponent = unit.exponent - 1;
+        unit = Power {
+            exponent,
+            value: unit.value / 2,
+        };
+        columns = 2 * k + 1;
     }
 }
 
-// Chooses unit and plan by document 01's rule, for n tasks and m rates with these loads and energies by option; the plan goes to the
-// first n words of plan, and the words of work that a table may need are 0 at the end.
+// Chooses unit and plan by document 01's rule, by these loads and energies; the plan goes to the first words of plan,
+// and the words of work that a table may need are 0 at the end.
 pub fn choose(
     loads: &[u64; 512],
     energies: &[u64; 512],
-    n: usize,
-    m: usize,
-    limit: u32,
-    slack: u32,
+    q: Request,
     plan: &mut [u32],
     work: &mut [u32],
 ) -> Choice
-    requires { ⌜ ChoiceReady n m limit slack (now loads) (now energies) (now plan) (now work) ⌝ }
-    ensures { λ r. ⌜ Chose (arrays n m limit (now (loads .entry)) (now (energies .entry))) slack (workWords n slack) (now (plan .entry)) (now (work .entry)) (now (plan .exit)) (now (work .exit)) (r .unit) (r .load) (r .energy) ⌝ }
+    requires { ⌜ ChoiceReady q (now loads) (now energies) (now plan) (now work) ⌝ }
+    ensures { λ r. ⌜ Chose q (now (loads .entry)) (now (energies .entry)) (now (plan .entry)) (now (work .entry)) (now (plan .exit)) (now (work .exit)) r ⌝ }
 {
-    let columns = last_column(n, slack) + 1;
+    let tasks = q.tasks;
+    let columns = last_column(tasks, q.slack) + 1;
     let mut load: [u32; 512] = [0; 512];
     let mut cost: [usize; 512] = [0; 512];
-    let used = find_unit(
-        loads,
-        energies,
-        n,
-        m,
-        limit,
-        slack,
-        &mut load,
-        &mut cost,
-        work,
-    );
-    let width = used.last + 1;
-    let k = used.least;
-    way_back(plan, work, width, n, k, m, &cost, &load, limit + 1);
-    let l = sum(loads, n, plan);
-    let e = sum(energies, n, plan);
-    clear(work, n, columns);
+    let used = find_unit(loads, energies, q, &mut load, &mut cost, work);
+    let width = used.columns;
+    let none = q.limit + 1;
+    let f = Frame {
+        tasks,
+        rates: q.rates,
+        columns: width,
+        cap: none,
+    };
+    way_back(plan, work, f, used.least, &cost, &load);
+    let l = sum(loads, tasks, plan);
+    let e = sum(energies, tasks, plan);
+    clear(work, tasks, columns);
     Choice {
         unit: used.unit,
         load: l,

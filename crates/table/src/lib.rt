@@ -108,15 +108,15 @@ pub fn rate_at(
     ensures { λ r. ⌜ r ≡ rateOf f (now (cost .entry)) (now (load .entry)) task column ⌝ }
 {
     let made = d[start + f.columns + column];
-    let mut r = 1;
-    while r <= f.rates {
-        let c = cost[task * 16 + r];
+    let mut number = 1;
+    while number <= f.rates {
+        let c = cost[task * 16 + number];
         if c <= column {
-            if d[start + (column - c)] + load[task * 16 + r] == made {
-                return r;
+            if d[start + (column - c)] + load[task * 16 + number] == made {
+                return number;
             }
         }
-        r += 1;
+        number += 1;
     }
-    r
+    number
 }

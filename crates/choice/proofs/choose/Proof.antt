@@ -1,10 +1,27 @@
+-- The choice, from the search for the unit to the words cleared.
+-- Assumes nothing.
 use Prim.Native.Nat.{ℕ, _+_, _*_}
 use mathlib.Core.Path.{ap}
+use mathlib.Core.List.{List}
 use native.Mathlib.Omega.{arith}
+use Rattle.choice.specs.Units.{Small, SumReady}
 use Rattle.choice.proofs.Choosing.{search-ready, last-low, way-ready, own-words, sum-ready, chose}
 use borrow.Author.Needs.{needs}
 use Rattle.choice.proofs.choose.Statement.{statement}
 use Rattle.choice.proofs.choose.Tie as tie
+
+-- The ways back: from the plan to the unit, to the last column and to the start.
+abbrev found : tie.After-way-back → tie.After-find-unit
+found w = w .before .before .before .before .before .before .before .before
+
+abbrev to-last : tie.After-find-unit → tie.After-last-column
+to-last f = f .before .before .before .before
+
+abbrev start : tie.After-find-unit → tie.Start
+start f = to-last f .before .before .before
+
+summed : (w : tie.After-way-back) (options : List ℕ) → Small options → SumReady (start (found w) .args .q .tasks) options (w .way-back .last .0)
+summed w = sum-ready (start (found w) .pre) (found w .find-unit .ensures) (w .way-back .ensures)
 
 last-column-requires : tie.Need-last-column-requires
 last-column-requires c κs = search needs
@@ -13,47 +30,30 @@ add-columns : tie.Need-add-columns
 add-columns c = search needs
 
 find-unit-requires : tie.Need-find-unit-requires
-find-unit-requires c κs =
-    let s = c .before .before .before .before .before .before in
-    search-ready (s .pre)
+find-unit-requires c κs = search-ready (c .before .before .before .before .before .before .pre)
 
-add-width : tie.Need-add-width
-add-width c = search needs
-
-add-way-back : tie.Need-add-way-back
-add-way-back c = search needs
+add-none : tie.Need-add-none
+add-none c = search needs
 
 way-back-requires : tie.Need-way-back-requires
-way-back-requires c κs =
-    let f = c .before .before .before .before .before .before .before in
-    way-ready (f .before .before .before .before .before .before .before .pre) (f .find-unit .ensures)
+way-back-requires c κs = let f = c .before .before .before .before .before .before .before in way-ready (start f .pre) (f .find-unit .ensures)
 
 sum-requires : tie.Need-sum-requires
-sum-requires c κs =
-    let w = c .before .before .before in
-    let f = w .before .before .before .before .before .before .before .before in
-    let s = f .before .before .before .before .before .before .before in
-    sum-ready (s .pre) (f .find-unit .ensures) (w .way-back .ensures) (s .args .loads .now) (s .pre .loads-fit)
+sum-requires c κs = let w = c .before .before .before in summed w (start (found w) .args .loads .now) (start (found w) .pre .loads-fit)
 
 sum-requires-2 : tie.Need-sum-requires-2
-sum-requires-2 c κs =
-    let w = c .before .before .before .before .before in
-    let f = w .before .before .before .before .before .before .before .before in
-    let s = f .before .before .before .before .before .before .before in
-    sum-ready (s .pre) (f .find-unit .ensures) (w .way-back .ensures) (s .args .energies .now) (s .pre .energies-fit)
+sum-requires-2 c κs = let w = c .before .before .before .before .before in summed w (start (found w) .args .energies .now) (start (found w) .pre .energies-fit)
 
 clear-requires : tie.Need-clear-requires
 clear-requires c κs =
-    let w = c .before .before .before .before .before .before .before in
-    let f = w .before .before .before .before .before .before .before .before in
-    let s = f .before .before .before .before .before .before .before in
-    let g = s .pre in
+    let f = found (c .before .before .before .before .before .before .before) in
+    let g = start f .pre in
     let u = f .find-unit .ensures in
-    let last = f .before .before .before .before .last-column .ensures in
+    let last = to-last f .last-column .ensures in
     record {
-      tasks = g .tasks;
-      few = omega (arith, last, last-low g, u .narrow);
-      room = omega (arith, ap (λ (x : ℕ). (s .args .n + 1) * (x + 1)) last, g .work-room, u .work-size, own-words g u);
+      few = g .asked .tasks;
+      narrow = omega (arith, last, last-low g, u .narrow);
+      room = omega (arith, ap (λ (x : ℕ). (start f .args .q .tasks + 1) * (x + 1)) last, g .work-room, u .work-size, own-words g u);
     }
 
 same-length : tie.Need-same-length
@@ -64,10 +64,10 @@ same-length-2 c = search needs
 
 returns : tie.Need-returns
 returns c =
-    let w = c .before .before .before .before .before .before .before .before .before .before in
-    let f = w .before .before .before .before .before .before .before .before in
-    let s = f .before .before .before .before .before .before .before in
-    chose (s .pre) (f .find-unit .ensures) (w .way-back .ensures) _ _ _ (c .before .before .before .before .before .before .sum .ensures) (c .before .before .before .before .sum2 .ensures) (f .before .before .before .before .last-column .ensures) (c .before .before .clear .ensures)
+    let s = c .before .before .before .before in
+    let w = s .before .before .before .before .before .before in
+    let f = found w in
+    chose (start f .pre) (f .find-unit .ensures) (w .way-back .ensures) (s .before .before .sum .ensures) (s .sum2 .ensures) (to-last f .last-column .ensures) (c .before .before .clear .ensures)
 
 pub choose-spec : {M : Type 1} → statement M
 choose-spec =
@@ -76,8 +76,7 @@ choose-spec =
     last-column-requires
     add-columns
     find-unit-requires
-    add-width
-    add-way-back
+    add-none
     way-back-requires
     sum-requires
     sum-requires-2

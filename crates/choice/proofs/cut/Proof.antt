@@ -8,10 +8,10 @@ use Rattle.choice.proofs.cut.Statement.{statement}
 use Rattle.choice.proofs.cut.Tie as tie
 
 abbrev Inv-loop : tie.InvT-loop
-Inv-loop loads n cap load₀ end k₀ load k = (k ≤ n * 16) × Written (cutOf loads cap) 0 k load₀ load
+Inv-loop loads tasks cap load₀ end k₀ load k = (k ≤ tasks * 16) × Written (cutOf loads cap) 0 k load₀ load
 
 abbrev μ-loop : tie.MeasureT-loop
-μ-loop loads n cap load₀ end k₀ load k = n * 16 - k
+μ-loop loads tasks cap load₀ end k₀ load k = tasks * 16 - k
 
 mul-end : tie.Need-mul-end Inv-loop μ-loop
 mul-end c = search needs

@@ -11,10 +11,10 @@ slice-aggregate-sum : tie.Need-slice-aggregate-sum
 slice-aggregate-sum c = search needs
 
 sum-requires : tie.Need-sum-requires
-sum-requires c κs = let s = c .before in fastest-ready (s .args .n) (s .args .m) (s .pre .0) (s .args .options .now) (s .pre .1) (s .pre .2)
+sum-requires c κs = let s = c .before in fastest-ready (s .args .tasks) (s .args .rates) (s .pre .0) (s .args .options .now) (s .pre .1) (s .pre .2)
 
 returns : tie.Need-returns
-returns c = let s = c .before .before in c .sum .ensures ∙ fastest-same (s .args .n) (s .args .m) (s .pre .0) _
+returns c = let s = c .before .before in c .sum .ensures ∙ fastest-same (s .args .tasks) (s .args .rates) (s .pre .0) _
 
 pub fastest-sum-spec : {M : Type 1} → statement M
 fastest-sum-spec = tie.close (tie.spec cast-plan slice-aggregate-sum sum-requires returns)

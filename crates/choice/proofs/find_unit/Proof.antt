@@ -1,3 +1,5 @@
+-- The units tried, from the first down: the invariant is what holds before a unit is tried.
+-- Assumes nothing.
 use mathlib.Core.Path.{_∙_}
 use mathlib.Core.Logic.{inl, inr}
 use native.Mathlib.Omega.{arith}
@@ -8,11 +10,23 @@ use Rattle.choice.proofs.find_unit.Statement.{statement}
 use Rattle.choice.proofs.find_unit.Tie as tie
 
 abbrev Inv-loop : tie.InvT-loop
-Inv-loop loads energies n m limit slack load cost₀ work₀ cap a₀ unit₀ last₀ cost work a unit last =
-    Trying n m limit slack loads energies work₀ a₀ cost work a unit last
+Inv-loop loads energies q load cost₀ work₀ tasks cap unit₀ columns₀ cost work unit columns = Trying q loads energies work₀ (unit₀ .exponent) cost work unit columns
 
 abbrev μ-loop : tie.MeasureT-loop
-μ-loop loads energies n m limit slack load cost₀ work₀ cap a₀ unit₀ last₀ cost work a unit last = a
+μ-loop loads energies q load cost₀ work₀ tasks cap unit₀ columns₀ cost work unit columns = unit .exponent
+
+-- The ways back: from where a unit's table was read to its making, to the loop, to the cut loads and to the start.
+abbrev tried : tie.After-struct-known2 Inv-loop μ-loop → tie.After-least-energy Inv-loop μ-loop
+tried c = c .before .before .before
+
+abbrev at-loop : tie.After-least-energy Inv-loop μ-loop → tie.At-loop Inv-loop μ-loop
+at-loop u = u .before .before .before .before
+
+abbrev to-cut : tie.At-loop Inv-loop μ-loop → tie.After-cut Inv-loop μ-loop
+to-cut l = l .before .before .before
+
+abbrev start : tie.At-loop Inv-loop μ-loop → tie.Start Inv-loop μ-loop
+start l = to-cut l .before .before .before .before
 
 add-cap : tie.Need-add-cap Inv-loop μ-loop
 add-cap c = search needs
@@ -24,74 +38,54 @@ fastest-sum-requires : tie.Need-fastest-sum-requires Inv-loop μ-loop
 fastest-sum-requires c κs = search needs
 
 least-power-requires : tie.Need-least-power-requires Inv-loop μ-loop
-least-power-requires c κs = let s = c .before .before .before .before in rw (c .fastest-sum .ensures) (sum-low (s .args .energies .now) _ (s .args .n) (s .pre .energies-fit) (s .pre .tasks))
+least-power-requires c κs = let s = c .before .before .before .before .before in rw (c .fastest-sum .ensures) (sum-low (s .args .energies .now) _ _ (s .pre .energies-fit) (s .pre .asked .tasks))
+
+add-columns : tie.Need-add-columns Inv-loop μ-loop
+add-columns c = search needs
 
 loop-holds : tie.Need-loop-holds Inv-loop μ-loop
 loop-holds c =
     let f = c .before in
-    let s = f .before .before .before .before in
-    trying-start (s .pre) _ _ _ (f .fastest-sum .ensures) (c .least-power .ensures .0) (c .least-power .ensures .1)
+    trying-start (f .before .before .before .before .before .pre) _ _ (f .fastest-sum .ensures) (c .least-power .ensures .0) (c .least-power .ensures .1)
 
 least-energy-requires : tie.Need-least-energy-requires Inv-loop μ-loop
-least-energy-requires c κs =
-    let l = c .before .before .before in
-    let q = l .before .before .before in
-    let g = q .before .before .before .pre in
-    unit-ready g (q .cut .ensures) (omega (arith, g .small)) (l .loop .inv)
+least-energy-requires c κs = let l = c .before .before .before in unit-ready (start l .pre) (l .loop .inv) (to-cut l .cut .ensures) (omega (arith, start l .pre .asked .small))
 
 same-length : tie.Need-same-length Inv-loop μ-loop
-same-length c =
-    let u = c .before .before .before in
-    u .least-energy .ensures .work-size ∙ u .before .before .before .before .loop .inv .work-size
+same-length c = let u = tried (c .before) in u .least-energy .ensures .work-size ∙ at-loop u .loop .inv .work-size
 
 returns : tie.Need-returns Inv-loop μ-loop
-returns c =
-    let u = c .before .before .before in
-    let l = u .before .before .before .before in
-    let q = l .before .before .before in
-    unit-used (q .before .before .before .pre) (l .loop .inv) (q .cut .ensures) (u .least-energy .ensures) (inl (c .if1 .taken))
+returns c = let u = tried (c .before) in unit-used (start (at-loop u) .pre) (at-loop u .loop .inv) (to-cut (at-loop u) .cut .ensures) (u .least-energy .ensures) (inl (c .if1 .taken))
 
 mul-if2 : tie.Need-mul-if2 Inv-loop μ-loop
 mul-if2 c = search needs
 
+cast-if2 : tie.Need-cast-if2 Inv-loop μ-loop
+cast-if2 c = search needs
+
 mul-if2-2 : tie.Need-mul-if2-2 Inv-loop μ-loop
-mul-if2-2 c =
-    let u = c .before .before .before in
-    let l = u .before .before .before .before in
-    let q = l .before .before .before in
-    omega (arith, product-small (q .before .before .before .pre) (l .loop .inv) (q .cut .ensures) (u .least-energy .ensures))
+mul-if2-2 c = let u = tried (c .before .before) in omega (arith, product-small (start (at-loop u) .pre) (at-loop u .loop .inv) (to-cut (at-loop u) .cut .ensures) (u .least-energy .ensures))
 
 same-length-2 : tie.Need-same-length-2 Inv-loop μ-loop
-same-length-2 c =
-    let u = c .before .before .before .before in
-    u .least-energy .ensures .work-size ∙ u .before .before .before .before .loop .inv .work-size
+same-length-2 c = let u = tried (c .before .before .before) in u .least-energy .ensures .work-size ∙ at-loop u .loop .inv .work-size
 
 returns-2 : tie.Need-returns-2 Inv-loop μ-loop
-returns-2 c =
-    let u = c .before .before .before .before in
-    let l = u .before .before .before .before in
-    let q = l .before .before .before in
-    unit-used (q .before .before .before .pre) (l .loop .inv) (q .cut .ensures) (u .least-energy .ensures) (inr (omega (arith, c .if2 .taken)))
+returns-2 c = let u = tried (c .before .before .before) in unit-used (start (at-loop u) .pre) (at-loop u .loop .inv) (to-cut (at-loop u) .cut .ensures) (u .least-energy .ensures) (inr (omega (arith, c .if2 .taken)))
 
-sub-a : tie.Need-sub-a Inv-loop μ-loop
-sub-a c = search needs
+sub-exponent : tie.Need-sub-exponent Inv-loop μ-loop
+sub-exponent c = search needs
 
-mul-last : tie.Need-mul-last Inv-loop μ-loop
-mul-last c =
-    let u = c .before .before .before .before in
-    let l = u .before .before .before .before in
-    let q = l .before .before .before in
-    omega (arith, least-small (q .before .before .before .pre) (l .loop .inv) (q .cut .ensures) (u .least-energy .ensures))
+mul-columns : tie.Need-mul-columns Inv-loop μ-loop
+mul-columns c = let u = tried (c .before .before .before .before .before) in omega (arith, least-small (start (at-loop u) .pre) (at-loop u .loop .inv) (to-cut (at-loop u) .cut .ensures) (u .least-energy .ensures))
+
+add-columns-2 : tie.Need-add-columns-2 Inv-loop μ-loop
+add-columns-2 c = let u = tried (c .before .before .before .before .before) in omega (arith, least-small (start (at-loop u) .pre) (at-loop u .loop .inv) (to-cut (at-loop u) .cut .ensures) (u .least-energy .ensures))
 
 loop-less : tie.Need-loop-less Inv-loop μ-loop
 loop-less c = search needs
 
 loop-again : tie.Need-loop-again Inv-loop μ-loop
-loop-again c =
-    let u = c .before .before .before .before in
-    let l = u .before .before .before .before in
-    let q = l .before .before .before in
-    trying-turn (q .before .before .before .pre) (l .loop .inv) (q .cut .ensures) (u .least-energy .ensures) (omega arith) (omega arith)
+loop-again c = let u = tried (c .before .before .before .before .before) in trying-turn (start (at-loop u) .pre) (at-loop u .loop .inv) (to-cut (at-loop u) .cut .ensures) (u .least-energy .ensures) (omega arith) (omega arith)
 
 pub find-unit-spec : {M : Type 1} → statement M
 find-unit-spec =
@@ -103,15 +97,18 @@ find-unit-spec =
     cut-requires
     fastest-sum-requires
     least-power-requires
+    add-columns
     loop-holds
     least-energy-requires
     same-length
     returns
     mul-if2
+    cast-if2
     mul-if2-2
     same-length-2
     returns-2
-    sub-a
-    mul-last
+    sub-exponent
+    mul-columns
+    add-columns-2
     loop-less
     loop-again)

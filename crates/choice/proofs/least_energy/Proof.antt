@@ -3,9 +3,6 @@ use borrow.Author.Needs.{needs}
 use Rattle.choice.proofs.least_energy.Statement.{statement}
 use Rattle.choice.proofs.least_energy.Tie as tie
 
-add-columns : tie.Need-add-columns
-add-columns c = search needs
-
 round-up-requires : tie.Need-round-up-requires
 round-up-requires c κs = search needs
 
@@ -25,14 +22,12 @@ returns : tie.Need-returns
 returns c =
     let t = c .before .before .before .before in
     let r = t .before .before .before in
-    let s = r .before .before .before in
-    unit-tabled (s .args .cap) (s .args .last) (s .args .n) (s .args .m) (s .args .a) _ _ _ _ _ _ _ (s .pre .words) (r .round-up .ensures) (t .table .ensures) (c .least-column .ensures)
+    unit-tabled (r .before .before .before .pre) (r .round-up .ensures) (t .table .ensures) (c .least-column .ensures)
 
 pub least-energy-spec : {M : Type 1} → statement M
 least-energy-spec =
     tie.close
     (tie.spec
-    add-columns
     round-up-requires
     table-requires
     mul-least-column

@@ -11,10 +11,10 @@ use Rattle.choice.proofs.sum.Statement.{statement}
 use Rattle.choice.proofs.sum.Tie as tie
 
 abbrev Inv-loop : tie.InvT-loop
-Inv-loop options n plan s₀ t₀ s t = (t ≤ n) × (s ≡ total (optionAt options) t plan)
+Inv-loop options tasks plan s₀ t₀ s t = (t ≤ tasks) × (s ≡ total (optionAt options) t plan)
 
 abbrev μ-loop : tie.MeasureT-loop
-μ-loop options n plan s₀ t₀ s t = n - t
+μ-loop options tasks plan s₀ t₀ s t = tasks - t
 
 -- The plan's word in hand.
 rate-number : (c : tie.After-shared-slice-known Inv-loop μ-loop) → getD (c .before .before .before .args .plan .now) (c .before .before .loop .t) 0 ≤ 8
@@ -36,19 +36,19 @@ mul-s : tie.Need-mul-s Inv-loop μ-loop
 mul-s c = search needs
 
 add-s : tie.Need-add-s Inv-loop μ-loop
-add-s c = omega (arith, rate-number c, c .before .before .before .pre .tasks)
+add-s c = omega (arith, rate-number c, c .before .before .before .pre .few)
 
 mul-s-2 : tie.Need-mul-s-2 Inv-loop μ-loop
-mul-s-2 c = omega (arith, rate-number c, c .before .before .before .pre .tasks)
+mul-s-2 c = omega (arith, rate-number c, c .before .before .before .pre .few)
 
 element-copy-out-s : tie.Need-element-copy-out-s Inv-loop μ-loop
-element-copy-out-s c = omega (arith, rate-number c, c .before .before .before .pre .tasks)
+element-copy-out-s c = omega (arith, rate-number c, c .before .before .before .pre .few)
 
 add-s-2 : tie.Need-add-s-2 Inv-loop μ-loop
 add-s-2 c =
     let i = c .before .before .before in
     let g = i .before .pre in
-    omega (arith, i .loop .inv .1, sum-low (i .before .args .options .now) (i .before .args .plan .now) (i .loop .t) (g .small) (omega (arith, g .tasks, i .loop .inv .0)), g .small (i .loop .t * 16 + getD (i .before .args .plan .now) (i .loop .t) 0))
+    omega (arith, i .loop .inv .1, sum-low (i .before .args .options .now) (i .before .args .plan .now) (i .loop .t) (g .small) (omega (arith, g .few, i .loop .inv .0)), g .small (i .loop .t * 16 + getD (i .before .args .plan .now) (i .loop .t) 0))
 
 add-t : tie.Need-add-t Inv-loop μ-loop
 add-t c = search needs

@@ -11,10 +11,10 @@ use Rattle.table.proofs.rate_at.Statement.{statement}
 use Rattle.table.proofs.rate_at.Tie as tie
 
 abbrev Inv-loop : tie.InvT-loop
-Inv-loop d f start column task cost load made r₀ r = (1 ≤ r) × (r ≤ rateOf f cost load task column)
+Inv-loop d f start column task cost load made number₀ number = (1 ≤ number) × (number ≤ rateOf f cost load task column)
 
 abbrev μ-loop : tie.MeasureT-loop
-μ-loop d f start column task cost load made r₀ r = f .rates + 1 - r
+μ-loop d f start column task cost load made number₀ number = f .rates + 1 - number
 
 -- The way back from where a rate's cost was read.
 abbrev at-loop : tie.After-c Inv-loop μ-loop → tie.At-loop Inv-loop μ-loop
@@ -77,10 +77,10 @@ add-if3-3 c = record { fits = sum-fits (start (at-loop (c .before .before .befor
 returns : tie.Need-returns Inv-loop μ-loop
 returns c =
     let a = at-loop (c .before .before .before .before) in
-    rate-hit (start a .pre) refl (a .loop .r) (omega arith) (omega arith) (a .loop .inv .1) (c .before .before .before .if2 .taken) (c .if3 .taken)
+    rate-hit (start a .pre) refl (a .loop .number) (omega arith) (omega arith) (a .loop .inv .1) (c .before .before .before .if2 .taken) (c .if3 .taken)
 
-add-r : tie.Need-add-r Inv-loop μ-loop
-add-r c = search needs
+add-number : tie.Need-add-number Inv-loop μ-loop
+add-number c = search needs
 
 loop-less : tie.Need-loop-less Inv-loop μ-loop
 loop-less c = search needs
@@ -88,7 +88,7 @@ loop-less c = search needs
 loop-again : tie.Need-loop-again Inv-loop μ-loop
 loop-again c =
     let a = at-loop (c .before) in
-    let pass = rate-pass (start a .pre) refl (a .loop .r) (a .loop .inv .1) in
+    let pass = rate-pass (start a .pre) refl (a .loop .number) (a .loop .inv .1) in
     ⊎-elim
     (λ w. (omega arith, pass (λ h q. w .3 .left q)))
     (λ w. (omega arith, pass (λ h q. omega (arith, w .left))))
@@ -121,7 +121,7 @@ rate-at-spec =
     element-copy-out-if3
     add-if3-3
     returns
-    add-r
+    add-number
     loop-less
     loop-again
     returns-2)

@@ -10,7 +10,7 @@ use Rattle.table.proofs.row.Statement.{statement}
 use Rattle.table.proofs.row.Tie as tie
 
 abbrev Inv-loop : tie.InvT-loop
-Inv-loop d₀ f start task cost load columns here end r₀ d r = (1 ≤ r) × (r ≤ f .rates + 1) × RowTo f task cost load r here end d₀ d
+Inv-loop d₀ f start task cost load columns here end r₀ d r = RowTo f task cost load r here end d₀ d × (1 ≤ r) × (r ≤ f .rates + 1)
 
 abbrev μ-loop : tie.MeasureT-loop
 μ-loop d₀ f start task cost load columns here end r₀ d r = f .rates + 1 - r
@@ -37,7 +37,7 @@ fill-requires c κs = search needs
 loop-holds : tie.Need-loop-holds Inv-loop μ-loop
 loop-holds c =
     let f = c .before .before in
-    (omega arith, omega arith, row-start (f .before .before .before .pre) (f .fill .ensures))
+    (row-start (f .before .before .before .pre) (f .fill .ensures), omega arith, omega arith)
 
 mul-c : tie.Need-mul-c Inv-loop μ-loop
 mul-c c = search needs
@@ -72,7 +72,7 @@ add-relax-2 c = search needs
 relax-requires : tie.Need-relax-requires Inv-loop μ-loop
 relax-requires c κs =
     let a = at-loop (c .before .before) in
-    row-relaxable (start a .pre) (to-fill a .fill .ensures) (a .loop .r) (a .loop .inv .2) _ _ (omega arith)
+    row-relaxable (start a .pre) (to-fill a .fill .ensures) (a .loop .r) (a .loop .inv .0) _ _ (omega arith)
 
 add-r : tie.Need-add-r Inv-loop μ-loop
 add-r c = search needs
@@ -85,15 +85,15 @@ loop-again c =
     let a = at-loop (c .before) in
     let g = start a .pre in
     ⊎-elim
-    (λ w. (omega arith, omega arith, rw (w .5) (row-turn g (to-fill a .fill .ensures) (a .loop .r) (a .loop .inv .2) (omega arith) refl (w .2 .ensures))))
-    (λ w. (omega arith, omega arith, rw (w .1) (row-skip g (to-fill a .fill .ensures) (a .loop .r) (a .loop .inv .2) (w .0 .left))))
+    (λ w. (rw (w .5) (row-turn g (to-fill a .fill .ensures) (a .loop .r) (a .loop .inv .0) (omega arith) refl (w .2 .ensures)), omega arith, omega arith))
+    (λ w. (rw (w .1) (row-skip g (to-fill a .fill .ensures) (a .loop .r) (a .loop .inv .0) (w .0 .left)), omega arith, omega arith))
     (c .if2 .came)
 
 same-length : tie.Need-same-length Inv-loop μ-loop
-same-length c = let a = c .before .before in a .loop .inv .2 .same ∙ to-fill a .fill .ensures .same
+same-length c = let a = c .before .before in a .loop .inv .0 .same ∙ to-fill a .fill .ensures .same
 
 returns : tie.Need-returns Inv-loop μ-loop
-returns c = let a = c .before .before in row-end (start a .pre) (to-fill a .fill .ensures) (a .loop .r) (a .loop .inv .2) (omega arith)
+returns c = let a = c .before .before in row-end (start a .pre) (to-fill a .fill .ensures) (a .loop .r) (a .loop .inv .0) (omega arith)
 
 pub row-spec : {M : Type 1} → statement M
 row-spec =
