@@ -15,10 +15,10 @@ use Rattle.taskset.specs.Quantities.{hyperLimit, jobTime, taskLoad, taskEnergy}
 use Rattle.checks.proofs.Access.{job-time-fits}
 use Rattle.taskset.proofs.Sets.{IsSet, task-energy-small}
 use Rattle.choice.proofs.Choosing.{zeros-at}
-use Rattle.options.specs.Options.{Put, PutBoth, TaskGiven}
+use Rattle.options.specs.Options.{Laid, LaidBoth, TaskGiven}
 
 -- ---- one array
-put-none : (f : ℕ → ℕ → ℕ) (m : ℕ) → Put f m 0 1 (replicate 512 0)
+put-none : (f : ℕ → ℕ → ℕ) (m : ℕ) → Laid f m 0 1 (replicate 512 0)
 put-none f m = record {
   size = length-replicate {A = ℕ} 512 0;
   small = λ k. omega (arith, zeros-at 512 k);
@@ -26,8 +26,8 @@ put-none f m = record {
   here = λ q a l. absurd (omega arith);
 }
 
-put-more : (f : ℕ → ℕ → ℕ) (m t r v : ℕ) (d : List ℕ) → t < 32 → m ≤ 8 → r ≤ m → v ≡ f t r → v < 2 ^ 58 → Put f m t r d
-    → Put f m t (r + 1) (set d (t * 16 + r) v)
+put-more : (f : ℕ → ℕ → ℕ) (m t r v : ℕ) (d : List ℕ) → t < 32 → m ≤ 8 → r ≤ m → v ≡ f t r → v < 2 ^ 58 → Laid f m t r d
+    → Laid f m t (r + 1) (set d (t * 16 + r) v)
 put-more f m t r v d task rates rate is fits p =
     record {
       size = length-set d (t * 16 + r) v ∙ p .size;
@@ -48,7 +48,7 @@ put-more f m t r v d task rates rate is fits p =
     at k (no e) = rw (getD-set-other d (t * 16 + r) k v 0 e) (p .small k)
 
 -- The task is done, and the next begins.
-put-next : (f : ℕ → ℕ → ℕ) (m t r : ℕ) (d : List ℕ) → r ≡ m + 1 → Put f m t r d → Put f m (t + 1) 1 d
+put-next : (f : ℕ → ℕ → ℕ) (m t r : ℕ) (d : List ℕ) → r ≡ m + 1 → Laid f m t r d → Laid f m (t + 1) 1 d
 put-next f m t r d e p = record {
   size = p .size;
   small = p .small;
@@ -58,10 +58,10 @@ put-next f m t r d e p = record {
 }
 
 -- ---- loads and energies of a set
-pub both-none : (layout : Layout) (s : List ℕ) (m : ℕ) → PutBoth layout s m 0 1 (replicate 512 0) (replicate 512 0)
+pub both-none : (layout : Layout) (s : List ℕ) (m : ℕ) → LaidBoth layout s m 0 1 (replicate 512 0) (replicate 512 0)
 both-none layout s m = record { loads = put-none (taskLoad layout s) m; energies = put-none (taskEnergy layout s) m }
 
-pub both-next : (layout : Layout) (s : List ℕ) (m t r : ℕ) (ls es : List ℕ) → r ≡ m + 1 → PutBoth layout s m t r ls es → PutBoth layout s m (t + 1) 1 ls es
+pub both-next : (layout : Layout) (s : List ℕ) (m t r : ℕ) (ls es : List ℕ) → r ≡ m + 1 → LaidBoth layout s m t r ls es → LaidBoth layout s m (t + 1) 1 ls es
 both-next layout s m t r ls es e b = record {
   loads = put-next (taskLoad layout s) m t r ls e (b .loads);
   energies = put-next (taskEnergy layout s) m t r es e (b .energies);
@@ -99,8 +99,8 @@ module _ {layout : Layout} {m l t : ℕ} {s : List ℕ} (g : TaskGiven layout m 
       pub energy-fits : y ≡ energy layout s t r → l / p * y ≤ hyperLimit * 1000000
       energy-fits y-is = rw (g .hyper, p-is, y-is) (task-energy-small layout s set-is t r (g .of-task .task) from rate-number)
 
-      pub both-more : (ls es : List ℕ) → x ≡ jobTime layout s t r → y ≡ energy layout s t r → PutBoth layout s m t r ls es
-          → PutBoth layout s m t (r + 1) (set ls (t * 16 + r) (l / p * x)) (set es (t * 16 + r) (l / p * y))
+      pub both-more : (ls es : List ℕ) → x ≡ jobTime layout s t r → y ≡ energy layout s t r → LaidBoth layout s m t r ls es
+          → LaidBoth layout s m t (r + 1) (set ls (t * 16 + r) (l / p * x)) (set es (t * 16 + r) (l / p * y))
       both-more ls es x-is y-is b = record {
         loads =
             put-more (taskLoad layout s) m t r (l / p * x) ls task-few rates-few to (rw (g .hyper, p-is, x-is) refl)

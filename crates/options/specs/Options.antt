@@ -11,16 +11,16 @@ use Rattle.table.specs.Rows.{optionAt}
 
 -- The array d of 512 words holds f at every rate number 1 to m of the tasks before place t, and at those before r of the task at place
 -- t; and every word leaves room for a sum of 32.
-pub record Put (f : ℕ → ℕ → ℕ) (m t r : ℕ) (d : List ℕ) : Type 0 where
+pub record Laid (f : ℕ → ℕ → ℕ) (m t r : ℕ) (d : List ℕ) : Type 0 where
   pub size : length d ≡ 512
   pub small : (k : ℕ) → getD d k 0 < 2 ^ 58
   pub before : (u q : ℕ) → u < t → 1 ≤ q → q ≤ m → optionAt d u q ≡ f u q
   pub here : (q : ℕ) → 1 ≤ q → q < r → optionAt d t q ≡ f t q
 
 -- The set's loads and energies, so far.
-pub record PutBoth (layout : Layout) (s : List ℕ) (m t r : ℕ) (ls es : List ℕ) : Type 0 where
-  pub loads : Put (taskLoad layout s) m t r ls
-  pub energies : Put (taskEnergy layout s) m t r es
+pub record LaidBoth (layout : Layout) (s : List ℕ) (m t r : ℕ) (ls es : List ℕ) : Type 0 where
+  pub loads : Laid (taskLoad layout s) m t r ls
+  pub energies : Laid (taskEnergy layout s) m t r es
 
 -- What a task's options ask: the task is one of a set of m rates, and l is the set's hyper-period.
 pub record TaskGiven (layout : Layout) (m l t : ℕ) (s : List ℕ) : Type 0 where

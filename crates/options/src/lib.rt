@@ -1,7 +1,7 @@
 // A set's options, laid out for whoever chooses among them: the load and the energy of each task at each rate, by task and rate number, in
 // two arrays. Which plan is chosen, and how, is left to the engines above.
 ghost use Prim.Native.Nat.{_+_};
-ghost use Rattle.options.specs.Options.{PutBoth, TaskGiven, TasksGiven};
+ghost use Rattle.options.specs.Options.{LaidBoth, TaskGiven, TasksGiven};
 use layout::Layout;
 
 // Puts down the loads and energies of the task at place t: at each of m rates, that of one job times the jobs in a hyper-period.
@@ -15,8 +15,8 @@ fn put_task(
     t: usize,
 )
     requires { ⌜ TaskGiven layout m hyper t (now set) ⌝ }
-    requires { ⌜ PutBoth layout (now set) m t 1 (now loads) (now energies) ⌝ }
-    ensures { λ _. ⌜ PutBoth layout (now (set .entry)) m (t + 1) 1 (now (loads .exit)) (now (energies .exit)) ⌝ }
+    requires { ⌜ LaidBoth layout (now set) m t 1 (now loads) (now energies) ⌝ }
+    ensures { λ _. ⌜ LaidBoth layout (now (set .entry)) m (t + 1) 1 (now (loads .exit)) (now (energies .exit)) ⌝ }
 {
     let jobs = hyper / checks::period_of(set, layout, m, t) as u64;
     let mut r: usize = 1;
@@ -40,8 +40,8 @@ pub fn put_tasks(
     hyper: u64,
 )
     requires { ⌜ TasksGiven layout m n hyper (now set) ⌝ }
-    requires { ⌜ PutBoth layout (now set) m 0 1 (now loads) (now energies) ⌝ }
-    ensures { λ _. ⌜ PutBoth layout (now (set .entry)) m n 1 (now (loads .exit)) (now (energies .exit)) ⌝ }
+    requires { ⌜ LaidBoth layout (now set) m 0 1 (now loads) (now energies) ⌝ }
+    ensures { λ _. ⌜ LaidBoth layout (now (set .entry)) m n 1 (now (loads .exit)) (now (energies .exit)) ⌝ }
 {
     let mut t: usize = 0;
     while t < n {

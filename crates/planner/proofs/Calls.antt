@@ -10,7 +10,7 @@ use lib.ListN.{length, take, getD, replicate}
 use lib.Seq.{getD-take}
 use Rattle.numbers.specs.Numbers.{total}
 use Rattle.numbers.proofs.Tests.{lt-or-le}
-use Rattle.selection.specs.Plan.{Problem, planLoad, Fitting, IsPlan, fastest, workWords}
+use Rattle.selection.specs.Plan.{Problem, planLoad, Fitting, IsPlan, fastest}
 use Rattle.selection.proofs.Fastest.{some-fits-iff-fastest}
 use Rattle.selection.proofs.Same.{Same, load-same, energy-same, fastest-load-same, planned-same}
 use Rattle.layout.specs.Words.{mostRates, mostTasks, slack, rateCount, taskCount}
@@ -28,10 +28,12 @@ use Rattle.taskset.proofs.Checks.{accepts-next, refuses-next, refuses-before, p
 use Rattle.taskset.proofs.Sets.{IsSet, falling}
 use Rattle.taskset.proofs.DemandThree.{answer-owes, ready-set}
 use Rattle.table.specs.Rows.{optionAt}
+use Rattle.choice.specs.declared.Request.{Request}
+use Rattle.choice.specs.declared.Choice.{Choice}
 use Rattle.choice.specs.Units.{Small}
 use Rattle.choice.specs.Choice.{arrays, ChoiceReady, Chose}
 use Rattle.planner.specs.Answers.{RateNumbers, PlannerCall}
-use Rattle.options.specs.Options.{PutBoth, TasksGiven}
+use Rattle.options.specs.Options.{LaidBoth, TasksGiven}
 
 -- What meets document 01's definition keeps what demand 3 asks of it.
 called : (s plan work plan′ work′ : List ℕ) (a : PlannerAnswer) → PlannerGives s plan work plan′ work′ a → RateNumbers s plan′ a → PlannerCall s plan work plan′ work′ a
@@ -51,9 +53,16 @@ long-enough : (needed lent : ℕ) → ((k : ℕ) → IsShort needed lent k → �
 long-enough needed lent pass =
     ⊎-elim (λ (h : lent < needed). absurd (pass needed (h, refl))) (λ (h : needed ≤ lent). h) (lt-or-le lent needed)
 
-module _ (s plan work : List ℕ) (m n l : ℕ) (good : SetAfter (readyChecks s (length plan) (length work)) Ordinary s (Good m n l)) where
+-- A set of m rates, n tasks and hyper-period l has passed checks 2 to 6.
+pub record Prepared (s plan work : List ℕ) (m n l : ℕ) : Type 0 where
+  pub after : SetAfter (readyChecks s (length plan) (length work)) Ordinary s (Good m n l)
+
+module _ {s plan work : List ℕ} {m n l : ℕ} (prepared : Prepared s plan work m n l) where
   abbrev checks : List Check
   checks = readyChecks s (length plan) (length work)
+
+  good : SetAfter checks Ordinary s (Good m n l)
+  good = prepared .after
 
   set : IsSet Ordinary s
   set = ready-set s (length plan) (length work) (good .0)
@@ -79,9 +88,13 @@ module _ (s plan work : List ℕ) (m n l : ℕ) (good : SetAfter (readyChecks s 
     };
   }
 
-  module _ (loads energies : List ℕ) (put : PutBoth Ordinary s m n 1 loads energies) where
+  module _ {loads energies : List ℕ} (put : LaidBoth Ordinary s m n 1 loads energies) where
+    -- What is asked of the choice at slack g, and the problem that the arrays then give, at any slack.
+    abbrev request : ℕ → Request
+    request g = record { tasks = n; rates = m; limit = l; slack = g }
+
     abbrev chosenFrom : Problem
-    chosenFrom = arrays n m l loads energies
+    chosenFrom = arrays (request 0) loads energies
 
     -- The arrays give the set's own problem.
     same : Same chosenFrom (problem s)
@@ -97,7 +110,7 @@ module _ (s plan work : List ℕ) (m n l : ℕ) (good : SetAfter (readyChecks s 
     sum-given = (few, rates-range .1, put .loads .small)
 
     -- the load of the fastest plan, as it was summed
-    module _ (f : ℕ) (f-is : f ≡ total (optionAt loads) n (replicate n m)) where
+    module _ {f : ℕ} (f-is : f ≡ total (optionAt loads) n (replicate n m)) where
       array-sum : f ≡ planLoad chosenFrom (fastest chosenFrom)
       unfolding fastest
       array-sum = f-is
@@ -122,28 +135,30 @@ module _ (s plan work : List ℕ) (m n l : ℕ) (good : SetAfter (readyChecks s 
             accepts-next checks (noneCheck (Fitting (problem s))) (good .0)
             (λ k none. let w = fits-iff .1 (omega (arith, fastest-is, good .3)) in none .1 (w .0) (w .1))
 
-        module _ (g : ℕ) (g-is : g ≡ slack s) where
-          pub choice-ready : ChoiceReady n m l g loads energies plan work
+        module _ {g : ℕ} (g-is : g ≡ slack s) where
+          pub choice-ready : ChoiceReady (request g) loads energies plan work
           choice-ready =
               let range = slack-in Ordinary s (set .whole) in
               record {
-                tasks = few;
-                rates = (omega (arith, rates-range .0), rates-range .1);
-                small = omega (arith, hyper-fits);
-                slacks = (omega (arith, g-is, range .0), omega (arith, g-is, range .1));
+                asked = record {
+                  tasks = few;
+                  rates = (omega (arith, rates-range .0), rates-range .1);
+                  small = omega (arith, hyper-fits);
+                  slacks = (omega (arith, g-is, range .0), omega (arith, g-is, range .1));
+                  fits = omega (arith, array-sum);
+                };
                 loads-fit = put .loads .small;
                 energies-fit = put .energies .small;
-                fits = omega (arith, array-sum);
                 plan-room = omega (arith, good .2, long-enough _ _ (passed 6 checks refl (good .0)));
                 work-room = rw (g-is, good .2) (long-enough _ _ (passed 5 checks refl (good .0)));
               }
 
           -- What was chosen is what document 01 selects.
-          module _ (plan′ work′ : List ℕ) (unit load energy : ℕ) (chose : Chose chosenFrom g (workWords n g) plan work plan′ work′ unit load energy) where
+          module _ {plan′ work′ : List ℕ} {c : Choice} (chose : Chose (request g) loads energies plan work plan′ work′ c) where
             plan-is : IsPlan chosenFrom (take n plan′)
             plan-is = chose .planned .chosen .ok .plan
 
-            selected : Selected s (take n plan′) (plannerValues (Planned unit load l energy))
+            selected : Selected s (take n plan′) (plannerValues (Planned (c .unit) (c .load) l (c .energy)))
             selected = record {
               exponent = chose .exponent;
               planned =
@@ -164,12 +179,12 @@ module _ (s plan work : List ℕ) (m n l : ℕ) (good : SetAfter (readyChecks s 
             cleared : Cleared (workNeeded s) work work′
             cleared = rw (← good .2, ← g-is) (chose .cleared)
 
-            numbers : RateNumbers s plan′ (Planned unit load l energy)
+            numbers : RateNumbers s plan′ (Planned (c .unit) (c .load) l (c .energy))
             numbers t h =
                 let e = getD-take n plan′ t 0 (omega (arith, good .2)) in
                 let low : 1 ≤ getD plan′ t 0 = omega (arith, e, plan-is .above t (omega (arith, good .2))) in
                 let high : getD plan′ t 0 ≤ rateCount Ordinary s = omega (arith, e, good .1, plan-is .below t (omega (arith, good .2))) in
                 record { from-1 = low; to-m = high; place = omega arith }
 
-            pub chosen-given : PlannerCall s plan work plan′ work′ (Planned unit load l energy)
-            chosen-given = called s plan work plan′ work′ (Planned unit load l energy) (accepts, (take n plan′, selected, holds), cleared) numbers
+            pub chosen-given : PlannerCall s plan work plan′ work′ (Planned (c .unit) (c .load) l (c .energy))
+            chosen-given = called s plan work plan′ work′ (Planned (c .unit) (c .load) l (c .energy)) (accepts, (take n plan′, selected, holds), cleared) numbers

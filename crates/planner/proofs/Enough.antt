@@ -17,6 +17,10 @@ use Rattle.taskset.specs.declared.Refusal.the-variants.{WorkShort, TooShort}
 use Rattle.taskset.specs.declared.Checked.the-variants.{Good, Refused as NotGood}
 use Rattle.taskset.proofs.Checks.{no-word-fault, accepts-next, refuses-next, refuses-before, passed}
 
+-- A set of m rates, n tasks and hyper-period l has passed checks 2, 3 and 4.
+pub record SetPassed (s : List ℕ) (m n l : ℕ) : Type 0 where
+  pub after : SetAfter (wordChecks Ordinary s ▹ hyperCheck Ordinary s) Ordinary s (Good m n l)
+
 module _ (s : List ℕ) (planLength workLength : ℕ) where
   abbrev set : List Check
   set = wordChecks Ordinary s ▹ hyperCheck Ordinary s
@@ -32,7 +36,10 @@ module _ (s : List ℕ) (planLength workLength : ℕ) where
   set-refused r h =
       refuses-before upTo5 room (number r) (second r) (refuses-before set (workCheck (workNeeded s) workLength) (number r) (second r) h)
 
-  module _ (m n l : ℕ) (good : SetAfter set Ordinary s (Good m n l)) where
+  module _ {m n l : ℕ} (passed-set : SetPassed s m n l) where
+    good : SetAfter set Ordinary s (Good m n l)
+    good = passed-set .after
+
     whole : IsWhole Ordinary s
     whole = whole-of Ordinary s (no-word-fault Ordinary s (passed 2 set refl (good .0)))
 
@@ -45,7 +52,7 @@ module _ (s : List ℕ) (planLength workLength : ℕ) where
     pub some-words : 0 < length s
     some-words = omega (arith, whole .size)
 
-    module _ (w : ℕ) (is : w ≡ workWords n (slack s)) where
+    module _ {w : ℕ} (is : w ≡ workWords n (slack s)) where
       needed : w ≡ workNeeded s
       needed = rw (← good .2) is
 

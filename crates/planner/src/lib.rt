@@ -1,5 +1,5 @@
-// The planner: the checks in document 01's order, then the choice among the set's options. How these are laid out is left to the crate
-// options, how the choice is made to the crate choice.
+// The planner: the checks in document 01's order, then the choice among the set's options. How these are laid out is left
+// to the crate options, how the choice is made to the crate choice.
 ghost use mathlib.Core.Path.{_≡_};
 ghost use Prim.Native.Nat.{_+_, _≤_};
 ghost use lib.ListN.{length};
@@ -9,6 +9,7 @@ ghost use Rattle.taskset.specs.Refusals.{readyChecks};
 ghost use Rattle.taskset.specs.Calls.{SetAfter};
 ghost use Rattle.layout.specs.declared.Layout.the-variants.{Ordinary};
 ghost use Rattle.planner.specs.Answers.{PlannerCall};
+use choice::Request;
 use layout::Layout;
 use taskset::Checked;
 use taskset::PlannerAnswer;
@@ -79,17 +80,14 @@ pub fn plan_checked(
     if hyper < fastest {
         return PlannerAnswer::Refused(Refusal::NoPlan);
     }
-    let slack = checks::slack_of(set);
-    let c = choice::choose(
-        &loads,
-        &energies,
+    let limit = hyper as u32;
+    let q = Request {
         tasks,
         rates,
-        hyper as u32,
-        slack,
-        plan,
-        work,
-    );
+        limit,
+        slack: checks::slack_of(set),
+    };
+    let c = choice::choose(&loads, &energies, q, plan, work);
     PlannerAnswer::Planned {
         unit: c.unit,
         load: c.load,

@@ -3,13 +3,13 @@
 use Prim.Native.Nat.{ℕ, _-_, _≤_}
 use mathlib.Core.Path.{subst}
 use native.Mathlib.Omega.{arith}
-use Rattle.options.specs.Options.{PutBoth}
+use Rattle.options.specs.Options.{LaidBoth}
 use borrow.Author.Needs.{needs}
 use Rattle.options.proofs.put_tasks.Statement.{statement}
 use Rattle.options.proofs.put_tasks.Tie as tie
 
 abbrev Inv-loop : tie.InvT-loop
-Inv-loop loads₀ energies₀ set layout m n hyper t₀ loads energies t = (t ≤ n) × PutBoth layout set m t 1 loads energies
+Inv-loop loads₀ energies₀ set layout m n hyper t₀ loads energies t = (t ≤ n) × LaidBoth layout set m t 1 loads energies
 
 abbrev μ-loop : tie.MeasureT-loop
 μ-loop loads₀ energies₀ set layout m n hyper t₀ loads energies t = n - t
@@ -35,7 +35,7 @@ returns : tie.Need-returns Inv-loop μ-loop
 returns c =
     let a = c .before in
     let g = a .before .before .args in
-    subst (λ (x : ℕ). PutBoth (g .layout) (g .set .now) (g .m) x 1 (a .loop .loads) (a .loop .energies)) (omega arith) (a .loop .inv .1)
+    subst (λ (x : ℕ). LaidBoth (g .layout) (g .set .now) (g .m) x 1 (a .loop .loads) (a .loop .energies)) (omega arith) (a .loop .inv .1)
 
 pub put-tasks-spec : {M : Type 1} → statement M
 put-tasks-spec =

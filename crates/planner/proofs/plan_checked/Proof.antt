@@ -3,58 +3,43 @@
 use native.Mathlib.Omega.{arith}
 use Rattle.layout.specs.declared.Layout.the-variants.{Ordinary}
 use Rattle.options.proofs.Filling.{both-none}
-use Rattle.planner.proofs.Calls.{hyper-fits, words-given, tasks-given, sum-given, none-fits, choice-ready, chosen-given}
+use Rattle.planner.proofs.Calls.{Prepared, hyper-fits, words-given, tasks-given, sum-given, none-fits, choice-ready, chosen-given}
 use Rattle.planner.proofs.plan_checked.Statement.{statement}
 use Rattle.planner.proofs.plan_checked.Tie as tie
 
+-- The ways back: from the slack to the fastest sum, to the arrays, and to the start, where checks 2 to 6 have passed.
+abbrev summed : tie.After-slack-of → tie.After-fastest-sum
+summed s = s .before .before
+
+abbrev put : tie.After-fastest-sum → tie.After-put-tasks
+put f = f .before .before
+
+abbrev start : tie.After-put-tasks → tie.Start
+start p = p .before .before .before .before .before .before
+
+prepared : (s : tie.Start) → Prepared (s .args .set .now) (s .args .plan .now) (s .args .work .now) (s .args .rates) (s .args .tasks) (s .args .hyper)
+prepared s = record { after = s .pre }
+
 put-tasks-requires : tie.Need-put-tasks-requires
-put-tasks-requires c κs =
-    let start = c .before .before .before .before .before in
-    let a = start .args in
-    let ready = start .pre in
-    (tasks-given (a .set .now) (a .plan .now) (a .work .now) (a .rates) (a .tasks) (a .hyper) ready, both-none Ordinary (a .set .now) (a .rates))
+put-tasks-requires c κs = let s = c .before .before .before .before .before in (tasks-given (prepared s), both-none Ordinary (s .args .set .now) (s .args .rates))
 
 fastest-sum-requires : tie.Need-fastest-sum-requires
-fastest-sum-requires c κs =
-    let put = c .before in
-    let start = put .before .before .before .before .before .before in
-    let a = start .args in
-    let ready = start .pre in
-    sum-given (a .set .now) (a .plan .now) (a .work .now) (a .rates) (a .tasks) (a .hyper) ready _ _ (put .put-tasks .ensures)
+fastest-sum-requires c κs = let p = c .before in sum-given (prepared (start p)) (p .put-tasks .ensures)
 
 returns : tie.Need-returns
-returns c =
-    let put = c .before .before .before in
-    let start = put .before .before .before .before .before .before in
-    let a = start .args in
-    let ready = start .pre in
-    none-fits (a .set .now) (a .plan .now) (a .work .now) (a .rates) (a .tasks) (a .hyper) ready _ _ (put .put-tasks .ensures) _ (c .before .fastest-sum .ensures) (c .if1 .taken)
+returns c = let f = c .before in none-fits (prepared (start (put f))) (put f .put-tasks .ensures) (f .fastest-sum .ensures) (c .if1 .taken)
+
+cast-limit : tie.Need-cast-limit
+cast-limit c = omega (arith, hyper-fits (prepared (start (put (c .before)))))
 
 slack-of-requires : tie.Need-slack-of-requires
-slack-of-requires c κs =
-    let put = c .before .before .before in
-    let start = put .before .before .before .before .before .before in
-    let a = start .args in
-    let ready = start .pre in
-    words-given (a .set .now) (a .plan .now) (a .work .now) (a .rates) (a .tasks) (a .hyper) ready
-
-cast-choose : tie.Need-cast-choose
-cast-choose c =
-    let put = c .before .before .before .before .before .before in
-    let start = put .before .before .before .before .before .before in
-    let a = start .args in
-    let ready = start .pre in
-    omega (arith, hyper-fits (a .set .now) (a .plan .now) (a .work .now) (a .rates) (a .tasks) (a .hyper) ready)
+slack-of-requires c κs = words-given (prepared (start (put (c .before))))
 
 choose-requires : tie.Need-choose-requires
 choose-requires c κs =
-    let slack = c .before .before .before .before in
-    let fastest = slack .before .before in
-    let put = fastest .before .before in
-    let start = put .before .before .before .before .before .before in
-    let a = start .args in
-    let ready = start .pre in
-    choice-ready (a .set .now) (a .plan .now) (a .work .now) (a .rates) (a .tasks) (a .hyper) ready _ _ (put .put-tasks .ensures) _ (fastest .fastest-sum .ensures) (slack .before .if1 .left) _ (slack .slack-of .ensures)
+    let s = c .before .before .before .before in
+    let f = summed s in
+    choice-ready (prepared (start (put f))) (put f .put-tasks .ensures) (f .fastest-sum .ensures) (s .before .if1 .left) (s .slack-of .ensures)
 
 same-length : tie.Need-same-length
 same-length c = c .before .before .before .before .choose .ensures .plan-size
@@ -62,16 +47,12 @@ same-length c = c .before .before .before .before .choose .ensures .plan-size
 same-length-2 : tie.Need-same-length-2
 same-length-2 c = c .before .before .before .before .choose .ensures .work-size
 
-returns-2 : tie.Need-returns-2
-returns-2 c =
-    let choose = c .before .before .before .before in
-    let slack = c .before .before .before .before .before .before .before .before .before in
-    let fastest = slack .before .before in
-    let put = fastest .before .before in
-    let start = put .before .before .before .before .before .before in
-    let a = start .args in
-    let ready = start .pre in
-    chosen-given (a .set .now) (a .plan .now) (a .work .now) (a .rates) (a .tasks) (a .hyper) ready _ _ (put .put-tasks .ensures) _ (fastest .fastest-sum .ensures) (slack .before .if1 .left) _ (slack .slack-of .ensures) _ _ _ _ _ (choose .choose .ensures)
+chosen-plan : tie.Need-returns-2
+chosen-plan c =
+    let e = c .before .before .before .before in
+    let s = e .before .before .before .before .before in
+    let f = summed s in
+    chosen-given (prepared (start (put f))) (put f .put-tasks .ensures) (f .fastest-sum .ensures) (s .before .if1 .left) (s .slack-of .ensures) (e .choose .ensures)
 
 pub plan-checked-spec : {M : Type 1} → statement M
 plan-checked-spec =
@@ -80,9 +61,9 @@ plan-checked-spec =
     put-tasks-requires
     fastest-sum-requires
     returns
+    cast-limit
     slack-of-requires
-    cast-choose
     choose-requires
     same-length
     same-length-2
-    returns-2)
+    chosen-plan)
