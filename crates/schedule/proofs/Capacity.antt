@@ -14,8 +14,8 @@ use borrow.Author.Tests.{ltb-true}
 use Rattle.numbers.specs.Numbers.{All}
 use Rattle.numbers.proofs.Sums.{sum}
 use Rattle.numbers.proofs.Tests.{bool-cases, or-true, and-true, lt-or-le}
-use Rattle.schedule.specs.Walk.{Task, Job, fresh, released, release, work, choice, before, late, KeepsForEver}
-use Rattle.schedule.proofs.Choice.{held, held-cases, run-held, work-held}
+use Rattle.schedule.specs.Walk.{Task, Job, fresh, released, release, work, pick, before, late, KeepsForEver}
+use Rattle.schedule.proofs.Picked.{held, held-cases, run-held, work-held}
 use Rattle.schedule.proofs.Demand.{Sporadic, Shares, Capacity, coming, load, fits-capacity, all-sporadic}
 use Rattle.schedule.proofs.State.{sum-tasks, before-all}
 
@@ -62,7 +62,7 @@ module _ (ks : List Task) (capacity : Capacity ks) where
       let i = in-time t (suc d) in
       let f = capacity (suc t) d in
       rw e (⊎-elim
-      (λ (z : sum (held (t + suc d)) js ≡ 0). omega (arith, work-held (t + suc d) js (choice js)))
+      (λ (z : sum (held (t + suc d)) js ≡ 0). omega (arith, work-held (t + suc d) js (pick js)))
       (λ (z : 0 < sum (held (t + suc d)) js). omega (arith, run-held (t + suc d) js z))
       (eq-zero-or-pos (sum (held (t + suc d)) js)))
 
@@ -98,7 +98,7 @@ fresh-ready (k ∷ ks) = (λ u h a. omega arith, fresh-ready ks)
 before-ready : (ks : List Task) → All Sporadic ks → (t : ℕ) → All (Ready t) (before ks t)
 before-ready ks a zero = fresh-ready ks
 before-ready ks a (suc t) =
-    work-ready (suc t) (map (release t) (before ks t)) (choice (map (release t) (before ks t)))
+    work-ready (suc t) (map (release t) (before ks t)) (pick (map (release t) (before ks t)))
     (release-ready t (before ks t) (before-all Sporadic ks a t) (before-ready ks a t))
 
 not-late : (t : ℕ) (js : List Job) → All (Ready t) js → sum (held t) js ≡ 0 → late t js ≡ false

@@ -13,9 +13,9 @@ use borrow.Author.Tests.{ltb-false}
 use Rattle.numbers.specs.Numbers.{All, over}
 use Rattle.numbers.proofs.Tests.{and-false, or-false}
 use Rattle.numbers.proofs.Sums.{sum, over-end}
-use Rattle.schedule.specs.Walk.{Task, Job, fresh, released, release, work, choice, before, late, misses}
+use Rattle.schedule.specs.Walk.{Task, Job, fresh, released, release, work, pick, before, late, misses}
 use Rattle.schedule.specs.Counted.{count, ran, busyAt, idleAt}
-use Rattle.schedule.proofs.Choice.{leftOf, run-left}
+use Rattle.schedule.proofs.Picked.{leftOf, run-left}
 use Rattle.schedule.proofs.Demand.{Sporadic}
 use Rattle.schedule.proofs.State.{sum-tasks, before-all, length-released}
 
@@ -100,7 +100,7 @@ fresh-bounded (k ∷ ks) = (omega arith, fresh-bounded ks)
 before-bounded : (ks : List Task) → All Sporadic ks → (t : ℕ) → All Bounded (before ks t)
 before-bounded ks a zero = fresh-bounded ks
 before-bounded ks a (suc t) =
-    work-bounded (map (release t) (before ks t)) (choice (map (release t) (before ks t)))
+    work-bounded (map (release t) (before ks t)) (pick (map (release t) (before ks t)))
     (release-bounded t (before ks t) (before-all Sporadic ks a t) (before-bounded ks a t))
 
 none-left : (t : ℕ) (js : List Job) → All (λ j. j .task .arrives t ≡ j .task .time) js → All Bounded js → late t js ≡ false → sum leftOf js ≡ 0

@@ -1,4 +1,4 @@
-pub mod Choice
+pub mod Picked
 pub mod Demand
 pub mod State
 pub mod Capacity

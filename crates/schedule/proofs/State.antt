@@ -8,8 +8,8 @@ use lib.Dec.{ltb}
 use lib.ListN.{length}
 use Rattle.numbers.specs.Numbers.{All}
 use Rattle.numbers.proofs.Sums.{sum, sum-map}
-use Rattle.schedule.specs.Walk.{Task, Job, fresh, released, release, choice, before, late, misses}
-use Rattle.schedule.proofs.Choice.{work-task}
+use Rattle.schedule.specs.Walk.{Task, Job, fresh, released, release, pick, before, late, misses}
+use Rattle.schedule.proofs.Picked.{work-task}
 
 released-task : (t : ℕ) (j : Job) (e : ℕ) → released t j e .task ≡ j .task
 released-task t j zero = refl
@@ -28,7 +28,7 @@ fresh-tasks (k ∷ ks) = ap (λ (l : List Task). k ∷ l) (fresh-tasks ks)
 pub before-tasks : (ks : List Task) (t : ℕ) → map (λ j. j .task) (before ks t) ≡ ks
 before-tasks ks zero = fresh-tasks ks
 before-tasks ks (suc t) =
-    work-task (map (release t) (before ks t)) (choice (map (release t) (before ks t))) ∙ release-tasks t (before ks t) ∙ before-tasks ks t
+    work-task (map (release t) (before ks t)) (pick (map (release t) (before ks t))) ∙ release-tasks t (before ks t) ∙ before-tasks ks t
 
 pub sum-tasks : (f : Task → ℕ) (ks : List Task) (t : ℕ) → sum (λ j. f (j .task)) (before ks t) ≡ sum f ks
 sum-tasks f ks t = sym (sum-map f (λ j. j .task) (before ks t)) ∙ ap (sum f) (before-tasks ks t)

@@ -6,7 +6,7 @@ use mathlib.Core.List.{List, [], _∷_, map}
 use lib.Dec.{ltb, eqb}
 use lib.ListN.{length}
 use Rattle.numbers.specs.Numbers.{over}
-use Rattle.schedule.specs.Walk.{Task, periodic, Job, release, choice, before, misses}
+use Rattle.schedule.specs.Walk.{Task, periodic, Job, release, pick, before, misses}
 
 -- "'missed', that tick and the task"; "'kept' and three counts: busy ticks, idle ticks, and preemptions".
 pub data Outcome : Type 0 where
@@ -15,7 +15,7 @@ pub data Outcome : Type 0 where
 
 -- The place of the job that runs in tick t; the number of tasks where the tick is idle.
 abbrev pub ran : List Task → ℕ → ℕ
-ran ks t = choice (map (release t) (before ks t))
+ran ks t = pick (map (release t) (before ks t))
 
 abbrev pub count : Bool → ℕ
 count true = 1

@@ -47,9 +47,9 @@ sooner d (j ∷ js) = (ltb 0 (j .left) && ltb (j .due) d) || sooner d js
 
 -- The place of "the unfinished job with the earliest deadline .., a tie going to the lower task number"; the number of jobs
 -- where all are finished.
-abbrev pub choice : List Job → ℕ
-choice [] = zero
-choice (j ∷ js) = cond (ltb 0 (j .left) && not (sooner (j .due) js)) zero (suc (choice js))
+abbrev pub pick : List Job → ℕ
+pick [] = zero
+pick (j ∷ js) = cond (ltb 0 (j .left) && not (sooner (j .due) js)) zero (suc (pick js))
 
 -- The job at a place "loses one tick"; "with none the tick is idle".
 abbrev pub work : List Job → ℕ → List Job
@@ -58,7 +58,7 @@ work (j ∷ js) zero = record { task = j .task; left = pred (j .left); due = j .
 work (j ∷ js) (suc n) = j ∷ work js n
 
 abbrev pub run : List Job → List Job
-run js = work js (choice js)
+run js = work js (pick js)
 
 -- The walk's state before the check and the releases of tick t.
 abbrev pub before : List Task → ℕ → List Job

@@ -15,11 +15,11 @@ use borrow.Author.Tests.{ltb-true, ltb-false, lt-ltb, le-ltb, eq-eqb, ne-eqb, eq
 use Rattle.numbers.specs.Numbers.{over}
 use Rattle.numbers.proofs.Tests.{bool-cases}
 use Rattle.numbers.proofs.Sums.{over-end}
-use Rattle.schedule.specs.Walk.{Task, tasksFrom, Job, fresh, released, release, choice, run, before, late, misses, periodic}
+use Rattle.schedule.specs.Walk.{Task, tasksFrom, Job, fresh, released, release, pick, run, before, late, misses, periodic}
 use Rattle.schedule.specs.Counted.{missed, kept, ran, count, busyAt, idleAt, leftAt, preemptedAt, lateTask, walkFrom}
 use Rattle.schedule.proofs.Periodic.{multiples-apart}
-use Rattle.ticks.specs.Arrays.{jobsFrom, chosen, worked, stays, cuts}
-use Rattle.ticks.proofs.Ticked.{chosen-is, worked-run, jobs-same, length-jobs, length-tasks, left-jobs, left-past}
+use Rattle.ticks.specs.Arrays.{jobsFrom, picked, worked, stays, cuts}
+use Rattle.ticks.proofs.Ticked.{picked-is, worked-run, jobs-same, length-jobs, length-tasks, left-jobs, left-past}
 
 -- ---- the next release
 -- d is the first tick from t on at which the task releases a job, a full one
@@ -262,13 +262,13 @@ module _ (k : ℕ → Task) (n t : ℕ) (l d e l′ : List ℕ) (busy idle preem
   pub held-next : i ≡ n → n ≤ length l → Part k n t i l d e → length (before (tasksFrom k 0 n) t) ≡ n →
       busy ≡ over (busyAt (tasksFrom k 0 n)) 0 t → idle ≡ over (idleAt (tasksFrom k 0 n)) 0 t → preempted ≡ over (preemptedAt (tasksFrom k 0 n)) 0 t →
       last ≡ pending (tasksFrom k 0 n) t →
-      l′ ≡ worked n l (chosen l d n) → busy′ ≡ busy + count (ltb (chosen l d n) n) → idle′ ≡ idle + count (not (ltb (chosen l d n) n)) →
-      preempted′ ≡ preempted + cuts n (chosen l d n) last → last′ ≡ stays n l′ (chosen l d n) → Held k n (t + 1) l′ d e busy′ idle′ preempted′ last′
+      l′ ≡ worked n l (picked l d n) → busy′ ≡ busy + count (ltb (picked l d n) n) → idle′ ≡ idle + count (not (ltb (picked l d n) n)) →
+      preempted′ ≡ preempted + cuts n (picked l d n) last → last′ ≡ stays n l′ (picked l d n) → Held k n (t + 1) l′ d e busy′ idle′ preempted′ last′
   held-next ei hl s q b₀ i₀ p₀ a₀ el b₁ i₁ p₁ a₁ =
       let ks = tasksFrom k 0 n in
       let w = part-end k n t i l d e ei s in
       let z = length-tasks k 0 n in
-      let r : ran ks t ≡ chosen l d n = ap choice (sym (w .1)) ∙ sym (chosen-is k l d n) in
+      let r : ran ks t ≡ picked l d n = ap pick (sym (w .1)) ∙ sym (picked-is k l d n) in
       let js : jobsFrom k l′ d 0 n ≡ before ks (suc t) = ap (λ (x : List ℕ). jobsFrom k x d 0 n) el ∙ worked-run k l d n hl ∙ ap run (w .1) in
       let at : (g : ℕ → ℕ) → over g 0 (suc t) ≡ over g 0 t + g t = λ g. over-end g 0 t ∙ ap (λ (x : ℕ). over g 0 t + g x) (zero-add t) in
       rw (add-one t) (record {
@@ -276,9 +276,9 @@ module _ (k : ℕ → Task) (n t : ℕ) (l d e l′ : List ℕ) (busy idle preem
         coming = w .2;
         busy = b₁ ∙ rw (b₀, at (busyAt ks), z, r) refl;
         idle = i₁ ∙ rw (i₀, at (idleAt ks), z, r) refl;
-        preempted = p₁ ∙ rw (p₀, at (preemptedAt ks), preempted-is k n t (chosen l d n) last r a₀ q) refl;
-        last = a₁ ∙ stays-is k l′ d n (chosen l d n) ∙
-            ap (λ (xs : List Job). cond (ltb (chosen l d n) n && ltb 0 (leftAt xs (chosen l d n))) (chosen l d n) n) js ∙
+        preempted = p₁ ∙ rw (p₀, at (preemptedAt ks), preempted-is k n t (picked l d n) last r a₀ q) refl;
+        last = a₁ ∙ stays-is k l′ d n (picked l d n) ∙
+            ap (λ (xs : List Job). cond (ltb (picked l d n) n && ltb 0 (leftAt xs (picked l d n))) (picked l d n) n) js ∙
             ap (λ (b : ℕ). cond (ltb b n && ltb 0 (leftAt (before ks (suc t)) b)) b n) (sym r) ∙
             ap (λ (m : ℕ). cond (ltb (ran ks t) m && ltb 0 (leftAt (before ks (suc t)) (ran ks t))) (ran ks t) m) (sym z);
       })

@@ -1,4 +1,4 @@
--- The choice as a loop makes it: from the first job to the last, with the best so far.
+-- The pick as a loop makes it: from the first job to the last, with the best so far.
 -- Assumes nothing.
 use Prim.Native.Nat.{ℕ, suc, _+_, _≤_}
 use mathlib.Core.Path.{_≡_, refl, sym, _∙_}
@@ -9,7 +9,7 @@ use native.Mathlib.Omega.{arith}
 use native.Mathlib.Nat.{add-zero}
 use lib.Dec.{ltb}
 use borrow.Author.Tests.{ltb-true, ltb-false, lt-ltb}
-use Rattle.schedule.specs.Walk.{Job, sooner, choice}
+use Rattle.schedule.specs.Walk.{Job, sooner, pick}
 use Rattle.numbers.proofs.Tests.{or-true, and-true}
 
 -- found: whether there is a best so far, at the place b with the deadline d; i is the place of the list's first job.
@@ -35,7 +35,7 @@ sooner-mono d d′ (j ∷ js) l h =
 
 -- with a best so far, of deadline d
 abbrev pub from-best : ℕ → ℕ → ℕ → List Job → ℕ
-from-best b d i js = cond (sooner d js) (i + choice js) b
+from-best b d i js = cond (sooner d js) (i + pick js) b
 
 -- the four tests of a step, as they turn out
 step-found : (b d i : ℕ) (j : Job) (js : List Job) (x y s s′ : Bool) →
@@ -57,14 +57,14 @@ scan-found b d i (j ∷ js) =
     (step-found b d i j js (ltb 0 (j .left)) (ltb (j .due) d) (sooner d js) (sooner (j .due) js) refl refl refl refl)
 
 step-none : (i : ℕ) (j : Job) (js : List Job) (x s : Bool) → ltb 0 (j .left) ≡ x → sooner (j .due) js ≡ s →
-    cond (ltb 0 (j .left) && (not false || ltb (j .due) 0)) (from-best i (j .due) (suc i) js) (suc i + choice js) ≡ i + choice (j ∷ js)
+    cond (ltb 0 (j .left) && (not false || ltb (j .due) 0)) (from-best i (j .due) (suc i) js) (suc i + pick js) ≡ i + pick (j ∷ js)
 step-none i j js true true p q = rw (p, q) (omega arith)
 step-none i j js true false p q = rw (p, q) (omega arith)
 step-none i j js false s p q = rw p (omega arith)
 
--- The loop, begun with no best, ends with the choice.
-pub scan-choice : (i : ℕ) (js : List Job) → scan false 0 0 i js ≡ i + choice js
-scan-choice i [] = sym (add-zero i)
-scan-choice i (j ∷ js) =
-    rw (scan-found i (j .due) (suc i) js, scan-choice (suc i) js)
+-- The loop, begun with no best, ends with the pick.
+pub scan-pick : (i : ℕ) (js : List Job) → scan false 0 0 i js ≡ i + pick js
+scan-pick i [] = sym (add-zero i)
+scan-pick i (j ∷ js) =
+    rw (scan-found i (j .due) (suc i) js, scan-pick (suc i) js)
     (step-none i j js (ltb 0 (j .left)) (sooner (j .due) js) refl refl)

@@ -1,4 +1,4 @@
--- The choice as the loop over the arrays makes it: at place i, with the best so far.
+-- The pick as the loop over the arrays makes it: at place i, with the best so far.
 -- Assumes nothing.
 use Prim.Native.Nat.{ℕ, suc, _+_, _-_, _≤_, _<_}
 use mathlib.Core.Path.{_≡_, refl, sym, ap, _∙_}
@@ -11,16 +11,16 @@ use native.Mathlib.Numerals.{add-one}
 use borrow.Author.Tests.{lt-ltb, le-ltb}
 use lib.ListN.{getD}
 use lib.Dec.{ltb}
-use Rattle.schedule.specs.Walk.{choice}
-use Rattle.ticks.specs.Arrays.{jobsFrom, blank, chosen}
-use Rattle.ticks.proofs.Scan.{scan, scan-choice}
+use Rattle.schedule.specs.Walk.{pick}
+use Rattle.ticks.specs.Arrays.{jobsFrom, blank, picked}
+use Rattle.ticks.proofs.Scan.{scan, scan-pick}
 
 unfoldable pub scanned : List ℕ → List ℕ → ℕ → Bool → ℕ → ℕ → ℕ → ℕ
 scanned left due n found b d i = scan found b d i (jobsFrom blank left due i (n - i))
 
-pub scanned-start : (left due : List ℕ) (n : ℕ) → scanned left due n false 0 0 0 ≡ chosen left due n
-unfolding scanned chosen
-scanned-start left due n = rw sub-zero (scan-choice 0 (jobsFrom blank left due 0 n) ∙ zero-add (choice (jobsFrom blank left due 0 n)))
+pub scanned-start : (left due : List ℕ) (n : ℕ) → scanned left due n false 0 0 0 ≡ picked left due n
+unfolding scanned picked
+scanned-start left due n = rw sub-zero (scan-pick 0 (jobsFrom blank left due 0 n) ∙ zero-add (pick (jobsFrom blank left due 0 n)))
 
 pub scanned-end : (left due : List ℕ) (n : ℕ) (found : Bool) (b d : ℕ) → scanned left due n found b d n ≡ cond found b n
 unfolding scanned

@@ -12,46 +12,46 @@ use lib.ListN.{length, getD, set}
 use lib.Seq.{getD-set-same, getD-set-other}
 use borrow.Author.Tests.{ltb-true, ltb-false, lt-ltb, le-ltb}
 use Rattle.numbers.proofs.Tests.{bool-cases, or-false, and-false}
-use Rattle.schedule.specs.Walk.{Task, tasksFrom, Job, sooner, choice, work, run}
+use Rattle.schedule.specs.Walk.{Task, tasksFrom, Job, sooner, pick, work, run}
 use Rattle.schedule.specs.Counted.{leftAt}
-use Rattle.ticks.specs.Arrays.{jobsFrom, blank, chosen, worked, stays, surely}
+use Rattle.ticks.specs.Arrays.{jobsFrom, blank, picked, worked, stays, surely}
 use Rattle.ticks.proofs.Scan.{scan-found}
 use Rattle.ticks.proofs.Scanned.{scanned}
 
--- ---- the choice does not look at the tasks
+-- ---- the pick does not look at the tasks
 sooner-tasks : (k k′ : ℕ → Task) (l d : List ℕ) (e i n : ℕ) → sooner e (jobsFrom k l d i n) ≡ sooner e (jobsFrom k′ l d i n)
 sooner-tasks k k′ l d e i zero = refl
 sooner-tasks k k′ l d e i (suc n) = ap (λ (b : Bool). (ltb 0 (getD l i 0) && ltb (getD d i 0) e) || b) (sooner-tasks k k′ l d e (suc i) n)
 
-choice-tasks : (k k′ : ℕ → Task) (l d : List ℕ) (i n : ℕ) → choice (jobsFrom k l d i n) ≡ choice (jobsFrom k′ l d i n)
-choice-tasks k k′ l d i zero = refl
-choice-tasks k k′ l d i (suc n) =
-    ap (λ (b : Bool). cond (ltb 0 (getD l i 0) && not b) zero (suc (choice (jobsFrom k l d (suc i) n)))) (sooner-tasks k k′ l d (getD d i 0) (suc i) n) ∙
-    ap (λ (m : ℕ). cond (ltb 0 (getD l i 0) && not (sooner (getD d i 0) (jobsFrom k′ l d (suc i) n))) zero (suc m)) (choice-tasks k k′ l d (suc i) n)
+pick-tasks : (k k′ : ℕ → Task) (l d : List ℕ) (i n : ℕ) → pick (jobsFrom k l d i n) ≡ pick (jobsFrom k′ l d i n)
+pick-tasks k k′ l d i zero = refl
+pick-tasks k k′ l d i (suc n) =
+    ap (λ (b : Bool). cond (ltb 0 (getD l i 0) && not b) zero (suc (pick (jobsFrom k l d (suc i) n)))) (sooner-tasks k k′ l d (getD d i 0) (suc i) n) ∙
+    ap (λ (m : ℕ). cond (ltb 0 (getD l i 0) && not (sooner (getD d i 0) (jobsFrom k′ l d (suc i) n))) zero (suc m)) (pick-tasks k k′ l d (suc i) n)
 
-pub chosen-is : (k : ℕ → Task) (l d : List ℕ) (n : ℕ) → chosen l d n ≡ choice (jobsFrom k l d 0 n)
-unfolding chosen
-chosen-is k l d n = choice-tasks blank k l d 0 n
+pub picked-is : (k : ℕ → Task) (l d : List ℕ) (n : ℕ) → picked l d n ≡ pick (jobsFrom k l d 0 n)
+unfolding picked
+picked-is k l d n = pick-tasks blank k l d 0 n
 
--- ---- where all deadlines are before M, a scan that starts with M and the place n ends with the choice
-idle-choice : (k : ℕ → Task) (l d : List ℕ) (M i n : ℕ) → ((j : ℕ) → i ≤ j → j < i + n → getD d j 0 < M) → sooner M (jobsFrom k l d i n) ≡ false →
-    choice (jobsFrom k l d i n) ≡ n
-idle-choice k l d M i zero h e = refl
-idle-choice k l d M i (suc n) h e =
+-- ---- where all deadlines are before M, a scan that starts with M and the place n ends with the pick
+idle-pick : (k : ℕ → Task) (l d : List ℕ) (M i n : ℕ) → ((j : ℕ) → i ≤ j → j < i + n → getD d j 0 < M) → sooner M (jobsFrom k l d i n) ≡ false →
+    pick (jobsFrom k l d i n) ≡ n
+idle-pick k l d M i zero h e = refl
+idle-pick k l d M i (suc n) h e =
     let o = or-false (ltb 0 (getD l i 0) && ltb (getD d i 0) M) (sooner M (jobsFrom k l d (suc i) n)) e in
-    let r = idle-choice k l d M (suc i) n (λ j a b. h j (omega arith) (omega arith)) (o .1) in
+    let r = idle-pick k l d M (suc i) n (λ j a b. h j (omega arith) (omega arith)) (o .1) in
     ⊎-elim
     (λ x. rw x (ap suc r))
     (λ x. absurd (true≢false (sym (lt-ltb (getD d i 0) M (h i (omega arith) (omega arith))) ∙ x)))
     (and-false (ltb 0 (getD l i 0)) (ltb (getD d i 0) M) (o .0))
 
-pub scanned-first : (l d : List ℕ) (M n : ℕ) → ((j : ℕ) → j < n → getD d j 0 < M) → scanned l d n true n M 0 ≡ chosen l d n
-unfolding scanned chosen
+pub scanned-first : (l d : List ℕ) (M n : ℕ) → ((j : ℕ) → j < n → getD d j 0 < M) → scanned l d n true n M 0 ≡ picked l d n
+unfolding scanned picked
 scanned-first l d M n h =
     let js = jobsFrom blank l d 0 n in
     rw sub-zero (scan-found n M 0 js ∙ ⊎-elim
-    (λ e. ap (λ (b : Bool). cond b (0 + choice js) n) e ∙ zero-add (choice js))
-    (λ e. ap (λ (b : Bool). cond b (0 + choice js) n) e ∙ sym (idle-choice blank l d M 0 n (λ j a b. h j (omega arith)) e))
+    (λ e. ap (λ (b : Bool). cond b (0 + pick js) n) e ∙ zero-add (pick js))
+    (λ e. ap (λ (b : Bool). cond b (0 + pick js) n) e ∙ sym (idle-pick blank l d M 0 n (λ j a b. h j (omega arith)) e))
     (bool-cases (sooner M js)))
 
 -- ---- arrays that agree on a stretch hold the same jobs there
@@ -90,17 +90,17 @@ work-past [] b h = refl
 work-past (j ∷ js) zero h = absurd (omega arith)
 work-past (j ∷ js) (suc b) h = ap (λ (r : List Job). j ∷ r) (work-past js b (omega arith))
 
-pub worked-run : (k : ℕ → Task) (l d : List ℕ) (n : ℕ) → n ≤ length l → jobsFrom k (worked n l (chosen l d n)) d 0 n ≡ run (jobsFrom k l d 0 n)
+pub worked-run : (k : ℕ → Task) (l d : List ℕ) (n : ℕ) → n ≤ length l → jobsFrom k (worked n l (picked l d n)) d 0 n ≡ run (jobsFrom k l d 0 n)
 unfolding worked
 worked-run k l d n h =
-    rw (chosen-is k l d n)
+    rw (picked-is k l d n)
     (let js = jobsFrom k l d 0 n in
     ⊎-elim
-    (λ e. let x = ltb-true (choice js) n e in
-    rw e (rw (zero-add (choice js)) at (jobs-work k l d (choice js) 0 n x (omega arith))))
-    (λ e. let x = ltb-false (choice js) n e in
-    rw e (sym (work-past js (choice js) (omega (arith, length-jobs k l d 0 n)))))
-    (bool-cases (ltb (choice js) n)))
+    (λ e. let x = ltb-true (pick js) n e in
+    rw e (rw (zero-add (pick js)) at (jobs-work k l d (pick js) 0 n x (omega arith))))
+    (λ e. let x = ltb-false (pick js) n e in
+    rw e (sym (work-past js (pick js) (omega (arith, length-jobs k l d 0 n)))))
+    (bool-cases (ltb (pick js) n)))
 
 -- ---- the ticks left at a place
 pub left-jobs : (k : ℕ → Task) (l d : List ℕ) (i n b : ℕ) → b < n → leftAt (jobsFrom k l d i n) b ≡ getD l (i + b) 0

@@ -15,7 +15,7 @@ use Rattle.numbers.specs.Numbers.{over}
 use Rattle.numbers.proofs.Tests.{bool-cases}
 use Rattle.schedule.specs.Walk.{Task, tasksFrom, before}
 use Rattle.schedule.specs.Counted.{count, busyAt, idleAt, preemptedAt}
-use Rattle.ticks.specs.Arrays.{chosen, worked, stays, surely, cuts, Early, Ticked}
+use Rattle.ticks.specs.Arrays.{picked, worked, stays, surely, cuts, Early, Ticked}
 use Rattle.ticks.specs.declared.State.{State}
 use Rattle.ticks.proofs.Scanned.{scanned, scanned-end}
 use Rattle.ticks.proofs.Ticked.{length-jobs, worked-some, worked-none, stays-none, surely-none}
@@ -51,10 +51,10 @@ cuts-few n b last = few (ltb b n && (ltb last n && not (eqb b last)))
     few true = omega arith
     few false = omega arith
 
-pub pick : (l d : List ℕ) (n best when i : ℕ) → i ≡ n → scanned l d n true best when i ≡ chosen l d n → chosen l d n ≡ best
-pick l d n best when i e h = sym h ∙ ap (scanned l d n true best when) e ∙ scanned-end l d n true best when
+pub picked-best : (l d : List ℕ) (n best when i : ℕ) → i ≡ n → scanned l d n true best when i ≡ picked l d n → picked l d n ≡ best
+picked-best l d n best when i e h = sym h ∙ ap (scanned l d n true best when) e ∙ scanned-end l d n true best when
 
-pub ticked-idle : (n : ℕ) (s : State) → chosen (s .left) (s .due) n ≡ n →
+pub ticked-idle : (n : ℕ) (s : State) → picked (s .left) (s .due) n ≡ n →
     Ticked n s (record { left = s .left; due = s .due; busy = s .busy; idle = s .idle + 1; preempted = s .preempted; last = n; known = 1 })
 ticked-idle n s e = record {
   left = rw e (sym (worked-none n (s .left)));
@@ -67,8 +67,8 @@ ticked-idle n s e = record {
   sure = λ h. sym e;
 }
 
-pub ticked-busy : (n : ℕ) (s : State) (l : List ℕ) (b last known : ℕ) → chosen (s .left) (s .due) n ≡ b → b < n → l ≡ set (s .left) b (getD (s .left) b 0 - 1) →
-    last ≡ stays n l b → known ≡ surely n l b → (0 < known → last ≡ chosen l (s .due) n) →
+pub ticked-busy : (n : ℕ) (s : State) (l : List ℕ) (b last known : ℕ) → picked (s .left) (s .due) n ≡ b → b < n → l ≡ set (s .left) b (getD (s .left) b 0 - 1) →
+    last ≡ stays n l b → known ≡ surely n l b → (0 < known → last ≡ picked l (s .due) n) →
     Ticked n s (record { left = l; due = s .due; busy = s .busy + 1; idle = s .idle; preempted = s .preempted + cuts n b (s .last); last = last; known = known })
 ticked-busy n s l b last known e h q z y u = record {
   left = rw e (q ∙ ap (set (s .left) b) (omega arith) ∙ sym (worked-some n (s .left) b h));

@@ -6,7 +6,7 @@ use mathlib.Core.Bool.{cond, not, _&&_}
 use mathlib.Core.List.{List, [], _∷_}
 use lib.Dec.{ltb, eqb}
 use lib.ListN.{length, getD, set, replicate}
-use Rattle.schedule.specs.Walk.{Task, Job, periodic, choice, tasksFrom}
+use Rattle.schedule.specs.Walk.{Task, Job, periodic, pick, tasksFrom}
 use Rattle.schedule.specs.Counted.{count, kept, missed, walk}
 use Rattle.layout.specs.Words.{longestPeriod}
 use Rattle.taskset.specs.declared.WalkAnswer.{WalkAnswer}
@@ -18,13 +18,13 @@ abbrev pub jobsFrom : (ℕ → Task) → List ℕ → List ℕ → ℕ → ℕ �
 jobsFrom k left due i zero = []
 jobsFrom k left due i (suc n) = record { task = k i; left = getD left i 0; due = getD due i 0 } ∷ jobsFrom k left due (suc i) n
 
--- The choice does not look at tasks.
+-- The pick does not look at tasks.
 abbrev pub blank : ℕ → Task
 blank i = record { period = 0; time = 0; arrives = λ t. 0 }
 
 -- The place that runs next, of n tasks; n where all are finished.
-unfoldable pub chosen : List ℕ → List ℕ → ℕ → ℕ
-chosen left due n = choice (jobsFrom blank left due 0 n)
+unfoldable pub picked : List ℕ → List ℕ → ℕ → ℕ
+picked left due n = pick (jobsFrom blank left due 0 n)
 
 -- The ticks left after the job at place b has run a tick, if b is a place.
 unfoldable pub worked : ℕ → List ℕ → ℕ → List ℕ
@@ -34,7 +34,7 @@ worked n left b = cond (ltb b n) (set left b (pred (getD left b 0))) left
 unfoldable pub stays : ℕ → List ℕ → ℕ → ℕ
 stays n left b = cond (ltb b n && ltb 0 (getD left b 0)) b n
 
--- 1 where b is sure to be the next choice as long as no job is released: it is the place of an unfinished job, or there is none; else 0.
+-- 1 where b is sure to be the next pick as long as no job is released: it is the place of an unfinished job, or there is none; else 0.
 unfoldable pub surely : ℕ → List ℕ → ℕ → ℕ
 surely n left b = cond (ltb b n) (count (ltb 0 (getD left b 0))) 1
 
@@ -65,24 +65,24 @@ pub record Begun (n : ℕ) (r : State) : Type 0 where
   pub last : r .last ≡ n
   pub known : r .known ≡ 0
 
--- A state that a tick can be made of. Where the choice is known, it is `last`.
+-- A state that a tick can be made of. Where the pick is known, it is `last`.
 pub record Ready (n : ℕ) (s : State) : Type 0 where
   pub early : Early n (s .left) (s .due)
-  pub sure : 0 < s .known → s .last ≡ chosen (s .left) (s .due) n
+  pub sure : 0 < s .known → s .last ≡ picked (s .left) (s .due) n
   pub busy-room : s .busy < 4294967295
   pub idle-room : s .idle < 4294967295
   pub preempted-room : s .preempted < 4294967295
 
--- One tick: the chosen job loses a tick, and the counts go on.
+-- One tick: the picked job loses a tick, and the counts go on.
 pub record Ticked (n : ℕ) (s r : State) : Type 0 where
-  pub left : r .left ≡ worked n (s .left) (chosen (s .left) (s .due) n)
+  pub left : r .left ≡ worked n (s .left) (picked (s .left) (s .due) n)
   pub due : r .due ≡ s .due
-  pub busy : r .busy ≡ s .busy + count (ltb (chosen (s .left) (s .due) n) n)
-  pub idle : r .idle ≡ s .idle + count (not (ltb (chosen (s .left) (s .due) n) n))
-  pub preempted : r .preempted ≡ s .preempted + cuts n (chosen (s .left) (s .due) n) (s .last)
-  pub last : r .last ≡ stays n (r .left) (chosen (s .left) (s .due) n)
-  pub known : r .known ≡ surely n (r .left) (chosen (s .left) (s .due) n)
-  pub sure : 0 < r .known → r .last ≡ chosen (r .left) (r .due) n
+  pub busy : r .busy ≡ s .busy + count (ltb (picked (s .left) (s .due) n) n)
+  pub idle : r .idle ≡ s .idle + count (not (ltb (picked (s .left) (s .due) n) n))
+  pub preempted : r .preempted ≡ s .preempted + cuts n (picked (s .left) (s .due) n) (s .last)
+  pub last : r .last ≡ stays n (r .left) (picked (s .left) (s .due) n)
+  pub known : r .known ≡ surely n (r .left) (picked (s .left) (s .due) n)
+  pub sure : 0 < r .known → r .last ≡ picked (r .left) (r .due) n
 
 -- What the loop over ticks asks: n tasks by their periods and job times, and a last tick.
 pub record Given (p c : List ℕ) (n end : ℕ) : Type 0 where

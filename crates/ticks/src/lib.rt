@@ -2,12 +2,12 @@
 // these are, and what was checked before, are left to others.
 ghost use mathlib.Core.Path.{_≡_};
 ghost use Prim.Native.Nat.{_+_, _<_};
-ghost use Rattle.ticks.specs.Arrays.{chosen, cuts, Early, Lesser, Begun, Ready, Ticked, Given, Says};
+ghost use Rattle.ticks.specs.Arrays.{picked, cuts, Early, Lesser, Begun, Ready, Ticked, Given, Says};
 use taskset::WalkAnswer;
 
 // What the walk holds: of each task the ticks left of its job and that job's deadline, which is its next release; the counts so
 // far; the place of the job of the tick before where it is unfinished, else the number of tasks; and whether (1) or not (0) that
-// place is sure to be the next choice. Words alone, so that no copy of it has gaps.
+// place is sure to be the next pick. Words alone, so that no copy of it has gaps.
 pub struct State {
     pub left: [u32; 32],
     pub due: [u32; 32],
@@ -39,9 +39,9 @@ fn lesser(x: u32, y: u32) -> u32
 }
 
 // The place of the unfinished job with the earliest deadline, of several the first; n where all are finished.
-fn choose<'a>(left: &'a [u32; 32], due: &'a [u32; 32], n: usize) -> usize
+fn pick<'a>(left: &'a [u32; 32], due: &'a [u32; 32], n: usize) -> usize
     requires { ⌜ Early n (now left) (now due) ⌝ }
-    ensures { λ r. ⌜ r ≡ chosen (now (left .entry)) (now (due .entry)) n ⌝ }
+    ensures { λ r. ⌜ r ≡ picked (now (left .entry)) (now (due .entry)) n ⌝ }
 {
     let mut best: usize = n;
     let mut when: u32 = 4294967295;
@@ -59,16 +59,16 @@ fn choose<'a>(left: &'a [u32; 32], due: &'a [u32; 32], n: usize) -> usize
     best
 }
 
-// The same, where it may be known: the choice stands until a job is released or finished.
+// The same, where it may be known: the pick stands until a job is released or finished.
 fn place<'a>(known: u32, last: u32, left: &'a [u32; 32], due: &'a [u32; 32], n: usize) -> usize
     requires { ⌜ Early n (now left) (now due) ⌝ }
-    requires { ⌜ (0 < known → last ≡ chosen (now left) (now due) n) ⌝ }
-    ensures { λ r. ⌜ r ≡ chosen (now (left .entry)) (now (due .entry)) n ⌝ }
+    requires { ⌜ (0 < known → last ≡ picked (now left) (now due) n) ⌝ }
+    ensures { λ r. ⌜ r ≡ picked (now (left .entry)) (now (due .entry)) n ⌝ }
 {
     if 0 < known {
         return last as usize;
     }
-    choose(left, due, n)
+    pick(left, due, n)
 }
 
 impl State {

@@ -1,5 +1,5 @@
 -- The walk. Before each tick the arrays hold the definition's state, the counts are its counts, and what is left of its walk is its whole
--- walk; `next` is the earliest release to come, and a known choice is the choice.
+-- walk; `next` is the earliest release to come, and a known pick is the pick.
 -- Assumes nothing.
 use Prim.Native.Nat.{ℕ, _≤_, _<_, _-_, _+_, suc}
 use mathlib.Core.Path.{_≡_, refl, sym, ap, _∙_}
@@ -12,7 +12,7 @@ use lib.ListN.{getD, getD-replicate}
 use lib.Seq.{getD-set-other}
 use Rattle.schedule.specs.Walk.{tasksFrom}
 use Rattle.schedule.specs.Counted.{walkFrom, missed}
-use Rattle.ticks.specs.Arrays.{chosen, Early, taskAt}
+use Rattle.ticks.specs.Arrays.{picked, Early, taskAt}
 use Rattle.ticks.specs.declared.State.{State}
 use Rattle.ticks.proofs.Releases.{Held, Part, part-start, part-pass, part-take, part-skip, part-miss, part-end, held-start, held-next, walkFrom-miss, walkFrom-on, walkFrom-kept, periodic-start, periodic-steady, coming-first}
 use Rattle.ticks.proofs.Ticks.{below, early-set, early-worked, Counted, counted}
@@ -23,7 +23,7 @@ use Rattle.ticks.proofs.run.Tie as tie
 abbrev Inv-loop : tie.InvT-loop
 Inv-loop p c n end s₀ late₀ next₀ t i₀ s late next i =
     (i ≤ n) × (late ≡ 0) × Part (taskAt p c) n t i (s .left) (s .due) (s .due) × Early n (s .left) (s .due) × (t < next) ×
-    ((j : ℕ) → j < i → next ≤ getD (s .due) j 0) × (i < n → s .known ≡ 0) × (0 < s .known → s .last ≡ chosen (s .left) (s .due) n) ×
+    ((j : ℕ) → j < i → next ≤ getD (s .due) j 0) × (i < n → s .known ≡ 0) × (0 < s .known → s .last ≡ picked (s .left) (s .due) n) ×
     Counted (taskAt p c) n t (s .busy) (s .idle) (s .preempted) (s .last)
 
 abbrev μ-loop : tie.MeasureT-loop
@@ -32,7 +32,7 @@ abbrev μ-loop : tie.MeasureT-loop
 abbrev Inv-ticks : tie.InvT-ticks
 Inv-ticks p c n end s₀ late₀ next₀ t₀ s late next t =
     (t ≤ end) × (late ≡ 0) × Held (taskAt p c) n t (s .left) (s .due) (s .due) (s .busy) (s .idle) (s .preempted) (s .last) × Early n (s .left) (s .due) ×
-    (t ≤ next) × ((j : ℕ) → j < n → next ≤ getD (s .due) j 0) × (0 < s .known → s .last ≡ chosen (s .left) (s .due) n) ×
+    (t ≤ next) × ((j : ℕ) → j < n → next ≤ getD (s .due) j 0) × (0 < s .known → s .last ≡ picked (s .left) (s .due) n) ×
     (walkFrom (tasksFrom (taskAt p c) 0 n) t (end - t) ≡ walkFrom (tasksFrom (taskAt p c) 0 n) 0 end)
 
 abbrev μ-ticks : tie.MeasureT-ticks
@@ -165,7 +165,7 @@ loop-again c =
     let f = taskAt (a .p .now) (a .c .now) in
     let s′ = c .before .before .if2 .s in
     let r = c .lesser .ensures in
-    let step : Part f (a .n) (q .t) (i + 1) (s′ .left) (s′ .due) (s′ .due) × Early (a .n) (s′ .left) (s′ .due) × ((j : ℕ) → j < i → getD (s′ .due) j 0 ≡ getD (k .s .due) j 0) × (0 < s′ .known → s′ .last ≡ chosen (s′ .left) (s′ .due) (a .n)) × (s′ .known ≡ k .s .known) × Counted f (a .n) (q .t) (s′ .busy) (s′ .idle) (s′ .preempted) (s′ .last) =
+    let step : Part f (a .n) (q .t) (i + 1) (s′ .left) (s′ .due) (s′ .due) × Early (a .n) (s′ .left) (s′ .due) × ((j : ℕ) → j < i → getD (s′ .due) j 0 ≡ getD (k .s .due) j 0) × (0 < s′ .known → s′ .last ≡ picked (s′ .left) (s′ .due) (a .n)) × (s′ .known ≡ k .s .known) × Counted f (a .n) (q .t) (s′ .busy) (s′ .idle) (s′ .preempted) (s′ .last) =
     ⊎-elim
     (λ w. rw (w .5) (
       part-take f (a .n) (q .t) i (k .s .left) (k .s .due) (k .s .due) _ _ lt (omega (arith, v .3 .lefts)) (omega (arith, v .3 .dues)) (omega (arith, v .3 .dues))

@@ -1,4 +1,4 @@
--- One tick. The place is the choice; it stays the choice while its job is unfinished and nothing is released.
+-- One tick. The place is the pick; it stays the pick while its job is unfinished and nothing is released.
 -- Assumes nothing.
 use Prim.Native.Nat.{_-_, _≤_, _<_}
 use mathlib.Core.Path.{refl, sym, _∙_}
@@ -7,7 +7,7 @@ use native.Mathlib.Omega.{arith}
 use native.Mathlib.Nat.{pos-of-ne-zero}
 use lib.ListN.{getD, set}
 use lib.Seq.{getD-set-same}
-use Rattle.ticks.proofs.Again.{chosen-again, chosen-most, chosen-left}
+use Rattle.ticks.proofs.Again.{picked-again, picked-most, picked-left}
 use Rattle.ticks.proofs.Ticked.{stays-some, stays-none, surely-some, surely-not}
 use Rattle.ticks.proofs.Ticks.{cuts-few, ticked-idle, ticked-busy}
 use borrow.Author.Needs.{needs}
@@ -28,7 +28,7 @@ returns c =
     let a = c .before .before .before .before .before .args in
     let e = c .before .place .ensures in
     let b = c .before .place .result in
-    ticked-idle (a .n) (a .t1) (omega (arith, e, chosen-most (a .t1 .left) (a .t1 .due) (a .n), c .if1 .taken))
+    ticked-idle (a .n) (a .t1) (omega (arith, e, picked-most (a .t1 .left) (a .t1 .due) (a .n), c .if1 .taken))
 
 cast-b : tie.Need-cast-b
 cast-b c = search needs
@@ -56,7 +56,7 @@ sub-rest c =
     let e = c .before .before .before .place .ensures in
     let b = c .before .before .before .place .result in
     let lt = c .before .before .if1 .left in
-    rw e (chosen-left (a .t1 .left) (a .t1 .due) (a .n) (omega (arith, e, lt)))
+    rw e (picked-left (a .t1 .left) (a .t1 .due) (a .n) (omega (arith, e, lt)))
 
 mul-self : tie.Need-mul-self
 mul-self c = search needs
@@ -93,7 +93,7 @@ returns-3 c =
     (let pos = pos-of-ne-zero (c .if2 .left) in
     let some : 0 < getD (set l b v) b 0 = omega (arith, put, pos) in
     ticked-busy (a .n) (a .t1) (set l b v) b b 1 (sym e) lt refl (sym (stays-some (a .n) (set l b v) b lt some)) (sym (surely-some (a .n) (set l b v) b lt some))
-    (λ h. e ∙ sym (chosen-again l (a .t1 .due) (a .n) b v (omega (arith, room .lefts, room .few, lt)) (omega (arith, pos)) pos)))
+    (λ h. e ∙ sym (picked-again l (a .t1 .due) (a .n) b v (omega (arith, room .lefts, room .few, lt)) (omega (arith, pos)) pos)))
 
 pub tick-spec : {M : Type 1} → statement M
 tick-spec =

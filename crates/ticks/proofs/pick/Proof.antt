@@ -1,4 +1,4 @@
--- The choice by a scan: what is left of it ends with the choice.
+-- The pick by a scan: what is left of it ends with the pick.
 -- Assumes nothing.
 use Prim.Native.Nat.{_≤_, _-_}
 use mathlib.Core.Path.{_≡_, refl, sym, _∙_}
@@ -6,16 +6,16 @@ use mathlib.Core.Bool.{true}
 use mathlib.Core.Logic.{inl, inr, ⊎-elim}
 use native.Mathlib.Omega.{arith}
 use borrow.Author.Needs.{needs}
-use Rattle.ticks.specs.Arrays.{chosen}
+use Rattle.ticks.specs.Arrays.{picked}
 use Rattle.ticks.proofs.Scanned.{scanned, scanned-take, scanned-pass}
 use Rattle.ticks.proofs.Ticked.{scanned-first}
-use Rattle.ticks.proofs.Ticks.{pick}
-use Rattle.ticks.proofs.choose.Statement.{statement}
-use Rattle.ticks.proofs.choose.Tie as tie
+use Rattle.ticks.proofs.Ticks.{picked-best}
+use Rattle.ticks.proofs.pick.Statement.{statement}
+use Rattle.ticks.proofs.pick.Tie as tie
 
 abbrev Inv-loop : tie.InvT-loop
 Inv-loop left due n best₀ when₀ i₀ best when i =
-    (i ≤ n) × (scanned left due n true best when i ≡ chosen left due n)
+    (i ≤ n) × (scanned left due n true best when i ≡ picked left due n)
 
 abbrev μ-loop : tie.MeasureT-loop
 μ-loop left due n best₀ when₀ i₀ best when i = n - i
@@ -58,10 +58,10 @@ loop-again c =
     (c .if1 .came)
 
 returns : tie.Need-returns Inv-loop μ-loop
-returns c = sym (pick _ _ _ _ _ _ (omega arith) (c .before .loop .inv .1))
+returns c = sym (picked-best _ _ _ _ _ _ (omega arith) (c .before .loop .inv .1))
 
-pub choose-spec : {M : Type 1} → statement M
-choose-spec =
+pub pick-spec : {M : Type 1} → statement M
+pick-spec =
     tie.close
     (tie.spec
     Inv-loop

@@ -11,7 +11,7 @@ use lib.ListN.{length}
 use borrow.Author.Tests.{ltb-true, ltb-false, leb-true, leb-false, lt-ltb, not-true, not-false}
 use Rattle.numbers.proofs.Sums.{sum}
 use Rattle.numbers.proofs.Tests.{bool-cases, or-true, or-false, and-true, and-false}
-use Rattle.schedule.specs.Walk.{Task, Job, sooner, choice, work, run}
+use Rattle.schedule.specs.Walk.{Task, Job, sooner, pick, work, run}
 use Rattle.schedule.specs.Counted.{count}
 
 -- the ticks left of a job, where its deadline is D or before
@@ -57,17 +57,17 @@ sooner-some d D (j ∷ js) h lt =
     (λ a. omega (arith, sooner-some d D js a lt))
     (or-true (ltb 0 (j .left) && ltb (j .due) d) (sooner d js) h)
 
--- The choice at the first job of a list: it runs, or the choice is among the others.
+-- The pick at the first job of a list: it runs, or the pick is among the others.
 pub run-cases : (j : Job) (js : List Job) →
-    ((choice (j ∷ js) ≡ zero) × (0 < j .left) × (sooner (j .due) js ≡ false)) ⊎
-    ((choice (j ∷ js) ≡ suc (choice js)) × ((j .left ≤ 0) ⊎ (sooner (j .due) js ≡ true)))
+    ((pick (j ∷ js) ≡ zero) × (0 < j .left) × (sooner (j .due) js ≡ false)) ⊎
+    ((pick (j ∷ js) ≡ suc (pick js)) × ((j .left ≤ 0) ⊎ (sooner (j .due) js ≡ true)))
 run-cases j js =
     ⊎-elim
     (λ e.
     let o = and-true (ltb 0 (j .left)) (not (sooner (j .due) js)) e in
-    inl (ap (λ (b : Bool). cond b zero (suc (choice js))) e, ltb-true 0 (j .left) (o .0), not-true (sooner (j .due) js) (o .1)))
+    inl (ap (λ (b : Bool). cond b zero (suc (pick js))) e, ltb-true 0 (j .left) (o .0), not-true (sooner (j .due) js) (o .1)))
     (λ e. inr (
-      ap (λ (b : Bool). cond b zero (suc (choice js))) e,
+      ap (λ (b : Bool). cond b zero (suc (pick js))) e,
       ⊎-elim (λ a. inl (ltb-false 0 (j .left) a)) (λ a. inr (not-false (sooner (j .due) js) a)) (and-false (ltb 0 (j .left)) (not (sooner (j .due) js)) e),
     ))
     (bool-cases (ltb 0 (j .left) && not (sooner (j .due) js)))
@@ -101,12 +101,12 @@ work-held D (j ∷ js) zero = omega (arith, less-held D j)
 work-held D (j ∷ js) (suc n) = omega (arith, work-held D js n)
 
 -- A busy tick takes one tick of all that is left, an idle one none.
-pub run-left : (js : List Job) → count (ltb (choice js) (length js)) + sum leftOf (run js) ≡ sum leftOf js
+pub run-left : (js : List Job) → count (ltb (pick js) (length js)) + sum leftOf (run js) ≡ sum leftOf js
 run-left [] = refl
 run-left (j ∷ js) =
     ⊎-elim
     (λ w. rw (w .0, lt-ltb 0 (suc (length js)) (omega arith)) (one-less (leftOf j) (leftOf (less j)) (sum leftOf js) (w .1) refl))
-    (λ w. rw (w .0, leb·suc-suc (suc (choice js)) (length js)) (omega (arith, run-left js)))
+    (λ w. rw (w .0, leb·suc-suc (suc (pick js)) (length js)) (omega (arith, run-left js)))
     (run-cases j js)
   where
     one-less : (l m r : ℕ) → 0 < l → m ≡ pred l → 1 + (m + r) ≡ l + r
