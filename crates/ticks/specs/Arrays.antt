@@ -49,12 +49,6 @@ pub record Early (n : ℕ) (left due : List ℕ) : Type 0 where
   pub dues : length due ≡ 32
   pub low : (i : ℕ) → i < n → getD due i 0 < 4294967295
 
--- r is the lesser of x and y.
-pub record Lesser (x y r : ℕ) : Type 0 where
-  pub one : r ≤ x
-  pub two : r ≤ y
-  pub least : (z : ℕ) → z < x → z < y → z < r
-
 -- Before tick 0.
 pub record Begun (n : ℕ) (r : State) : Type 0 where
   pub left : r .left ≡ replicate 32 0

@@ -2,7 +2,7 @@
 // these are, and what was checked before, are left to others.
 ghost use mathlib.Core.Path.{_≡_};
 ghost use Prim.Native.Nat.{_+_, _<_};
-ghost use Rattle.ticks.specs.Arrays.{picked, cuts, Early, Lesser, Begun, Ready, Ticked, Given, Says};
+ghost use Rattle.ticks.specs.Arrays.{picked, cuts, Early, Begun, Ready, Ticked, Given, Says};
 use taskset::WalkAnswer;
 
 // What the walk holds: of each task the ticks left of its job and that job's deadline, which is its next release; the counts so
@@ -30,12 +30,6 @@ fn preempts(last: u32, best: u32, n: u32) -> u32
         }
     }
     0
-}
-
-fn lesser(x: u32, y: u32) -> u32
-    ensures { λ r. ⌜ Lesser x y r ⌝ }
-{
-    if x < y { x } else { y }
 }
 
 // The place of the unfinished job with the earliest deadline, of several the first; n where all are finished.
@@ -142,7 +136,7 @@ pub fn run(p: &[u32; 32], c: &[u32; 32], n: usize, end: u32) -> WalkAnswer
                 s.left[i] = c[i];
                 s.due[i] = t + p[i];
             }
-            next = lesser(next, s.due[i]);
+            next = numbers::lesser(next, s.due[i]);
             i += 1;
         }
         if t == end {

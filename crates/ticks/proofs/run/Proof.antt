@@ -182,10 +182,10 @@ loop-again c =
       v .1,
       step .0,
       step .1,
-      r .least (q .t) (v .4) (step .0 .passed i (omega arith) .reached),
+      omega (arith, v .4, step .0 .passed i (omega arith) .reached),
       (λ j x. ⊎-elim
-          (λ (e : j ≡ i). rw e (r .two))
-          (λ (y : j < i). omega (arith, r .one, v .5 j y, step .2 j y))
+          (λ (e : j ≡ i). rw e (omega arith))
+          (λ (y : j < i). omega (arith, v .5 j y, step .2 j y))
           (eq-or-lt-of-le (omega arith))),
       (λ h. step .4 ∙ v .6 lt),
       step .3,
