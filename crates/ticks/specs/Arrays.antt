@@ -60,7 +60,7 @@ pub record Begun (n : ℕ) (r : State) : Type 0 where
   pub known : r .known ≡ 0
 
 -- A state that a tick can be made of. Where the pick is known, it is `last`.
-pub record Ready (n : ℕ) (s : State) : Type 0 where
+pub record TickReady (n : ℕ) (s : State) : Type 0 where
   pub early : Early n (s .left) (s .due)
   pub sure : 0 < s .known → s .last ≡ picked (s .left) (s .due) n
   pub busy-room : s .busy < 4294967295
@@ -79,7 +79,7 @@ pub record Ticked (n : ℕ) (s r : State) : Type 0 where
   pub sure : 0 < r .known → r .last ≡ picked (r .left) (r .due) n
 
 -- What the loop over ticks asks: n tasks by their periods and job times, and a last tick.
-pub record Given (p c : List ℕ) (n end : ℕ) : Type 0 where
+pub record RunReady (p c : List ℕ) (n end : ℕ) : Type 0 where
   pub few : n ≤ 32
   pub periods : length p ≡ 32
   pub times : length c ≡ 32

@@ -2,7 +2,7 @@
 // these are, and what was checked before, are left to others.
 ghost use mathlib.Core.Path.{_≡_};
 ghost use Prim.Native.Nat.{_+_, _<_};
-ghost use Rattle.ticks.specs.Arrays.{picked, cuts, Early, Begun, Ready, Ticked, Given, Says};
+ghost use Rattle.ticks.specs.Arrays.{picked, cuts, Early, Begun, TickReady, Ticked, RunReady, Says};
 use taskset::WalkAnswer;
 
 // What the walk holds: of each task the ticks left of its job and that job's deadline, which is its next release; the counts so
@@ -83,7 +83,7 @@ impl State {
 
     // One tick: the unfinished job with the earliest deadline runs, of several the first.
     pub fn tick(mut self, n: usize) -> State
-        requires { ⌜ Ready n self ⌝ }
+        requires { ⌜ TickReady n self ⌝ }
         ensures { λ r. ⌜ Ticked n self r ⌝ }
     {
         let best = place(self.known, self.last, &self.left, &self.due, n);
@@ -113,7 +113,7 @@ impl State {
 // The walk of n tasks with periods p and job times c, to the tick end. The loop over the tasks runs at the ticks that have a
 // release, and at `end`; the loop over the ticks is left at the first task with work left.
 pub fn run(p: &[u32; 32], c: &[u32; 32], n: usize, end: u32) -> WalkAnswer
-    requires { ⌜ Given (now p) (now c) n end ⌝ }
+    requires { ⌜ RunReady (now p) (now c) n end ⌝ }
     ensures { λ r. ⌜ Says (now (p .entry)) (now (c .entry)) n end r ⌝ }
 {
     let mut s = State::new(n as u32);

@@ -21,8 +21,8 @@ use Rattle.taskset.specs.declared.WalkAnswer.the-variants.{Kept, Missed, Refuse
 use Rattle.taskset.proofs.Checks.{accepts-next, refuses-next, refuses-before, passed}
 use Rattle.taskset.proofs.Sets.{IsSet, job-time-positive}
 use Rattle.taskset.proofs.DemandThree.{plan-of, walk-set, walk-owes}
-use Rattle.ticks.specs.Arrays.{Given, taskAt, Says}
-use Rattle.walk.specs.Answers.{Walked, SetGiven, PlanGiven, Holds, timeAt}
+use Rattle.ticks.specs.Arrays.{RunReady, taskAt, Says}
+use Rattle.walk.specs.Answers.{Walked, SetGiven, SoundPlan, Holds, timeAt}
 
 pub walked : (s P : List ℕ) (a : WalkAnswer) → WalkAnswers s P a → Walked s P a
 walked s P a h = record { answers = h; owes = walk-owes s P a h }
@@ -65,16 +65,16 @@ module _ (s P : List ℕ) (m n l : ℕ) (ready : SetAfter (walkChecks s P) Ordin
   plan : IsPlan (problem s) P
   plan = plan-of s P (passed 8 (walkChecks s P) refl (ready .0))
 
-  pub plan-given : PlanGiven m n P
-  plan-given = record {
+  pub sound-plan : SoundPlan m n P
+  sound-plan = record {
     size = plan .size ∙ sym (ready .2);
     above = λ t h. plan .above t (omega (arith, ready .2));
     below = λ t h. omega (arith, ready .1, plan .below t (omega (arith, ready .2)));
   }
 
   module _ (p c : List ℕ) (periods : Holds (period Ordinary s) n p) (times : Holds (timeAt s P) n c) where
-    pub run-given : Given p c n l
-    run-given = record {
+    pub run-ready : RunReady p c n l
+    run-ready = record {
       few = set-given .few;
       periods = periods .size;
       times = times .size;

@@ -33,7 +33,7 @@ pub record SetGiven (m n : ℕ) (s : List ℕ) : Type 0 where
   pub tasks : n ≡ taskCount Ordinary s
   pub few : n ≤ mostTasks
 
-pub record PlanGiven (m n : ℕ) (P : List ℕ) : Type 0 where
+pub record SoundPlan (m n : ℕ) (P : List ℕ) : Type 0 where
   pub size : length P ≡ n
   pub above : (t : ℕ) → t < n → 1 ≤ getD P t 0
   pub below : (t : ℕ) → t < n → getD P t 0 ≤ m

@@ -5,7 +5,7 @@ ghost use Rattle.layout.specs.declared.Layout.the-variants.{Ordinary};
 ghost use Rattle.taskset.specs.Refusals.{walkChecks};
 ghost use Rattle.taskset.specs.Calls.{SetAfter};
 ghost use Rattle.taskset.specs.declared.Checked.the-variants.{Good};
-ghost use Rattle.walk.specs.Answers.{PlanAnswers, Holds, SetGiven, PlanGiven, timeAt, Walked};
+ghost use Rattle.walk.specs.Answers.{PlanAnswers, Holds, SetGiven, SoundPlan, timeAt, Walked};
 use layout::Layout;
 use taskset::Checked;
 use taskset::Refusal;
@@ -55,7 +55,7 @@ fn periods(set: &[u32], m: usize, n: usize) -> [u32; 32]
 // The job times of a set's n tasks under a plan.
 fn times(set: &[u32], plan: &[u32], m: usize, n: usize) -> [u32; 32]
     requires { ⌜ SetGiven m n (now set) ⌝ }
-    requires { ⌜ PlanGiven m n (now plan) ⌝ }
+    requires { ⌜ SoundPlan m n (now plan) ⌝ }
     ensures { λ r. ⌜ Holds (timeAt (now (set .entry)) (now (plan .entry))) n r ⌝ }
 {
     let mut c = [0u32; 32];

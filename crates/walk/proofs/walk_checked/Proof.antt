@@ -1,7 +1,7 @@
 -- The walk of a set and a plan that have passed the checks.
 -- Assumes nothing.
 use native.Mathlib.Omega.{arith}
-use Rattle.walk.proofs.Calls.{set-given, hyper-fits, plan-given, run-given, says-walked}
+use Rattle.walk.proofs.Calls.{set-given, hyper-fits, sound-plan, run-ready, says-walked}
 use Rattle.walk.proofs.walk_checked.Statement.{statement}
 use Rattle.walk.proofs.walk_checked.Tie as tie
 
@@ -16,7 +16,7 @@ times-requires c κs =
     let s = c .before .before .before in
     let a = s .args in (
       set-given (a .set .now) (a .plan .now) (a .rates) (a .tasks) (a .hyper) (s .pre),
-      plan-given (a .set .now) (a .plan .now) (a .rates) (a .tasks) (a .hyper) (s .pre),
+      sound-plan (a .set .now) (a .plan .now) (a .rates) (a .tasks) (a .hyper) (s .pre),
     )
 
 cast-run : tie.Need-cast-run
@@ -29,7 +29,7 @@ run-requires : tie.Need-run-requires
 run-requires c κs =
     let s = c .before .before .before .before .before .before in
     let a = s .args in
-    run-given (a .set .now) (a .plan .now) (a .rates) (a .tasks) (a .hyper) (s .pre) _ _ (c .before .before .before .periods .ensures) (c .before .before .times .ensures)
+    run-ready (a .set .now) (a .plan .now) (a .rates) (a .tasks) (a .hyper) (s .pre) _ _ (c .before .before .before .periods .ensures) (c .before .before .times .ensures)
 
 returns : tie.Need-returns
 returns c =
