@@ -45,8 +45,11 @@ length-map f [] = refl
 length-map f (x ∷ xs) = ap suc (length-map f xs)
 
 -- There are as many jobs as tasks, released or not.
+pub length-before : (ks : List Task) (t : ℕ) → length (before ks t) ≡ length ks
+length-before ks t = sym (length-map (λ j. j .task) (before ks t)) ∙ ap length (before-tasks ks t)
+
 pub length-released : (ks : List Task) (t : ℕ) → length (map (release t) (before ks t)) ≡ length ks
-length-released ks t = length-map (release t) (before ks t) ∙ sym (length-map (λ j. j .task) (before ks t)) ∙ ap length (before-tasks ks t)
+length-released ks t = length-map (release t) (before ks t) ∙ length-before ks t
 
 -- At tick 0 there is nothing to check.
 pub none-at-start : (ks : List Task) → misses ks 0 ≡ false

@@ -4,3 +4,4 @@ pub mod Ticked
 pub mod Again
 pub mod Releases
 pub mod Ticks
+pub mod Loops

@@ -2,7 +2,7 @@
 -- Assumes nothing.
 use Prim.Native.Nat.{ℕ, suc, _+_, _-_, _≤_, _<_}
 use mathlib.Core.Path.{_≡_, refl, sym, ap, _∙_}
-use mathlib.Core.Bool.{Bool, true, false, cond, not, _&&_, _||_}
+use mathlib.Core.Bool.{Bool, true, false, cond, not, _&&_, _||_, and-false}
 use mathlib.Core.List.{List}
 use mathlib.Core.Logic.{_⊎_, inl, inr, ⊎-elim}
 use native.Mathlib.Omega.{arith}
@@ -54,8 +54,4 @@ scanned-pass left due n found b d i h q =
   where
     test : (getD left i 0 ≤ 0) ⊎ ((found ≡ true) × (d ≤ getD due i 0)) → (ltb 0 (getD left i 0) && (not found || ltb (getD due i 0) d)) ≡ false
     test (inl e) = rw (le-ltb 0 (getD left i 0) e) refl
-    test (inr e) = rw (e .0, le-ltb (getD due i 0) d (e .1)) (both (ltb 0 (getD left i 0)))
-      where
-        both : (x : Bool) → (x && false) ≡ false
-        both true = refl
-        both false = refl
+    test (inr e) = rw (e .0, le-ltb (getD due i 0) d (e .1)) (and-false (ltb 0 (getD left i 0)))

@@ -2,7 +2,7 @@
 -- Assumes nothing.
 use Prim.Native.Nat.{ℕ, zero, suc, pred, _+_, _≤_, _<_}
 use mathlib.Core.Path.{_≡_, refl, sym, ap, _∙_}
-use mathlib.Core.Bool.{Bool, true, false, cond, not, _&&_, _||_, true≢false}
+use mathlib.Core.Bool.{Bool, true, false, cond, not, _&&_, _||_, true≢false, and-false as off}
 use mathlib.Core.List.{List, [], _∷_}
 use mathlib.Core.Logic.{_⊎_, inl, inr, ⊎-elim}
 use native.Mathlib.Omega.{arith}
@@ -129,11 +129,7 @@ stays-some n l b h q = rw (lt-ltb b n h, lt-ltb 0 (getD l b 0) q) refl
 pub stays-none : (n : ℕ) (l : List ℕ) (b : ℕ) → (n ≤ b) ⊎ (getD l b 0 ≤ 0) → stays n l b ≡ n
 unfolding stays
 stays-none n l b (inl h) = rw (le-ltb b n h) refl
-stays-none n l b (inr h) = rw (le-ltb 0 (getD l b 0) h) (both (ltb b n))
-  where
-    both : (x : Bool) → cond (x && false) b n ≡ n
-    both true = refl
-    both false = refl
+stays-none n l b (inr h) = rw (le-ltb 0 (getD l b 0) h, off (ltb b n)) refl
 
 pub surely-some : (n : ℕ) (l : List ℕ) (b : ℕ) → b < n → 0 < getD l b 0 → surely n l b ≡ 1
 unfolding surely

@@ -5,21 +5,37 @@ use mathlib.Core.Path.{_≡_, refl, sym, _∙_}
 use mathlib.Core.Bool.{true, false, true≢false}
 use mathlib.Core.List.{List}
 use mathlib.Core.Logic.{inl, inr, ⊎-elim}
-use native.Mathlib.Nat.{eq-or-lt-of-le}
+use native.Mathlib.Numerals.{add-one}
 use native.Mathlib.Omega.{arith}
 use lib.ListN.{length, getD, set, length-set}
 use lib.Seq.{getD-set-same, getD-set-other}
 use Rattle.numbers.specs.Numbers.{between}
+use Rattle.numbers.proofs.Tests.{below-more}
 use Rattle.taskset.specs.Refusals.{PlanFault, IsBadPlan}
 use Rattle.walk.specs.Answers.{Holds}
 
 -- ---- check 8: the words before place k are 1 to m
-module _ (m n : ℕ) (P : List ℕ) (k : ℕ) (inside : k ≤ length P) (few : k ≤ n) (fine : (j : ℕ) → j < k → between 1 m (getD P j 0) ≡ true) where
+pub record PassedTo (m n : ℕ) (P : List ℕ) (k : ℕ) : Type 0 where
+  pub inside : k ≤ length P
+  pub few : k ≤ n
+  pub fine : (j : ℕ) → j < k → between 1 m (getD P j 0) ≡ true
+
+pub passed-none : {m n : ℕ} {P : List ℕ} → PassedTo m n P 0
+passed-none = record { inside = omega arith; few = omega arith; fine = λ j l. absurd (omega arith) }
+
+module _ {m n : ℕ} {P : List ℕ} {k : ℕ} (v : PassedTo m n P k) where
+  pub passed-more : k < length P → k < n → between 1 m (getD P k 0) ≡ true → PassedTo m n P (k + 1)
+  passed-more l h e = record {
+    inside = omega arith;
+    few = omega arith;
+    fine = rw (add-one k) (below-more (v .fine) e);
+  }
+
   none-before : (j : ℕ) → j < k → PlanFault m n P j → ⊥
   none-before j l f =
       ⊎-elim
-      (λ w. true≢false (sym (fine j l) ∙ w .1))
-      (λ w. ⊎-elim (λ v. absurd (omega arith)) (λ v. absurd (omega arith)) w)
+      (λ w. true≢false (sym (v .fine j l) ∙ w .1))
+      (λ w. ⊎-elim (λ u. absurd (omega arith)) (λ u. absurd (omega arith)) w)
       f
 
   pub bad-word : k < length P → between 1 m (getD P k 0) ≡ false → IsBadPlan m n P k
@@ -35,7 +51,7 @@ module _ (m n : ℕ) (P : List ℕ) (k : ℕ) (inside : k ≤ length P) (few : k
   sound e h j b =
       ⊎-elim
       (λ w. none-before j (omega (arith, w .0)) (b .here))
-      (λ w. ⊎-elim (λ v. absurd (omega arith)) (λ v. absurd (omega arith)) w)
+      (λ w. ⊎-elim (λ u. absurd (omega arith)) (λ u. absurd (omega arith)) w)
       (b .here)
 
 -- ---- an array filled from its first place on
@@ -45,9 +61,6 @@ holds-none f r e = record { size = e; at = λ t l. absurd (omega arith) }
 pub holds-more : (f : ℕ → ℕ) (t v : ℕ) (r : List ℕ) → t < 32 → v ≡ f t → Holds f t r → Holds f (t + 1) (set r t v)
 holds-more f t v r l e h = record {
   size = length-set r t v ∙ h .size;
-  at = λ j i.
-      ⊎-elim
-      (λ (q : j ≡ t). rw (q, getD-set-same r t v 0 (omega (arith, h .size))) e)
-      (λ (q : j < t). rw (getD-set-other r t j v 0 (λ z. absurd (omega arith))) (h .at j q))
-      (eq-or-lt-of-le (omega arith));
+  at = rw (add-one t)
+      (below-more (λ j q. rw (getD-set-other r t j v 0 (λ z. absurd (omega arith))) (h .at j q)) (rw (getD-set-same r t v 0 (omega (arith, h .size))) e));
 }

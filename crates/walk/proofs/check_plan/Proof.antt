@@ -1,34 +1,30 @@
 -- Check 8. The invariant: every word before the place in hand is a rate number.
 -- Assumes nothing.
-use Prim.Native.Nat.{ℕ, _≤_, _<_, _-_}
-use mathlib.Core.Path.{_≡_, sym, _∙_}
-use mathlib.Core.Bool.{true}
-use mathlib.Core.Logic.{⊎-elim}
-use native.Mathlib.Nat.{eq-or-lt-of-le}
+use Prim.Native.Nat.{_-_}
+use mathlib.Core.Path.{sym, _∙_}
 use native.Mathlib.Omega.{arith}
-use lib.ListN.{length, getD}
-use Rattle.numbers.specs.Numbers.{between}
-use Rattle.walk.proofs.Plans.{bad-word, too-long, too-short, sound}
+use lib.ListN.{length}
+use Rattle.walk.proofs.Plans.{PassedTo, passed-none, passed-more, bad-word, too-long, too-short, sound}
 use borrow.Author.Needs.{needs}
 use borrow.Author.Tests.{not-true, not-false}
 use Rattle.walk.proofs.check_plan.Statement.{statement}
 use Rattle.walk.proofs.check_plan.Tie as tie
 
 abbrev Inv-loop : tie.InvT-loop
-Inv-loop plan m n k₀ k = (k ≤ length plan) × (k ≤ n) × ((j : ℕ) → j < k → between 1 m (getD plan j 0) ≡ true)
+Inv-loop plan m n k₀ k = PassedTo m n plan k
 
 abbrev μ-loop : tie.MeasureT-loop
 μ-loop plan m n k₀ k = length plan - k
 
+-- The way back from a word that was tested.
+abbrev at : tie.After-is-between Inv-loop μ-loop → tie.At-loop Inv-loop μ-loop
+at w = w .before .before .before .before
+
 loop-holds : tie.Need-loop-holds Inv-loop μ-loop
-loop-holds c = (omega arith, omega arith, (λ j l. absurd (omega arith)))
+loop-holds c = passed-none
 
 returns : tie.Need-returns Inv-loop μ-loop
-returns c =
-    let b = c .before .before in
-    let a = b .before .before .args in
-    let v = b .loop .inv in
-    too-long (a .m) (a .n) (a .plan .now) (b .loop .k) (omega arith) (omega arith) (v .2) (omega arith) (c .if1 .taken)
+returns c = too-long (c .before .before .loop .inv) (omega arith) (c .if1 .taken)
 
 mul-r : tie.Need-mul-r Inv-loop μ-loop
 mul-r c = search needs
@@ -43,11 +39,7 @@ is-between-requires : tie.Need-is-between-requires Inv-loop μ-loop
 is-between-requires c κs = search needs
 
 returns-2 : tie.Need-returns-2 Inv-loop μ-loop
-returns-2 c =
-    let b = c .before .before .before .before .before in
-    let a = b .before .before .args in
-    let v = b .loop .inv in
-    bad-word (a .m) (a .n) (a .plan .now) (b .loop .k) (omega arith) (omega arith) (v .2) (omega arith) (sym (c .before .is-between .ensures) ∙ not-true _ (c .if2 .taken))
+returns-2 c = bad-word (at (c .before) .loop .inv) (omega arith) (sym (c .before .is-between .ensures) ∙ not-true _ (c .if2 .taken))
 
 add-k : tie.Need-add-k Inv-loop μ-loop
 add-k c = search needs
@@ -56,31 +48,13 @@ loop-less : tie.Need-loop-less Inv-loop μ-loop
 loop-less c = omega arith
 
 loop-again : tie.Need-loop-again Inv-loop μ-loop
-loop-again c =
-    let b = c .before .before .before .before .before in
-    let a = b .before .before .args in
-    let v = b .loop .inv in (
-      omega arith,
-      omega arith,
-      (λ j l. ⊎-elim
-          (λ (e : j ≡ b .loop .k). rw e (sym (c .before .is-between .ensures) ∙ not-false _ (c .if2 .left)))
-          (λ (i : j < b .loop .k). v .2 j i)
-          (eq-or-lt-of-le (omega arith))),
-    )
+loop-again c = passed-more (at (c .before) .loop .inv) (omega arith) (omega arith) (sym (c .before .is-between .ensures) ∙ not-false _ (c .if2 .left))
 
 returns-3 : tie.Need-returns-3 Inv-loop μ-loop
-returns-3 c =
-    let b = c .before .before in
-    let a = b .before .before .args in
-    let v = b .loop .inv in
-    too-short (a .m) (a .n) (a .plan .now) (b .loop .k) (omega arith) (omega arith) (v .2) (omega arith) (c .if3 .taken)
+returns-3 c = too-short (c .before .before .loop .inv) (omega arith) (c .if3 .taken)
 
 returns-4 : tie.Need-returns-4 Inv-loop μ-loop
-returns-4 c =
-    let b = c .before .before in
-    let a = b .before .before .args in
-    let v = b .loop .inv in
-    sound (a .m) (a .n) (a .plan .now) (b .loop .k) (omega arith) (omega arith) (v .2) (omega arith) (c .if3 .left)
+returns-4 c = sound (c .before .before .loop .inv) (omega arith) (c .if3 .left)
 
 pub check-plan-spec : {M : Type 1} → statement M
 check-plan-spec =

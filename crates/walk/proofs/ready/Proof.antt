@@ -1,14 +1,34 @@
 -- The checks in their order.
 -- Assumes nothing.
+use Prim.Native.Nat.{ℕ}
 use mathlib.Core.Path.{subst}
+use mathlib.Core.List.{List}
 use Rattle.layout.specs.declared.Layout.the-variants.{Ordinary}
 use Rattle.taskset.specs.Calls.{SetAfter}
+use Rattle.taskset.specs.declared.Checked.{Checked}
+use Rattle.taskset.specs.declared.Checked.the-variants.{Good}
 use Rattle.taskset.specs.Refusals.{_▹_, wordChecks, hyperCheck}
 use Rattle.walk.specs.Answers.{PlanAnswers}
 use Rattle.walk.proofs.Calls.{set-refused, plan-refused, plan-sound}
 use borrow.Author.Needs.{needs}
 use Rattle.walk.proofs.ready.Statement.{statement}
 use Rattle.walk.proofs.ready.Tie as tie
+
+-- The way back from the plan's check to the set's; the lists there; and what the set's check says of a set that passes.
+abbrev first : tie.After-check-plan → tie.After-check-set
+first w = w .before .before .before .before
+
+abbrev set : tie.After-check-set → List ℕ
+set k = k .before .before .before .args .set .now
+
+abbrev plan : tie.After-check-set → List ℕ
+plan k = k .before .before .before .args .plan .now
+
+abbrev Said : tie.After-check-set → Checked → Type 0
+Said k = SetAfter (wordChecks Ordinary (set k) ▹ hyperCheck Ordinary (set k)) Ordinary (set k)
+
+good : (w : tie.After-check-plan) → let g = w .before .before .checked2 .given in Said (first w) (Good (g .0 .0) (g .0 .1 .0) (g .0 .1 .1 .0))
+good w = subst (Said (first w)) (w .before .before .checked2 .given .1) (first w .check-set .ensures)
 
 check-set-requires : tie.Need-check-set-requires
 check-set-requires c κs = search needs
@@ -30,38 +50,20 @@ enum-told c = search needs
 
 returns : tie.Need-returns
 returns c =
-    let sh = c .before in
-    let a = sh .before .before .before .before .before .args in
-    let r = sh .checked .given .0 .0 in
-    let refused = subst (SetAfter (wordChecks Ordinary (a .set .now) ▹ hyperCheck Ordinary (a .set .now)) Ordinary (a .set .now)) (sh .checked .given .1) (sh .before .before .check-set .ensures) in
-    set-refused (a .set .now) (a .plan .now) r refused
+    let k = c .before .before .before in
+    set-refused (set k) (plan k) (c .before .checked .given .0 .0) (subst (Said k) (c .before .checked .given .1) (k .check-set .ensures))
 
 returns-2 : tie.Need-returns-2
 returns-2 c =
-    let sh = c .before .before .before .before .before in
-    let a = sh .before .before .before .before .before .args in
-    let s = a .set .now in
-    let P = a .plan .now in
-    let m = sh .checked2 .given .0 .0 in
-    let n = sh .checked2 .given .0 .1 .0 in
-    let l = sh .checked2 .given .0 .1 .1 .0 in
-    let good = subst (SetAfter (wordChecks Ordinary s ▹ hyperCheck Ordinary s) Ordinary s) (sh .checked2 .given .1) (sh .before .before .check-set .ensures) in
-    let k = c .before .sound .given .0 .0 in
-    let bad = subst (PlanAnswers m n P) (c .before .sound .given .1) (c .before .before .before .check-plan .ensures) in
-    plan-refused s P m n l good k bad
+    let w = c .before .before .before in
+    let k = first w in
+    plan-refused (set k) (plan k) _ _ _ (good w) (c .before .sound .given .0 .0) (subst (PlanAnswers _ _ (plan k)) (c .before .sound .given .1) (w .check-plan .ensures))
 
 returns-3 : tie.Need-returns-3
 returns-3 c =
-    let sh = c .before .before .before .before in
-    let a = sh .before .before .before .before .before .args in
-    let s = a .set .now in
-    let P = a .plan .now in
-    let m = sh .checked2 .given .0 .0 in
-    let n = sh .checked2 .given .0 .1 .0 in
-    let l = sh .checked2 .given .0 .1 .1 .0 in
-    let good = subst (SetAfter (wordChecks Ordinary s ▹ hyperCheck Ordinary s) Ordinary s) (sh .checked2 .given .1) (sh .before .before .check-set .ensures) in
-    let pass = subst (PlanAnswers m n P) (c .enum-told .given .1) (c .before .before .check-plan .ensures) in
-    plan-sound s P m n l good pass
+    let w = c .before .before in
+    let k = first w in
+    plan-sound (set k) (plan k) _ _ _ (good w) (subst (PlanAnswers _ _ (plan k)) (c .enum-told .given .1) (w .check-plan .ensures))
 
 pub ready-spec : {M : Type 1} → statement M
 ready-spec =
