@@ -153,8 +153,8 @@ ticks-again c =
 cast-t38 : tie.Need-cast-t38 Inv-loop μ-loop Inv-ticks μ-ticks
 cast-t38 c = omega (arith, small (c .before .before))
 
-returns : tie.Need-returns Inv-loop μ-loop Inv-ticks μ-ticks
-returns c =
+missed-answer : tie.Need-returns Inv-loop μ-loop Inv-ticks μ-ticks
+missed-answer c =
     let q = c .before .before in
     let v = q .ticks .inv in
     ⊎-elim
@@ -197,8 +197,8 @@ cast-t42 c = omega (arith, small (c .before .before), idle-fits (at-end c .count
 cast-t44 : tie.Need-cast-t44 Inv-loop μ-loop Inv-ticks μ-ticks
 cast-t44 c = omega (arith, small (c .before .before), preempted-fits (at-end c .counts))
 
-returns-2 : tie.Need-returns-2 Inv-loop μ-loop Inv-ticks μ-ticks
-returns-2 c =
+kept-answer : tie.Need-returns-2 Inv-loop μ-loop Inv-ticks μ-ticks
+kept-answer c =
     let q = c .before .before in
     let o = at-end c in
     let z : start q .args .end - q .ticks .t ≡ 0 = omega (arith, o .here) in
@@ -242,8 +242,8 @@ run-spec =
     ticks-less
     ticks-again
     cast-t38
-    returns
+    missed-answer
     cast-t40
     cast-t42
     cast-t44
-    returns-2)
+    kept-answer)

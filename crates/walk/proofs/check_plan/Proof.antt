@@ -23,8 +23,8 @@ at w = w .before .before .before .before
 loop-holds : tie.Need-loop-holds Inv-loop μ-loop
 loop-holds c = passed-none
 
-returns : tie.Need-returns Inv-loop μ-loop
-returns c = too-long (c .before .before .loop .inv) (omega arith) (c .if1 .taken)
+long-answer : tie.Need-returns Inv-loop μ-loop
+long-answer c = too-long (c .before .before .loop .inv) (omega arith) (c .if1 .taken)
 
 mul-r : tie.Need-mul-r Inv-loop μ-loop
 mul-r c = search needs
@@ -38,8 +38,8 @@ cast-r c = omega (arith, c .shared-slice-known2 .given (c .before .before .befor
 is-between-requires : tie.Need-is-between-requires Inv-loop μ-loop
 is-between-requires c κs = search needs
 
-returns-2 : tie.Need-returns-2 Inv-loop μ-loop
-returns-2 c = bad-word (at (c .before) .loop .inv) (omega arith) (sym (c .before .is-between .ensures) ∙ not-true _ (c .if2 .taken))
+word-answer : tie.Need-returns-2 Inv-loop μ-loop
+word-answer c = bad-word (at (c .before) .loop .inv) (omega arith) (sym (c .before .is-between .ensures) ∙ not-true _ (c .if2 .taken))
 
 add-k : tie.Need-add-k Inv-loop μ-loop
 add-k c = search needs
@@ -50,11 +50,11 @@ loop-less c = omega arith
 loop-again : tie.Need-loop-again Inv-loop μ-loop
 loop-again c = passed-more (at (c .before) .loop .inv) (omega arith) (omega arith) (sym (c .before .is-between .ensures) ∙ not-false _ (c .if2 .left))
 
-returns-3 : tie.Need-returns-3 Inv-loop μ-loop
-returns-3 c = too-short (c .before .before .loop .inv) (omega arith) (c .if3 .taken)
+short-answer : tie.Need-returns-3 Inv-loop μ-loop
+short-answer c = too-short (c .before .before .loop .inv) (omega arith) (c .if3 .taken)
 
-returns-4 : tie.Need-returns-4 Inv-loop μ-loop
-returns-4 c = sound (c .before .before .loop .inv) (omega arith) (c .if3 .left)
+sound-answer : tie.Need-returns-4 Inv-loop μ-loop
+sound-answer c = sound (c .before .before .loop .inv) (omega arith) (c .if3 .left)
 
 pub check-plan-spec : {M : Type 1} → statement M
 check-plan-spec =
@@ -63,14 +63,14 @@ check-plan-spec =
     Inv-loop
     μ-loop
     loop-holds
-    returns
+    long-answer
     mul-r
     shared-slice-read-r
     cast-r
     is-between-requires
-    returns-2
+    word-answer
     add-k
     loop-less
     loop-again
-    returns-3
-    returns-4)
+    short-answer
+    sound-answer)

@@ -48,19 +48,19 @@ enum-known-sound c = search needs
 enum-told : tie.Need-enum-told
 enum-told c = search needs
 
-returns : tie.Need-returns
-returns c =
+set-answer : tie.Need-returns
+set-answer c =
     let k = c .before .before .before in
     set-refused (set k) (plan k) (c .before .checked .given .0 .0) (subst (Said k) (c .before .checked .given .1) (k .check-set .ensures))
 
-returns-2 : tie.Need-returns-2
-returns-2 c =
+plan-answer : tie.Need-returns-2
+plan-answer c =
     let w = c .before .before .before in
     let k = first w in
     plan-refused (set k) (plan k) _ _ _ (good w) (c .before .sound .given .0 .0) (subst (PlanAnswers _ _ (plan k)) (c .before .sound .given .1) (w .check-plan .ensures))
 
-returns-3 : tie.Need-returns-3
-returns-3 c =
+sound-answer : tie.Need-returns-3
+sound-answer c =
     let w = c .before .before in
     let k = first w in
     plan-sound (set k) (plan k) _ _ _ (good w) (subst (PlanAnswers _ _ (plan k)) (c .enum-told .given .1) (w .check-plan .ensures))
@@ -75,6 +75,6 @@ ready-spec =
     check-plan-requires
     enum-known-sound
     enum-told
-    returns
-    returns-2
-    returns-3)
+    set-answer
+    plan-answer
+    sound-answer)

@@ -29,8 +29,8 @@ cast-none c = search needs
 add-self : tie.Need-add-self
 add-self c = search needs
 
-returns : tie.Need-returns
-returns c =
+idle-tick : tie.Need-returns
+idle-tick c =
     let a = start (c .before) .args in
     ticked-idle (a .n) (a .t1) (omega (arith, c .before .place .ensures, picked-most (a .t1 .left) (a .t1 .due) (a .n), c .if1 .taken))
 
@@ -66,14 +66,14 @@ mul-self c = search needs
 element-write-self : tie.Need-element-write-self
 element-write-self c = search needs
 
-returns-2 : tie.Need-returns-2
-returns-2 c =
+last-tick : tie.Need-returns-2
+last-tick c =
     let r = c .before in
     let a = start (placed r) .args in
     rw (r .before .preempts .ensures) (ticked-last (a .n) (a .t1) _ (sym (placed r .place .ensures)) (r .before .before .if1 .left) (room r) (c .if2 .taken))
 
-returns-3 : tie.Need-returns-3
-returns-3 c =
+busy-tick : tie.Need-returns-3
+busy-tick c =
     let r = c .before in
     let a = start (placed r) .args in
     rw (r .before .preempts .ensures) (ticked-on (a .n) (a .t1) _ (sym (placed r .place .ensures)) (r .before .before .if1 .left) (room r) (c .if2 .left))
@@ -85,7 +85,7 @@ tick-spec =
     place-requires
     cast-none
     add-self
-    returns
+    idle-tick
     cast-b
     add-self-2
     preempts-requires
@@ -95,5 +95,5 @@ tick-spec =
     sub-rest
     mul-self
     element-write-self
-    returns-2
-    returns-3)
+    last-tick
+    busy-tick)
