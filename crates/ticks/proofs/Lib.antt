@@ -1,5 +1,4 @@
 pub mod Scan
-pub mod Scanned
 pub mod Ticked
 pub mod Again
 pub mod Releases

@@ -2,21 +2,19 @@
 -- Assumes nothing.
 use Prim.Native.Nat.{ℕ, zero, suc, pred, _+_, _≤_, _<_}
 use mathlib.Core.Path.{_≡_, refl, sym, ap, _∙_}
-use mathlib.Core.Bool.{Bool, true, false, cond, not, _&&_, _||_, true≢false, and-false as off}
+use mathlib.Core.Bool.{Bool, cond, not, _&&_, _||_, and-false}
 use mathlib.Core.List.{List, [], _∷_}
 use mathlib.Core.Logic.{_⊎_, inl, inr, ⊎-elim}
 use native.Mathlib.Omega.{arith}
-use native.Mathlib.Nat.{add-zero, zero-add, sub-zero}
+use native.Mathlib.Nat.{add-zero, zero-add}
 use lib.Dec.{ltb}
 use lib.ListN.{length, getD, set}
 use lib.Seq.{getD-set-same, getD-set-other}
 use borrow.Author.Tests.{ltb-true, ltb-false, lt-ltb, le-ltb}
-use Rattle.numbers.proofs.Tests.{bool-cases, or-false, and-false}
+use Rattle.numbers.proofs.Tests.{bool-cases}
 use Rattle.schedule.specs.Walk.{Task, tasksFrom, Job, sooner, pick, work, run}
 use Rattle.schedule.specs.Counted.{leftAt}
 use Rattle.ticks.specs.Arrays.{jobsFrom, blank, picked, worked, stays, surely}
-use Rattle.ticks.proofs.Scan.{scan-found}
-use Rattle.ticks.proofs.Scanned.{scanned}
 
 -- ---- the pick does not look at the tasks
 sooner-tasks : (k k′ : ℕ → Task) (l d : List ℕ) (e i n : ℕ) → sooner e (jobsFrom k l d i n) ≡ sooner e (jobsFrom k′ l d i n)
@@ -32,27 +30,6 @@ pick-tasks k k′ l d i (suc n) =
 pub picked-is : (k : ℕ → Task) (l d : List ℕ) (n : ℕ) → picked l d n ≡ pick (jobsFrom k l d 0 n)
 unfolding picked
 picked-is k l d n = pick-tasks blank k l d 0 n
-
--- ---- where all deadlines are before M, a scan that starts with M and the place n ends with the pick
-idle-pick : (k : ℕ → Task) (l d : List ℕ) (M i n : ℕ) → ((j : ℕ) → i ≤ j → j < i + n → getD d j 0 < M) → sooner M (jobsFrom k l d i n) ≡ false →
-    pick (jobsFrom k l d i n) ≡ n
-idle-pick k l d M i zero h e = refl
-idle-pick k l d M i (suc n) h e =
-    let o = or-false (ltb 0 (getD l i 0) && ltb (getD d i 0) M) (sooner M (jobsFrom k l d (suc i) n)) e in
-    let r = idle-pick k l d M (suc i) n (λ j a b. h j (omega arith) (omega arith)) (o .1) in
-    ⊎-elim
-    (λ x. rw x (ap suc r))
-    (λ x. absurd (true≢false (sym (lt-ltb (getD d i 0) M (h i (omega arith) (omega arith))) ∙ x)))
-    (and-false (ltb 0 (getD l i 0)) (ltb (getD d i 0) M) (o .0))
-
-pub scanned-first : (l d : List ℕ) (M n : ℕ) → ((j : ℕ) → j < n → getD d j 0 < M) → scanned l d n true n M 0 ≡ picked l d n
-unfolding scanned picked
-scanned-first l d M n h =
-    let js = jobsFrom blank l d 0 n in
-    rw sub-zero (scan-found n M 0 js ∙ ⊎-elim
-    (λ e. ap (λ (b : Bool). cond b (0 + pick js) n) e ∙ zero-add (pick js))
-    (λ e. ap (λ (b : Bool). cond b (0 + pick js) n) e ∙ sym (idle-pick blank l d M 0 n (λ j a b. h j (omega arith)) e))
-    (bool-cases (sooner M js)))
 
 -- ---- arrays that agree on a stretch hold the same jobs there
 pub jobs-same : (k : ℕ → Task) (l d l′ d′ : List ℕ) (i n : ℕ) →
@@ -129,7 +106,7 @@ stays-some n l b h q = rw (lt-ltb b n h, lt-ltb 0 (getD l b 0) q) refl
 pub stays-none : (n : ℕ) (l : List ℕ) (b : ℕ) → (n ≤ b) ⊎ (getD l b 0 ≤ 0) → stays n l b ≡ n
 unfolding stays
 stays-none n l b (inl h) = rw (le-ltb b n h) refl
-stays-none n l b (inr h) = rw (le-ltb 0 (getD l b 0) h, off (ltb b n)) refl
+stays-none n l b (inr h) = rw (le-ltb 0 (getD l b 0) h, and-false (ltb b n)) refl
 
 pub surely-some : (n : ℕ) (l : List ℕ) (b : ℕ) → b < n → 0 < getD l b 0 → surely n l b ≡ 1
 unfolding surely

@@ -15,7 +15,6 @@ use Rattle.numbers.proofs.Tests.{bool-cases}
 use Rattle.ticks.specs.Arrays.{picked, worked, stays, surely, cuts, Early, Ticked}
 use Rattle.ticks.specs.declared.State.{State}
 use Rattle.ticks.proofs.Again.{picked-again}
-use Rattle.ticks.proofs.Scanned.{scanned, scanned-end}
 use Rattle.ticks.proofs.Ticked.{worked-some, worked-none, stays-some, stays-none, surely-some, surely-not, surely-none}
 use Rattle.ticks.proofs.Releases.{count-few}
 
@@ -32,9 +31,6 @@ cuts-none n b last (inr (inr h)) = rw (eq-eqb b last h, and-false (ltb last n), 
 pub cuts-few : (n b last : ℕ) → cuts n b last ≤ 1
 unfolding cuts
 cuts-few n b last = count-few (ltb b n && (ltb last n && not (eqb b last)))
-
-pub picked-best : (l d : List ℕ) (n best when i : ℕ) → i ≡ n → scanned l d n true best when i ≡ picked l d n → picked l d n ≡ best
-picked-best l d n best when i e h = sym h ∙ ap (scanned l d n true best when) e ∙ scanned-end l d n true best when
 
 pub ticked-idle : (n : ℕ) (s : State) → picked (s .left) (s .due) n ≡ n →
     Ticked n s (record { left = s .left; due = s .due; busy = s .busy; idle = s .idle + 1; preempted = s .preempted; last = n; known = 1 })

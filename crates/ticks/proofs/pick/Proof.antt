@@ -1,21 +1,18 @@
 -- The pick by a scan: what is left of it ends with the pick.
 -- Assumes nothing.
 use Prim.Native.Nat.{_≤_, _-_}
-use mathlib.Core.Path.{_≡_, refl, sym, _∙_}
-use mathlib.Core.Bool.{true}
+use mathlib.Core.Path.{_≡_, sym, _∙_}
 use mathlib.Core.Logic.{inl, inr, ⊎-elim}
 use native.Mathlib.Omega.{arith}
 use borrow.Author.Needs.{needs}
 use Rattle.ticks.specs.Arrays.{picked}
-use Rattle.ticks.proofs.Scanned.{scanned, scanned-take, scanned-pass}
-use Rattle.ticks.proofs.Ticked.{scanned-first}
-use Rattle.ticks.proofs.Ticks.{picked-best}
+use Rattle.ticks.proofs.Scan.{scanned, scanned-first, scanned-end, scanned-take, scanned-pass}
 use Rattle.ticks.proofs.pick.Statement.{statement}
 use Rattle.ticks.proofs.pick.Tie as tie
 
 abbrev Inv-loop : tie.InvT-loop
 Inv-loop left due n best₀ when₀ i₀ best when i =
-    (i ≤ n) × (scanned left due n true best when i ≡ picked left due n)
+    (i ≤ n) × (scanned left due n best when i ≡ picked left due n)
 
 abbrev μ-loop : tie.MeasureT-loop
 μ-loop left due n best₀ when₀ i₀ best when i = n - i
@@ -43,22 +40,19 @@ loop-less c = search needs
 
 loop-again : tie.Need-loop-again Inv-loop μ-loop
 loop-again c =
-    let a = c .before .before .before .before .before .args in
     let k = c .before .before .before .before .loop in
     let lt = c .before .before .before .loop-test .taken in
-    let l = a .left .now in
-    let d = a .due .now in
     let v = k .inv .1 in
     ⊎-elim
-    (λ w. (omega arith, rw (w .2, w .3) (sym (scanned-take l d (a .n) true (k .best) (k .when) (k .i) lt (w .0 .taken) (inr (w .1 .taken))) ∙ v)))
+    (λ w. (omega arith, rw (w .2, w .3) (sym (scanned-take _ _ _ (k .best) (k .when) (k .i) lt (w .0 .taken) (w .1 .taken)) ∙ v)))
     (λ y. ⊎-elim
-    (λ w. (omega arith, rw (w .2, w .3) (sym (scanned-pass l d (a .n) true (k .best) (k .when) (k .i) lt (inr (refl, w .1 .left))) ∙ v)))
-    (λ w. (omega arith, rw (w .1, w .2) (sym (scanned-pass l d (a .n) true (k .best) (k .when) (k .i) lt (inl (w .0 .left))) ∙ v)))
+    (λ w. (omega arith, rw (w .2, w .3) (sym (scanned-pass _ _ _ (k .best) (k .when) (k .i) lt (inr (w .1 .left))) ∙ v)))
+    (λ w. (omega arith, rw (w .1, w .2) (sym (scanned-pass _ _ _ (k .best) (k .when) (k .i) lt (inl (w .0 .left))) ∙ v)))
     y)
     (c .if1 .came)
 
 returns : tie.Need-returns Inv-loop μ-loop
-returns c = sym (picked-best _ _ _ _ _ _ (omega arith) (c .before .loop .inv .1))
+returns c = sym (scanned-end _ _ _ _ _ _ (omega arith) (c .before .loop .inv .1))
 
 pub pick-spec : {M : Type 1} → statement M
 pick-spec =
