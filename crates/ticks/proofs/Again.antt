@@ -14,20 +14,12 @@ use borrow.Author.Tests.{ltb-true, lt-ltb, eqb-true, eqb-false}
 use Rattle.schedule.specs.Walk.{sooner, pick}
 use Rattle.numbers.proofs.Tests.{bool-cases, and-true}
 use Rattle.ticks.specs.Arrays.{jobsFrom, blank, picked}
-
--- which jobs are unfinished is all that the pick takes from the ticks left
-sooner-same : (l l′ d : List ℕ) (e i n : ℕ) → ((j : ℕ) → ltb 0 (getD l j 0) ≡ ltb 0 (getD l′ j 0)) → sooner e (jobsFrom blank l d i n) ≡ sooner e (jobsFrom blank l′ d i n)
-sooner-same l l′ d e i zero h = refl
-sooner-same l l′ d e i (suc n) h = rw (h i, sooner-same l l′ d e (suc i) n h) refl
-
-pick-same : (l l′ d : List ℕ) (i n : ℕ) → ((j : ℕ) → ltb 0 (getD l j 0) ≡ ltb 0 (getD l′ j 0)) → pick (jobsFrom blank l d i n) ≡ pick (jobsFrom blank l′ d i n)
-pick-same l l′ d i zero h = refl
-pick-same l l′ d i (suc n) h = rw (h i, sooner-same l l′ d (getD d i 0) (suc i) n h, pick-same l l′ d (suc i) n h) refl
+use Rattle.ticks.proofs.Ticked.{pick-same}
 
 -- a job that runs for a tick and is unfinished runs again
 pub picked-again : (l d : List ℕ) (n b v : ℕ) → b < length l → 0 < getD l b 0 → 0 < v → picked (set l b v) d n ≡ picked l d n
 unfolding picked
-picked-again l d n b v hb h q = pick-same (set l b v) l d 0 n same
+picked-again l d n b v hb h q = pick-same blank blank (set l b v) l d 0 n same
   where
     same : (j : ℕ) → ltb 0 (getD (set l b v) j 0) ≡ ltb 0 (getD l j 0)
     same j =

@@ -2,7 +2,7 @@
 -- Assumes nothing.
 use Prim.Native.Nat.{ℕ, zero, suc, pred, _+_, _≤_, _<_}
 use mathlib.Core.Path.{_≡_, refl, sym, ap, _∙_}
-use mathlib.Core.Bool.{Bool, cond, not, _&&_, _||_, and-false}
+use mathlib.Core.Bool.{and-false}
 use mathlib.Core.List.{List, [], _∷_}
 use mathlib.Core.Logic.{_⊎_, inl, inr, ⊎-elim}
 use native.Mathlib.Omega.{arith}
@@ -16,20 +16,20 @@ use Rattle.schedule.specs.Walk.{Task, tasksFrom, Job, sooner, pick, work, run}
 use Rattle.schedule.specs.Counted.{leftAt}
 use Rattle.ticks.specs.Arrays.{jobsFrom, blank, picked, worked, stays, surely}
 
--- ---- the pick does not look at the tasks
-sooner-tasks : (k k′ : ℕ → Task) (l d : List ℕ) (e i n : ℕ) → sooner e (jobsFrom k l d i n) ≡ sooner e (jobsFrom k′ l d i n)
-sooner-tasks k k′ l d e i zero = refl
-sooner-tasks k k′ l d e i (suc n) = ap (λ (b : Bool). (ltb 0 (getD l i 0) && ltb (getD d i 0) e) || b) (sooner-tasks k k′ l d e (suc i) n)
+-- ---- deadlines and which jobs are unfinished are all that the pick looks at
+sooner-same : (k k′ : ℕ → Task) (l l′ d : List ℕ) (e i n : ℕ) → ((j : ℕ) → ltb 0 (getD l j 0) ≡ ltb 0 (getD l′ j 0)) →
+    sooner e (jobsFrom k l d i n) ≡ sooner e (jobsFrom k′ l′ d i n)
+sooner-same k k′ l l′ d e i zero h = refl
+sooner-same k k′ l l′ d e i (suc n) h = rw (h i, sooner-same k k′ l l′ d e (suc i) n h) refl
 
-pick-tasks : (k k′ : ℕ → Task) (l d : List ℕ) (i n : ℕ) → pick (jobsFrom k l d i n) ≡ pick (jobsFrom k′ l d i n)
-pick-tasks k k′ l d i zero = refl
-pick-tasks k k′ l d i (suc n) =
-    ap (λ (b : Bool). cond (ltb 0 (getD l i 0) && not b) zero (suc (pick (jobsFrom k l d (suc i) n)))) (sooner-tasks k k′ l d (getD d i 0) (suc i) n) ∙
-    ap (λ (m : ℕ). cond (ltb 0 (getD l i 0) && not (sooner (getD d i 0) (jobsFrom k′ l d (suc i) n))) zero (suc m)) (pick-tasks k k′ l d (suc i) n)
+pub pick-same : (k k′ : ℕ → Task) (l l′ d : List ℕ) (i n : ℕ) → ((j : ℕ) → ltb 0 (getD l j 0) ≡ ltb 0 (getD l′ j 0)) →
+    pick (jobsFrom k l d i n) ≡ pick (jobsFrom k′ l′ d i n)
+pick-same k k′ l l′ d i zero h = refl
+pick-same k k′ l l′ d i (suc n) h = rw (h i, sooner-same k k′ l l′ d (getD d i 0) (suc i) n h, pick-same k k′ l l′ d (suc i) n h) refl
 
 pub picked-is : (k : ℕ → Task) (l d : List ℕ) (n : ℕ) → picked l d n ≡ pick (jobsFrom k l d 0 n)
 unfolding picked
-picked-is k l d n = pick-tasks blank k l d 0 n
+picked-is k l d n = pick-same blank k l l d 0 n (λ j. refl)
 
 -- ---- arrays that agree on a stretch hold the same jobs there
 pub jobs-same : (k : ℕ → Task) (l d l′ d′ : List ℕ) (i n : ℕ) →
