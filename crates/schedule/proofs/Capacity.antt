@@ -1,6 +1,6 @@
--- Earliest deadline first is enough: sporadic tasks within the capacity keep every deadline for ever, whatever their releases.
--- The invariant: before tick t, for every d, the work that is due by t + d, with the work still to come that is due by then,
--- is at most d.
+-- Earliest deadline first is enough: sporadic tasks within the capacity keep every deadline for ever, whatever their
+-- releases. The invariant: before tick t, for every d, the work that is due by t + d, with the work still to come that
+-- is due by then, is at most d.
 -- Assumes nothing.
 use Prim.Native.Nat.{ℕ, zero, suc, _+_, _-_, _≤_, _<_}
 use mathlib.Core.Path.{_≡_, refl, sym, _∙_}

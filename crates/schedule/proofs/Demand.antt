@@ -35,8 +35,8 @@ pub record Shares (L : ℕ) (k : Task) : Type 0 where
   pub multiple : L % k .period ≡ 0
 
 module _ (k : Task) (s : Sporadic k) where
-  -- The releases in the n ticks from t on, if the first c of these, c below the period, release nothing: c is what is left of
-  -- the pause after a release.
+  -- The releases in the n ticks from t on, if the first c of these, c below the period, release nothing: c is what is
+  -- left of the pause after a release.
   window : (n t c : ℕ) → c < k .period → ((u : ℕ) → t ≤ u → u < t + c → k .arrives u ≡ 0) →
       k .period * over (k .arrives) t n + k .time * suc c ≤ k .time * (n + k .period)
   window zero t c h q = omega (arith, mul-zero (k .period), mul-add (k .time) 0 (k .period), mul-zero (k .time), mul-le-mul-left (k .time) h)

@@ -112,8 +112,8 @@ none-left t (j ∷ js) a m h =
     (λ b. omega (arith, ltb-false 0 (j .left) b, none-left t js (a .1) (m .1) (o .1)))
     (and-false (ltb 0 (j .task .arrives t)) (ltb 0 (j .left)) (o .0))
 
--- Where every task releases a full job at L and nothing is missed up to L: the busy ticks before L are all that was released
--- before L.
+-- Where every task releases a full job at L and nothing is missed up to L: the busy ticks before L are all that was
+-- released before L.
 pub all-done : (ks : List Task) (L : ℕ) → All Sporadic ks → All (λ k. k .arrives L ≡ k .time) ks → ((t : ℕ) → t ≤ L → misses ks t ≡ false) →
     over (busyAt ks) 0 L ≡ sum (releasedBefore L) ks
 all-done ks L s a h =

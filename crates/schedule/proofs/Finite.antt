@@ -1,5 +1,5 @@
--- The finite walk of periodic tasks to L says 'kept' exactly where they keep every deadline for ever, and then its busy ticks
--- are the load and its idle ticks are the rest of L.
+-- The finite walk of periodic tasks to L says 'kept' exactly where they keep every deadline for ever, and then its busy
+-- ticks are the load and its idle ticks are the rest of L.
 -- Assumes nothing.
 use Prim.Native.Nat.{ℕ, zero, suc, _+_, _≤_, _<_}
 use mathlib.Core.Path.{_≡_, refl, sym, ap, subst, _∙_}

@@ -18,7 +18,8 @@ use Rattle.schedule.proofs.Demand.{Shares, load, all-sporadic}
 use Rattle.schedule.proofs.Capacity.{fits-keeps}
 use Rattle.schedule.proofs.Done.{releasedBefore, all-done, busy-or-idle}
 
--- A task that releases a full job at each multiple of its period and at no other tick, of which L is a multiple of the period.
+-- A task that releases a full job at each multiple of its period and at no other tick, of which L is a multiple of the
+-- period.
 pub record Regular (L : ℕ) (k : Task) : Type 0 where
   pub positive : 0 < k .period
   pub multiple : L % k .period ≡ 0
@@ -32,8 +33,8 @@ multiples-apart p t u h a b =
     let l : t / p < u / p = lt-of-mul-lt-mul-right p (omega arith) in
     omega (arith, mul-le-mul-right p l, suc-mul (t / p) p)
 
--- Where the job time is above 0, the ticks at which a task of the set releases a job, and so at which it is checked, are exactly
--- the multiples of its period.
+-- Where the job time is above 0, the ticks at which a task of the set releases a job, and so at which it is checked,
+-- are exactly the multiples of its period.
 pub releases-at-multiples : (p c t : ℕ) → 0 < c → (0 < periodic p c .arrives t) ↔ (t % p ≡ 0)
 releases-at-multiples p c t pos = (
   λ h.

@@ -1,4 +1,5 @@
--- What one tick of earliest-deadline-first does to the work that is due by a tick D: if there is any, it takes one tick of it.
+-- What one tick of earliest-deadline-first does to the work that is due by a tick D: if there is any, it takes one tick
+-- of it.
 -- Assumes nothing.
 use Prim.Native.Nat.{ℕ, zero, suc, pred, _+_, _≤_, _<_}
 use mathlib.Core.Path.{_≡_, refl, sym, ap}

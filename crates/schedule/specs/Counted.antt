@@ -1,4 +1,5 @@
--- The walk with a last tick and its counts (document 01, 'The walk'). The last tick is a parameter: L for document 01's call.
+-- The walk with a last tick and its counts (document 01, 'The walk'). The last tick is a parameter: L for document 01's
+-- call.
 use Prim.Native.Nat.{ℕ, zero, suc}
 use mathlib.Core.Path.{_≡_, refl}
 use mathlib.Core.Bool.{Bool, true, false, cond, not, _&&_}
@@ -33,8 +34,9 @@ leftAt [] n = 0
 leftAt (j ∷ js) zero = j .left
 leftAt (j ∷ js) (suc n) = leftAt js n
 
--- "ticks in which a job runs while the job of the tick before is another and is unfinished". Unfinished is judged before the
--- releases of the tick: a job that ended in the tick before is not preempted, though its task may release the next one now.
+-- "ticks in which a job runs while the job of the tick before is another and is unfinished". Unfinished is judged
+-- before the releases of the tick: a job that ended in the tick before is not preempted, though its task may release
+-- the next one now.
 abbrev pub preemptedAt : List Task → ℕ → ℕ
 preemptedAt ks zero = 0
 preemptedAt ks (suc t) = count (ltb (ran ks (suc t)) (length ks) && (not (eqb (ran ks (suc t)) (ran ks t)) && ltb 0 (leftAt (before ks (suc t)) (ran ks t))))

@@ -5,15 +5,15 @@ use mathlib.Core.Bool.{Bool, false, cond, not, _&&_, _||_}
 use mathlib.Core.List.{List, [], _∷_, map}
 use lib.Dec.{ltb, eqb}
 
--- A task, as far as the walk goes: its period; its job time, the most ticks that a job of it takes, by which theorems speak of its
--- load; and for each tick the ticks of the job that it releases there, 0 where it releases none.
+-- A task, as far as the walk goes: its period; its job time, the most ticks that a job of it takes, by which theorems
+-- speak of its load; and for each tick the ticks of the job that it releases there, 0 where it releases none.
 pub record Task : Type 0 where
   pub period : ℕ
   pub time : ℕ
   pub arrives : ℕ → ℕ
 
--- A task of the set: "At tick 0 each task's first job is released. At every later multiple of a task's period .. its next job is
--- released", each time with "the full job time".
+-- A task of the set: "At tick 0 each task's first job is released. At every later multiple of a task's period .. its
+-- next job is released", each time with "the full job time".
 abbrev pub periodic : ℕ → ℕ → Task
 periodic p c = record { period = p; time = c; arrives = λ t. cond (eqb (t % p) 0) c 0 }
 
@@ -32,7 +32,8 @@ pub record Job : Type 0 where
 abbrev pub fresh : Task → Job
 fresh k = record { task = k; left = 0; due = 0 }
 
--- "A release sets the ticks left to the full job time and the deadline to one period later": at tick t, of a job of e ticks.
+-- "A release sets the ticks left to the full job time and the deadline to one period later": at tick t, of a job of e
+-- ticks.
 abbrev pub released : ℕ → Job → ℕ → Job
 released t j zero = j
 released t j (suc e) = record { task = j .task; left = suc e; due = t + j .task .period }
@@ -45,8 +46,8 @@ abbrev pub sooner : ℕ → List Job → Bool
 sooner d [] = false
 sooner d (j ∷ js) = (ltb 0 (j .left) && ltb (j .due) d) || sooner d js
 
--- The place of "the unfinished job with the earliest deadline .., a tie going to the lower task number"; the number of jobs
--- where all are finished.
+-- The place of "the unfinished job with the earliest deadline .., a tie going to the lower task number"; the number of
+-- jobs where all are finished.
 abbrev pub pick : List Job → ℕ
 pick [] = zero
 pick (j ∷ js) = cond (ltb 0 (j .left) && not (sooner (j .due) js)) zero (suc (pick js))
@@ -65,7 +66,8 @@ abbrev pub before : List Task → ℕ → List Job
 before ks zero = map fresh ks
 before ks (suc t) = run (map (release t) (before ks t))
 
--- "that task's ticks left must be 0, otherwise the plan misses there": some task that releases a job at tick t has ticks left.
+-- "that task's ticks left must be 0, otherwise the plan misses there": some task that releases a job at tick t has
+-- ticks left.
 abbrev pub late : ℕ → List Job → Bool
 late t [] = false
 late t (j ∷ js) = (ltb 0 (j .task .arrives t) && ltb 0 (j .left)) || late t js

@@ -1,5 +1,5 @@
--- The walk's state as arrays hold it, and what the walk's functions take and give. Not part of what a reader must believe: the call's
--- contract speaks of the walk's own definitions.
+-- The walk's state as arrays hold it, and what the walk's functions take and give. Not part of what a reader must
+-- believe: the call's contract speaks of the walk's own definitions.
 use Prim.Native.Nat.{ℕ, zero, suc, pred, _+_, _≤_, _<_}
 use mathlib.Core.Path.{_≡_}
 use mathlib.Core.Bool.{cond, not, _&&_}
@@ -34,7 +34,8 @@ worked n left b = cond (ltb b n) (set left b (pred (getD left b 0))) left
 unfoldable pub stays : ℕ → List ℕ → ℕ → ℕ
 stays n left b = cond (ltb b n && ltb 0 (getD left b 0)) b n
 
--- 1 where b is sure to be the next pick as long as no job is released: it is the place of an unfinished job, or there is none; else 0.
+-- 1 where b is sure to be the next pick as long as no job is released: it is the place of an unfinished job, or there
+-- is none; else 0.
 unfoldable pub surely : ℕ → List ℕ → ℕ → ℕ
 surely n left b = cond (ltb b n) (count (ltb 0 (getD left b 0))) 1
 

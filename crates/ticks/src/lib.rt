@@ -1,13 +1,13 @@
-// The walk over arrays of periods and job times: the state, one tick of it, and the loop over the ticks. Whose periods and job times
-// these are, and what was checked before, are left to others.
+// The walk over arrays of periods and job times: the state, one tick of it, and the loop over the ticks. Whose periods
+// and job times these are, and what was checked before, are left to others.
 ghost use mathlib.Core.Path.{_≡_};
 ghost use Prim.Native.Nat.{_+_, _<_};
 ghost use Rattle.ticks.specs.Arrays.{picked, cuts, Early, Begun, TickReady, Ticked, RunReady, Says};
 use taskset::WalkAnswer;
 
-// What the walk holds: of each task the ticks left of its job and that job's deadline, which is its next release; the counts so
-// far; the place of the job of the tick before where it is unfinished, else the number of tasks; and whether (1) or not (0) that
-// place is sure to be the next pick. Words alone, so that no copy of it has gaps.
+// What the walk holds: of each task the ticks left of its job and that job's deadline, which is its next release; the
+// counts so far; the place of the job of the tick before where it is unfinished, else the number of tasks; and whether
+// (1) or not (0) that place is sure to be the next pick. Words alone, so that no copy of it has gaps.
 pub struct State {
     pub left: [u32; 32],
     pub due: [u32; 32],
@@ -110,8 +110,8 @@ impl State {
     }
 }
 
-// The walk of n tasks with periods p and job times c, to the tick end. The loop over the tasks runs at the ticks that have a
-// release, and at `end`; the loop over the ticks is left at the first task with work left.
+// The walk of n tasks with periods p and job times c, to the tick end. The loop over the tasks runs at the ticks that
+// have a release, and at `end`; the loop over the ticks is left at the first task with work left.
 pub fn run(p: &[u32; 32], c: &[u32; 32], n: usize, end: u32) -> WalkAnswer
     requires { ⌜ RunReady (now p) (now c) n end ⌝ }
     ensures { λ r. ⌜ Says (now (p .entry)) (now (c .entry)) n end r ⌝ }

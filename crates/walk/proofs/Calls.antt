@@ -1,4 +1,5 @@
--- From the functions below it to the call: what the checks give is what the loop asks for, and what the loop says is the call's answer.
+-- From the functions below it to the call: what the checks give is what the loop asks for, and what the loop says is
+-- the call's answer.
 -- Assumes nothing.
 use Prim.Native.Nat.{ℕ, zero, suc, _+_, _≤_, _<_}
 use mathlib.Core.Path.{_≡_, refl, sym, ap, _∙_}

@@ -30,7 +30,8 @@ Inv-ticks p c n end s₀ late₀ next₀ t₀ s late next t = AtTick (taskAt p c
 abbrev μ-ticks : tie.MeasureT-ticks
 μ-ticks p c n end s₀ late₀ next₀ t₀ s late next t = end - t
 
--- The way back from a task's turn to its tick, and from a tick to the start; the tasks; and that a tick's number is small.
+-- The way back from a task's turn to its tick, and from a tick to the start; the tasks; and that a tick's number is
+-- small.
 abbrev tick : tie.At-loop Inv-loop μ-loop Inv-ticks μ-ticks → tie.At-ticks Inv-loop μ-loop Inv-ticks μ-ticks
 tick l = l .before .before .before
 
