@@ -11,40 +11,60 @@ use lib.ListN.{length}
 use Rattle.numbers.specs.Numbers.{gcd, lcm, running}
 use Rattle.numbers.proofs.Divisors.{gcd-positive}
 use Rattle.numbers.proofs.Multiples.{running-more, running-positive}
+use Rattle.numbers.proofs.Searches.{found-here, found-end, none-more}
 use Rattle.layout.specs.Words.{word, taskSize, periodPlace, period}
 use Rattle.layout.specs.declared.Layout.{Layout}
 use Rattle.taskset.specs.Quantities.{hyperLimit}
-use Rattle.checks.specs.Steps.{HasTasks, Passed}
+use Rattle.checks.specs.Steps.{HasTasks, Passed, Followed}
 
-module _ (layout : Layout) (m n : ℕ) (s : List ℕ) (h : HasTasks layout m n s) (t : ℕ) (i : t < n) (at : ℕ) (a : at ≡ periodPlace layout m t) where
+-- What holds at each turn: where the task in hand stands, the multiple, and that it passes the limit at no task before.
+pub record Turn (layout : Layout) (m n : ℕ) (s : List ℕ) (l t at : ℕ) : Type 0 where
+  pub within : t ≤ n
+  pub place : at ≡ periodPlace layout m t
+  pub value : l ≡ running (period layout s) t
+  pub least : 1 ≤ l
+  pub most : l ≤ hyperLimit
+  pub none : (k : ℕ) → 0 ≤ k → k < t → Passed layout s k → ⊥
+
+-- The last turn: no task is left.
+pub all-followed : {layout : Layout} {m n : ℕ} {s : List ℕ} {l t at : ℕ} → Turn layout m n s l t at → n ≤ t → Followed layout n s t l
+all-followed q e = record { tasks = found-end (omega arith) (q .none) (omega arith); value = q .value; least = q .least; most = q .most }
+
+module _ {layout : Layout} {m n : ℕ} {s : List ℕ} (h : HasTasks layout m n s) {l t at : ℕ} (q : Turn layout m n s l t at) (i : t < n) where
   pub task-in : at + taskSize layout m ≤ length s
   task-in = omega (arith, h .words, mul-le-mul-right (taskSize layout m) i, mul-comm (suc t) (taskSize layout m), mul-suc (taskSize layout m) t, mul-comm (taskSize layout m) t)
 
-  pub next-place : at + taskSize layout m ≡ periodPlace layout m (t + 1)
+  next-place : at + taskSize layout m ≡ periodPlace layout m (t + 1)
   next-place = omega (arith, ap (λ (x : ℕ). x * taskSize layout m) (add-one t), mul-comm (suc t) (taskSize layout m), mul-suc (taskSize layout m) t, mul-comm (taskSize layout m) t)
 
   period-is : word s at ≡ period layout s t
-  period-is = ap (word s) a ∙ ap (λ (x : ℕ). word s (periodPlace layout x t)) (h .counted)
+  period-is = ap (word s) (q .place) ∙ ap (λ (x : ℕ). word s (periodPlace layout x t)) (h .counted)
 
-  module _ (l g : ℕ) (e : l ≡ running (period layout s) t) (d : g ≡ gcd l (word s at)) where
+  module _ {g : ℕ} (d : g ≡ gcd l (word s at)) where
     next-is : l / g * word s at ≡ running (period layout s) (suc t)
     unfolding lcm
-    next-is = rw (d, e, period-is) (sym (running-more (period layout s) t))
+    next-is = rw (d, q .value, period-is) (sym (running-more (period layout s) t))
 
-    pub divisor-positive : 1 ≤ l → 1 ≤ g
-    divisor-positive o = omega (arith, gcd-positive l (word s at) o)
+    pub divisor-positive : 1 ≤ g
+    divisor-positive = omega (arith, gcd-positive l (word s at) (q .least))
 
-    pub next-running : l / g * word s at ≡ running (period layout s) (t + 1)
-    next-running = rw (add-one t) next-is
+    pub passed-here : hyperLimit < l / g * word s at → Followed layout n s t l
+    passed-here o = record {
+      tasks = found-here (omega arith) (q .none) i (omega (arith, next-is));
+      value = q .value;
+      least = q .least;
+      most = q .most;
+    }
 
-    pub next-positive : 1 ≤ l / g * word s at
-    next-positive = omega (arith, next-is, running-positive (period layout s) n (λ t l. h .periods t l .0) (suc t) i)
-
-    pub next-passed : hyperLimit < l / g * word s at → Passed layout s t
-    next-passed o = omega (arith, next-is)
-
-    pub next-within : l / g * word s at ≤ hyperLimit → Passed layout s t → ⊥
-    next-within o p = omega (arith, next-is)
+    pub next-turn : l / g * word s at ≤ hyperLimit → Turn layout m n s (l / g * word s at) (t + 1) (at + taskSize layout m)
+    next-turn o = record {
+      within = omega arith;
+      place = next-place;
+      value = rw (add-one t) next-is;
+      least = omega (arith, next-is, running-positive (period layout s) n (λ t l. h .periods t l .0) (suc t) i);
+      most = o;
+      none = none-more (omega arith) (q .none) (λ p. omega (arith, next-is));
+    }
 
 -- A running multiple within the limit times a word fits 64 bits.
 pub product-fits : (l g p : ℕ) → l ≤ hyperLimit → p < 2 ^ 32 → l / g * p < 2 ^ 64

@@ -1,70 +1,78 @@
 -- Checks 2 and 3: what the two searches find is what the definitions ask for.
 -- Assumes nothing.
-use Prim.Native.Nat.{ℕ, _≤_, _<_}
+use Prim.Native.Nat.{ℕ, _≤_}
 use mathlib.Core.Path.{_≡_, ap, _∙_}
+use mathlib.Core.List.{List}
 use native.Mathlib.Omega.{arith}
 use lib.ListN.{length, getD}
-use Rattle.layout.specs.Words.{mostRates, mostTasks, word, rateCount, taskCount, taskCountPlace, periodPlace, wordCount}
+use Rattle.numbers.specs.Search.{Found}
+use Rattle.layout.specs.Words.{mostRates, mostTasks, word, rateCount, taskCount, ratePlace, taskCountPlace, wordCount}
+use Rattle.layout.specs.declared.Layout.{Layout}
+use Rattle.checks.specs.Steps.{Falls}
 use Rattle.checks.proofs.Judging.{bad-word, missing-word, rates-range, tasks-range, not-above, is-shape}
 use borrow.Author.Needs.{needs}
 use Rattle.checks.proofs.check_words.Statement.{statement}
 use Rattle.checks.proofs.check_words.Tie as tie
 
+-- The way back from each place found to the first search, and what was lent there.
+abbrev searched : tie.After-task-count-place → tie.After-first-bad
+searched x = x .before .before .before .before .before
+
+abbrev counted : tie.After-period-place → tie.After-task-count-place
+counted p = p .before .before .before
+
+abbrev way : tie.After-first-bad → Layout
+way b = b .before .before .args .layout
+
+abbrev list : tie.After-first-bad → List ℕ
+list b = b .before .before .args .s .now
+
 -- What was read of the list: its rate count, the place of its task count, and the count there.
-counts-are : (x : tie.After-task-count-place) →
-    let h = x .before .before .before in
-    let a = h .before .before .before .before .args in
-    (getD (a .s .now) (h .head-size .result) 0 ≡ rateCount (a .layout) (a .s .now)) ×
-    (x .task-count-place .result ≡ taskCountPlace (a .layout) (rateCount (a .layout) (a .s .now))) ×
-    (getD (a .s .now) (x .task-count-place .result) 0 ≡ taskCount (a .layout) (a .s .now))
+counts-are : (x : tie.After-task-count-place) → let b = searched x in
+    (getD (list b) (x .before .before .before .head-size .result) 0 ≡ rateCount (way b) (list b)) ×
+    (x .task-count-place .result ≡ taskCountPlace (way b) (rateCount (way b) (list b))) ×
+    (getD (list b) (x .task-count-place .result) 0 ≡ taskCount (way b) (list b))
 counts-are x =
-    let h = x .before .before .before in
-    let a = h .before .before .before .before .args in
-    let m = ap (word (a .s .now)) (h .head-size .ensures) in
-    let c = x .task-count-place .ensures ∙ ap (taskCountPlace (a .layout)) m in
-    (m, c, ap (word (a .s .now)) c)
+    let b = searched x in
+    let m = ap (word (list b)) (x .before .before .before .head-size .ensures) in
+    let c = x .task-count-place .ensures ∙ ap (taskCountPlace (way b)) m in
+    (m, c, ap (word (list b)) c)
 
 -- Both are in their ranges, where the list is long enough to have them.
-in-ranges : (x : tie.After-task-count-place) →
-    let a = x .before .before .before .before .before .before .before .args in
-    x .task-count-place .result < length (a .s .now)
-    → ((2 ≤ rateCount (a .layout) (a .s .now)) × (rateCount (a .layout) (a .s .now) ≤ mostRates)) × ((1 ≤ taskCount (a .layout) (a .s .now)) × (taskCount (a .layout) (a .s .now) ≤ mostTasks))
-in-ranges x long =
-    let fb = x .before .before .before .before .before in
-    let a = fb .before .before .args in
-    let c = counts-are x .1 in (
-      rates-range (a .layout) (a .s .now) (fb .first-bad .result) (fb .first-bad .ensures) (omega arith) (omega (arith, c, long)),
-      tasks-range (a .layout) (a .s .now) (fb .first-bad .result) (fb .first-bad .ensures) (omega arith) (omega (arith, c, long)),
-    )
+rates : (e : tie.Else3) → let b = searched (e .before) in (2 ≤ rateCount (way b) (list b)) × (rateCount (way b) (list b) ≤ mostRates)
+rates e = let b = searched (e .before) in
+    rates-range _ _ _ (b .first-bad .ensures) (omega arith) (omega (arith, counts-are (e .before) .1))
+
+tasks : (e : tie.Else3) → let b = searched (e .before) in (1 ≤ taskCount (way b) (list b)) × (taskCount (way b) (list b) ≤ mostTasks)
+tasks e = let b = searched (e .before) in
+    tasks-range _ _ _ (b .first-bad .ensures) (omega arith) (omega (arith, counts-are (e .before) .1))
 
 -- The place after the last task's words is how many words the list must have.
-end-is : (p : tie.After-period-place) →
-    let a = p .before .before .before .before .before .before .before .before .before .before .args in
-    p .period-place .result ≡ wordCount (a .layout) (a .s .now)
+end-is : (p : tie.After-period-place) → let b = searched (counted p) in p .period-place .result ≡ wordCount (way b) (list b)
 end-is p =
-    let x = p .before .before .before in
-    let a = x .before .before .before .before .before .before .before .args in
-    let f = counts-are x in
-    p .period-place .ensures ∙ ap (λ (m : ℕ). periodPlace (a .layout) m (getD (a .s .now) (x .task-count-place .result) 0)) (f .0) ∙
-    ap (periodPlace (a .layout) (rateCount (a .layout) (a .s .now))) (f .2)
+    let f = counts-are (counted p) in
+    let e = p .period-place .ensures in
+    cc
+
+-- What the second search finds, in a list that has all its words.
+enough : (g : tie.After-first-fall) → let b = searched (counted (g .before .before)) in wordCount (way b) (list b) ≤ length (list b)
+enough g = omega (arith, end-is (g .before .before))
+
+fall : (g : tie.After-first-fall) → let b = searched (counted (g .before .before)) in
+    Found (Falls (list b)) (ratePlace (way b) 2) (taskCountPlace (way b) (rateCount (way b) (list b))) (g .first-fall .result)
+fall g = rw (counts-are (counted (g .before .before)) .0) at (g .first-fall .ensures)
 
 first-bad-requires : tie.Need-first-bad-requires
 first-bad-requires c κs = search needs
 
 returns : tie.Need-returns
-returns c =
-    let fb = c .before in
-    let a = fb .before .before .args in
-    bad-word (a .layout) (a .s .now) (fb .first-bad .result) (fb .first-bad .ensures) (c .if1 .taken)
+returns c = bad-word _ _ _ (c .before .first-bad .ensures) (c .if1 .taken)
 
 head-size-requires : tie.Need-head-size-requires
 head-size-requires c κs = search needs
 
 returns-2 : tie.Need-returns-2
-returns-2 c =
-    let fb = c .before .before .before in
-    let a = fb .before .before .args in
-    missing-word (a .layout) (a .s .now) (fb .first-bad .result) (fb .first-bad .ensures) (omega arith) (omega (arith, c .before .head-size .ensures, c .if2 .taken))
+returns-2 c = missing-word _ _ _ (c .before .before .before .first-bad .ensures) (omega arith) (omega (arith, c .before .head-size .ensures))
 
 mul-m : tie.Need-mul-m
 mul-m c = search needs
@@ -79,11 +87,7 @@ task-count-place-requires : tie.Need-task-count-place-requires
 task-count-place-requires c κs = omega (arith, c .shared-slice-known2 .given (c .before .before .head-size .result))
 
 returns-3 : tie.Need-returns-3
-returns-3 c =
-    let x = c .before in
-    let fb = x .before .before .before .before .before in
-    let a = fb .before .before .args in
-    missing-word (a .layout) (a .s .now) (fb .first-bad .result) (fb .first-bad .ensures) (omega arith) (omega (arith, counts-are x .1, c .if3 .taken))
+returns-3 c = missing-word _ _ _ (searched (c .before) .first-bad .ensures) (omega arith) (omega (arith, counts-are (c .before) .1))
 
 mul-n : tie.Need-mul-n
 mul-n c = search needs
@@ -96,46 +100,28 @@ cast-n c = omega (arith, c .shared-slice-known3 .given (c .before .before .task-
 
 period-place-requires : tie.Need-period-place-requires
 period-place-requires c κs =
-    let x = c .before .before in
-    let r = in-ranges x (c .before .if3 .left) in
-    (omega (arith, counts-are x .0, r .0 .1), omega (arith, counts-are x .2, r .1 .1))
+    let f = counts-are (c .before .before) in
+    (omega (arith, f .0, rates (c .before) .1), omega (arith, f .2, tasks (c .before) .1))
 
 returns-4 : tie.Need-returns-4
-returns-4 c =
-    let x = c .before .before .before .before in
-    let fb = x .before .before .before .before .before in
-    let a = fb .before .before .args in
-    missing-word (a .layout) (a .s .now) (fb .first-bad .result) (fb .first-bad .ensures) (omega arith) (omega (arith, end-is (c .before), c .if4 .taken))
+returns-4 c = missing-word _ _ _ (searched (counted (c .before)) .first-bad .ensures) (omega arith) (omega (arith, end-is (c .before)))
 
 first-fall-requires : tie.Need-first-fall-requires
 first-fall-requires c κs =
-    let p = c .before in
-    let x = p .before .before .before in
-    let r = in-ranges x (p .before .before .if3 .left) in
-    let f = counts-are x in
-    (omega (arith, f .0, r .0 .0), omega (arith, f .0, r .0 .1), omega (arith, f .0, f .1, p .before .before .if3 .left))
+    let f = counts-are (counted (c .before)) in
+    let r = rates (c .before .before .before) in
+    (omega (arith, f .0), omega (arith, f .0), omega (arith, f .0, f .1))
 
 returns-5 : tie.Need-returns-5
 returns-5 c =
-    let p = c .before .before .before in
-    let x = p .before .before .before in
-    let fb = x .before .before .before .before .before in
-    let a = fb .before .before .args in
-    let fall = rw (counts-are x .0) at (c .before .first-fall .ensures) in
-    not-above (a .layout) (a .s .now) (fb .first-bad .result) (fb .first-bad .ensures) (omega arith) (omega (arith, end-is p, c .before .before .if4 .left))
-    (c .before .first-fall .result) fall (omega (arith, counts-are x .1, c .if5 .taken))
+    let x = counted (c .before .before .before) in
+    not-above _ _ _ (searched x .first-bad .ensures) (omega arith) (enough (c .before)) _ (fall (c .before)) (omega (arith, counts-are x .1))
 
 returns-6 : tie.Need-returns-6
 returns-6 c =
-    let p = c .before .before .before in
-    let x = p .before .before .before in
-    let fb = x .before .before .before .before .before in
-    let a = fb .before .before .args in
+    let x = counted (c .before .before .before) in
     let f = counts-are x in
-    let fall = rw (f .0) at (c .before .first-fall .ensures) in
-    rw (f .0, f .2)
-    (is-shape (a .layout) (a .s .now) (fb .first-bad .result) (fb .first-bad .ensures) (omega arith) (omega (arith, end-is p, c .before .before .if4 .left))
-    (c .before .first-fall .result) fall (omega (arith, f .1, c .if5 .left)))
+    rw (f .0, f .2) (is-shape _ _ _ (searched x .first-bad .ensures) (omega arith) (enough (c .before)) _ (fall (c .before)) (omega (arith, f .1)))
 
 pub check-words-spec : {M : Type 1} → statement M
 check-words-spec =
