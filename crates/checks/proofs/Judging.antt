@@ -9,7 +9,7 @@ use native.Mathlib.Omega.{arith}
 use lib.ListN.{length}
 use Rattle.numbers.specs.Numbers.{running}
 use Rattle.numbers.proofs.Tests.{bool-cases}
-use Rattle.layout.specs.Words.{headSize, mostRates, mostTasks, rateCount, taskCount, wordCount, ratePlace, taskCountPlace, periodPlace, period, kindAt, allows, OutOfRange, WordFault}
+use Rattle.layout.specs.Words.{headSize, mostRates, mostTasks, word, rateCount, taskCount, wordCount, ratePlace, taskCountPlace, periodPlace, period, kindAt, allows, OutOfRange, WordFault}
 use Rattle.taskset.specs.Refusals.{number, second, IsBadWord, RateFault, IsTooLong, Check, Passes, Accepts, _▹_, wordCheck, wordChecks, hyperCheck}
 use Rattle.taskset.specs.Calls.{CountsAfter, SetAfter}
 use Rattle.numbers.specs.Search.{Found}
@@ -21,6 +21,19 @@ use Rattle.taskset.specs.declared.Checked.the-variants.{Good, Refused as NotGoo
 use Rattle.taskset.proofs.Checks.{no-word-fault, accepts-join, refuses-back}
 use Rattle.layout.proofs.Whole.{whole-of, rates-in, tasks-in}
 use Rattle.layout.specs.declared.Layout.{Layout}
+
+-- What the code reads of a list: its head's size h, the rate count there, the place c of its task count, and the count there.
+pub record Counts (layout : Layout) (s : List ℕ) (h c : ℕ) : Type 0 where
+  pub head : h ≡ headSize layout
+  pub rates : word s h ≡ rateCount layout s
+  pub place : c ≡ taskCountPlace layout (rateCount layout s)
+  pub tasks : word s c ≡ taskCount layout s
+
+pub counts-read : (layout : Layout) (s : List ℕ) {h c : ℕ} → h ≡ headSize layout → c ≡ taskCountPlace layout (word s h) → Counts layout s h c
+counts-read layout s e d =
+    let m = ap (word s) e in
+    let p = d ∙ ap (taskCountPlace layout) m in
+    record { head = e; rates = m; place = p; tasks = ap (word s) p }
 
 module _ (layout : Layout) (s : List ℕ) (b : ℕ) (found : Found (OutOfRange layout s) 0 (length s) b) where
   -- ---- check 2

@@ -1,15 +1,15 @@
 -- Checks 2 and 3: what the two searches find is what the definitions ask for.
 -- Assumes nothing.
 use Prim.Native.Nat.{ℕ, _≤_}
-use mathlib.Core.Path.{_≡_, ap, _∙_}
+use mathlib.Core.Path.{_≡_}
 use mathlib.Core.List.{List}
 use native.Mathlib.Omega.{arith}
-use lib.ListN.{length, getD}
+use lib.ListN.{length}
 use Rattle.numbers.specs.Search.{Found}
-use Rattle.layout.specs.Words.{mostRates, mostTasks, word, rateCount, taskCount, ratePlace, taskCountPlace, wordCount}
+use Rattle.layout.specs.Words.{mostRates, mostTasks, rateCount, taskCount, ratePlace, taskCountPlace, wordCount}
 use Rattle.layout.specs.declared.Layout.{Layout}
 use Rattle.checks.specs.Steps.{Falls}
-use Rattle.checks.proofs.Judging.{bad-word, missing-word, rates-range, tasks-range, not-above, is-shape}
+use Rattle.checks.proofs.Judging.{Counts, counts-read, bad-word, missing-word, rates-range, tasks-range, not-above, is-shape}
 use borrow.Author.Needs.{needs}
 use Rattle.checks.proofs.check_words.Statement.{statement}
 use Rattle.checks.proofs.check_words.Tie as tie
@@ -27,30 +27,24 @@ way b = b .before .before .args .layout
 abbrev list : tie.After-first-bad → List ℕ
 list b = b .before .before .args .s .now
 
--- What was read of the list: its rate count, the place of its task count, and the count there.
-counts-are : (x : tie.After-task-count-place) → let b = searched x in
-    (getD (list b) (x .before .before .before .head-size .result) 0 ≡ rateCount (way b) (list b)) ×
-    (x .task-count-place .result ≡ taskCountPlace (way b) (rateCount (way b) (list b))) ×
-    (getD (list b) (x .task-count-place .result) 0 ≡ taskCount (way b) (list b))
-counts-are x =
-    let b = searched x in
-    let m = ap (word (list b)) (x .before .before .before .head-size .ensures) in
-    let c = x .task-count-place .ensures ∙ ap (taskCountPlace (way b)) m in
-    (m, c, ap (word (list b)) c)
+-- What was read of the list.
+counts : (x : tie.After-task-count-place) →
+    Counts (way (searched x)) (list (searched x)) (x .before .before .before .head-size .result) (x .task-count-place .result)
+counts x = counts-read _ _ (x .before .before .before .head-size .ensures) (x .task-count-place .ensures)
 
 -- Both are in their ranges, where the list is long enough to have them.
 rates : (e : tie.Else3) → let b = searched (e .before) in (2 ≤ rateCount (way b) (list b)) × (rateCount (way b) (list b) ≤ mostRates)
 rates e = let b = searched (e .before) in
-    rates-range _ _ _ (b .first-bad .ensures) (omega arith) (omega (arith, counts-are (e .before) .1))
+    rates-range _ _ _ (b .first-bad .ensures) (omega arith) (omega (arith, counts (e .before) .place))
 
 tasks : (e : tie.Else3) → let b = searched (e .before) in (1 ≤ taskCount (way b) (list b)) × (taskCount (way b) (list b) ≤ mostTasks)
 tasks e = let b = searched (e .before) in
-    tasks-range _ _ _ (b .first-bad .ensures) (omega arith) (omega (arith, counts-are (e .before) .1))
+    tasks-range _ _ _ (b .first-bad .ensures) (omega arith) (omega (arith, counts (e .before) .place))
 
 -- The place after the last task's words is how many words the list must have.
 end-is : (p : tie.After-period-place) → let b = searched (counted p) in p .period-place .result ≡ wordCount (way b) (list b)
 end-is p =
-    let f = counts-are (counted p) in
+    let f = counts (counted p) in
     let e = p .period-place .ensures in
     cc
 
@@ -60,7 +54,7 @@ enough g = omega (arith, end-is (g .before .before))
 
 fall : (g : tie.After-first-fall) → let b = searched (counted (g .before .before)) in
     Found (Falls (list b)) (ratePlace (way b) 2) (taskCountPlace (way b) (rateCount (way b) (list b))) (g .first-fall .result)
-fall g = rw (counts-are (counted (g .before .before)) .0) at (g .first-fall .ensures)
+fall g = rw (counts (counted (g .before .before)) .rates) at (g .first-fall .ensures)
 
 first-bad-requires : tie.Need-first-bad-requires
 first-bad-requires c κs = search needs
@@ -87,7 +81,7 @@ task-count-place-requires : tie.Need-task-count-place-requires
 task-count-place-requires c κs = omega (arith, c .shared-slice-known2 .given (c .before .before .head-size .result))
 
 returns-3 : tie.Need-returns-3
-returns-3 c = missing-word _ _ _ (searched (c .before) .first-bad .ensures) (omega arith) (omega (arith, counts-are (c .before) .1))
+returns-3 c = missing-word _ _ _ (searched (c .before) .first-bad .ensures) (omega arith) (omega (arith, counts (c .before) .place))
 
 mul-n : tie.Need-mul-n
 mul-n c = search needs
@@ -100,28 +94,28 @@ cast-n c = omega (arith, c .shared-slice-known3 .given (c .before .before .task-
 
 period-place-requires : tie.Need-period-place-requires
 period-place-requires c κs =
-    let f = counts-are (c .before .before) in
-    (omega (arith, f .0, rates (c .before) .1), omega (arith, f .2, tasks (c .before) .1))
+    let f = counts (c .before .before) in
+    (omega (arith, rates (c .before) .1), omega (arith, tasks (c .before) .1))
 
 returns-4 : tie.Need-returns-4
 returns-4 c = missing-word _ _ _ (searched (counted (c .before)) .first-bad .ensures) (omega arith) (omega (arith, end-is (c .before)))
 
 first-fall-requires : tie.Need-first-fall-requires
 first-fall-requires c κs =
-    let f = counts-are (counted (c .before)) in
+    let f = counts (counted (c .before)) in
     let r = rates (c .before .before .before) in
-    (omega (arith, f .0), omega (arith, f .0), omega (arith, f .0, f .1))
+    (omega arith, omega arith, omega arith)
 
 returns-5 : tie.Need-returns-5
 returns-5 c =
     let x = counted (c .before .before .before) in
-    not-above _ _ _ (searched x .first-bad .ensures) (omega arith) (enough (c .before)) _ (fall (c .before)) (omega (arith, counts-are x .1))
+    not-above _ _ _ (searched x .first-bad .ensures) (omega arith) (enough (c .before)) _ (fall (c .before)) (omega (arith, counts x .place))
 
 returns-6 : tie.Need-returns-6
 returns-6 c =
     let x = counted (c .before .before .before) in
-    let f = counts-are x in
-    rw (f .0, f .2) (is-shape _ _ _ (searched x .first-bad .ensures) (omega arith) (enough (c .before)) _ (fall (c .before)) (omega (arith, f .1)))
+    let f = counts x in
+    rw (f .rates, f .tasks) (is-shape _ _ _ (searched x .first-bad .ensures) (omega arith) (enough (c .before)) _ (fall (c .before)) (omega arith))
 
 pub check-words-spec : {M : Type 1} → statement M
 check-words-spec =

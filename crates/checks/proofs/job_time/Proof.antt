@@ -1,9 +1,17 @@
+use Prim.Native.Nat.{_≤_}
 use mathlib.Core.Path.{refl}
 use native.Mathlib.Omega.{arith}
 use Rattle.checks.proofs.Access.{located, job-time-fits}
 use borrow.Author.Needs.{needs}
 use Rattle.checks.proofs.job_time.Statement.{statement}
 use Rattle.checks.proofs.job_time.Tie as tie
+
+-- The rate is at least 1, and the cycles fit.
+ranges : (c : tie.After-rate-of) → (1 ≤ c .rate-of .result) × (c .before .cycles-of .result ≤ 4000000000)
+ranges c =
+    let start = c .before .before .before in
+    let l = located (start .pre .0) in
+    (omega (arith, c .rate-of .ensures, l .rate-range (start .args .r) (start .pre .1) (start .pre .2)), omega (arith, c .before .cycles-of .ensures))
 
 cycles-of-requires : tie.Need-cycles-of-requires
 cycles-of-requires c κs = search needs
@@ -18,32 +26,16 @@ cast-f : tie.Need-cast-f
 cast-f c = search needs
 
 sub-result : tie.Need-sub-result
-sub-result c =
-    let start = c .before .before .before in
-    let l = located (start .pre .0) in
-    let f = l .rate-range (start .args .r) (start .pre .1) (start .pre .2) in
-    let k = l .cycles-range in
-    omega (arith, c .rate-of .ensures)
+sub-result c = omega (arith, ranges c .0)
 
 add-result : tie.Need-add-result
 add-result c = search needs
 
 div-result : tie.Need-div-result
-div-result c =
-    let start = c .before .before .before in
-    let l = located (start .pre .0) in
-    let f = l .rate-range (start .args .r) (start .pre .1) (start .pre .2) in
-    let k = l .cycles-range in
-    omega (arith, c .rate-of .ensures)
+div-result c = omega (arith, ranges c .0)
 
 cast-result : tie.Need-cast-result
-cast-result c =
-    let start = c .before .before .before in
-    let l = located (start .pre .0) in
-    let f = l .rate-range (start .args .r) (start .pre .1) (start .pre .2) in
-    let k = l .cycles-range in
-    let fits = job-time-fits (c .before .cycles-of .result) (c .rate-of .result) (omega (arith, c .rate-of .ensures)) (omega (arith, c .before .cycles-of .ensures)) in
-    omega arith
+cast-result c = omega (arith, job-time-fits (c .before .cycles-of .result) (c .rate-of .result) (ranges c .0) (ranges c .1))
 
 returns : tie.Need-returns
 returns c = rw (c .rate-of .ensures, c .before .cycles-of .ensures) refl

@@ -1,29 +1,32 @@
 -- What the word at a place stands for: the tests of the definition, one after the other.
 -- Assumes nothing.
-use Prim.Native.Nat.{_+_, _-_}
+use Prim.Native.Nat.{ℕ, _+_, _-_}
 use mathlib.Core.Path.{_≡_, sym, ap, _∙_}
 use native.Mathlib.Omega.{arith}
-use lib.ListN.{getD}
-use Rattle.layout.specs.Words.{headSize, word, rateCount, taskCount, taskCountPlace, taskSize}
+use Rattle.layout.specs.Words.{rateCount, taskSize}
 use Rattle.layout.proofs.Places.{kind-head, kind-rates, kind-rate, kind-tasks, kind-left, kind-word}
+use Rattle.checks.proofs.Judging.{Counts, counts-read}
 use borrow.Author.Needs.{needs}
 use Rattle.checks.proofs.kind_at.Statement.{statement}
 use Rattle.checks.proofs.kind_at.Tie as tie
 
--- What was read of the list: its head's size, its rate count, the place of its task count and the count there.
-rates-are : (x : tie.After-task-count-place) →
-    let h = x .before .before .before .before in
-    let a = h .before .before .args in
-    (h .head-size .result ≡ headSize (a .layout)) ×
-    (getD (a .s .now) (h .head-size .result) 0 ≡ rateCount (a .layout) (a .s .now)) ×
-    (x .task-count-place .result ≡ taskCountPlace (a .layout) (rateCount (a .layout) (a .s .now))) ×
-    (getD (a .s .now) (x .task-count-place .result) 0 ≡ taskCount (a .layout) (a .s .now))
-rates-are x =
-    let h = x .before .before .before .before in
-    let a = h .before .before .args in
-    let m = ap (word (a .s .now)) (h .head-size .ensures) in
-    let c = x .task-count-place .ensures ∙ ap (taskCountPlace (a .layout)) m in
-    (h .head-size .ensures, m, c, ap (word (a .s .now)) c)
+-- What was read of the list.
+abbrev start : tie.After-task-count-place → tie.Start
+start x = x .before .before .before .before .before .before
+
+counts : (x : tie.After-task-count-place) →
+    Counts (start x .args .layout) (start x .args .s .now) (x .before .before .before .before .head-size .result) (x .task-count-place .result)
+counts x = counts-read _ _ (x .before .before .before .before .head-size .ensures) (x .task-count-place .ensures)
+
+-- The size of a task's words, and the place among all tasks' words.
+abbrev counted : tie.After-task-size → tie.After-task-count-place
+counted z = z .before .before .before .before
+
+size : (z : tie.After-task-size) → let a = start (counted z) .args in z .task-size .result ≡ taskSize (a .layout) (rateCount (a .layout) (a .s .now))
+size z = z .task-size .ensures ∙ ap (taskSize (start (counted z) .args .layout)) (counts (counted z) .rates)
+
+abbrev rest : tie.After-task-size → ℕ
+rest z = start (counted z) .args .q - (counted z .task-count-place .result + 1)
 
 head-size-requires : tie.Need-head-size-requires
 head-size-requires c κs = search needs
@@ -50,10 +53,10 @@ task-count-place-requires : tie.Need-task-count-place-requires
 task-count-place-requires c κs = omega (arith, c .shared-slice-known2 .given (c .before .before .before .head-size .result))
 
 returns-3 : tie.Need-returns-3
-returns-3 c = let f = rates-are (c .before) in sym (kind-rate _ _ _ (omega (arith, f .0, c .before .before .before .before .if1 .left, c .before .before .before .if2 .left)) (omega (arith, f .2, c .if3 .taken)))
+returns-3 c = let f = counts (c .before) in sym (kind-rate _ _ _ (omega arith) (omega arith))
 
 returns-4 : tie.Need-returns-4
-returns-4 c = let f = rates-are (c .before .before) in sym (kind-tasks _ _ _ (omega (arith, f .2, c .if4 .taken)))
+returns-4 c = let f = counts (c .before .before) in sym (kind-tasks _ _ _ (omega arith))
 
 mul-n : tie.Need-mul-n
 mul-n c = search needs
@@ -78,10 +81,9 @@ div-if5 c = search needs
 
 returns-5 : tie.Need-returns-5
 returns-5 c =
-    let x = c .before .before .before .before .before in
-    let f = rates-are x in
-    let size = c .before .task-size .ensures ∙ ap (taskSize (x .before .before .before .before .before .before .args .layout)) (f .1) in
-    sym (kind-left _ _ _ (x .before .before .before .before .before .before .args .q - (x .task-count-place .result + 1)) (omega (arith, f .2, x .before .before .before .before .head-size .ensures)) (rw (← size) (omega (arith, f .3, c .if5 .taken))))
+    let z = c .before in
+    let f = counts (counted z) in
+    sym (kind-left _ _ _ (rest z) (omega arith) (rw (← size z) (omega arith)))
 
 rem-task-kind : tie.Need-rem-task-kind
 rem-task-kind c = search needs
@@ -91,10 +93,9 @@ task-kind-requires c κs = search needs
 
 returns-6 : tie.Need-returns-6
 returns-6 c =
-    let x = c .before .before .before .before .before .before in
-    let f = rates-are x in
-    let size = c .before .before .task-size .ensures ∙ ap (taskSize (x .before .before .before .before .before .before .args .layout)) (f .1) in
-    c .task-kind .ensures ∙ (rw size (sym (kind-word _ _ _ (x .before .before .before .before .before .before .args .q - (x .task-count-place .result + 1)) (omega (arith, f .2, x .before .before .before .before .head-size .ensures)) (rw (← size) (omega (arith, f .3, c .before .if5 .left))))))
+    let z = c .before .before in
+    let f = counts (counted z) in
+    c .task-kind .ensures ∙ rw (size z) (sym (kind-word _ _ _ (rest z) (omega arith) (rw (← size z) (omega arith))))
 
 pub kind-at-spec : {M : Type 1} → statement M
 kind-at-spec =
