@@ -6,7 +6,7 @@ use mathlib.Core.List.{List, [], _∷_, _++_, append-nil}
 use mathlib.Core.Bool.{Bool, true, false}
 use native.Mathlib.Nat.{pow-succ', one-le-pow, div-one, div-div-eq-div-mul}
 use native.Mathlib.Omega.{arith}
-use lib.ListN.{length, getD, take, drop, set, length-append, length-drop}
+use lib.ListN.{length, getD, take, drop, set, length-append, length-drop, length-set}
 use lib.Dec.{ltb}
 use lib.Seq.{take-all, take-suc, drop-length, drop-cons, append-snoc, set-at, length-take-le}
 use borrow.Author.Tests.{ltb-true, ltb-false}
@@ -63,14 +63,26 @@ length-above (suc j) v h l =
 
 -- Digits from the back: those of v behind the first i stand in their places of e, which was d, and the first i are those of x.
 pub record Filled (v : ℕ) (d : List ℕ) (x : ℕ) (e : List ℕ) (i : ℕ) : Type 0 where
+  pub some : 1 ≤ i
+  pub inside : i ≤ length d
+  pub same : length e ≡ length d
   pub fits : x < 2 ^ 64
   pub left : length (decimal x) ≡ i
   pub digits : List ℕ
   pub all : decimal v ≡ decimal x ++ digits
   pub is : e ≡ written i digits d
 
-pub fill-none : (v : ℕ) (d : List ℕ) (n : ℕ) → v < 2 ^ 64 → n ≡ length (decimal v) → Filled v d v d n
-fill-none v d n l e = record { fits = l; left = sym e; digits = []; all = sym (append-nil (decimal v)); is = written-none d n }
+pub fill-none : (v : ℕ) (d : List ℕ) (n : ℕ) → v < 2 ^ 64 → n ≡ length (decimal v) → n ≤ length d → Filled v d v d n
+fill-none v d n l e h = record {
+  some = omega (arith, length-some v l);
+  inside = h;
+  same = refl;
+  fits = l;
+  left = sym e;
+  digits = [];
+  all = sym (append-nil (decimal v));
+  is = written-none d n;
+}
 
 -- One item before what is there.
 written-before : (xs d : List ℕ) (a j : ℕ) → j < length d → set (written (suc j) xs d) j a ≡ written j (a ∷ xs) d
@@ -80,13 +92,16 @@ written-before xs d a j h =
     rw (take-suc d j 0 h, append-snoc (take j d) (getD d j 0) r, drop-cons d j 0 h)
     (set-at (take j d) (getD d j 0) r a j (length-take-le j d (omega arith)))
 
-pub fill-one : {v x i : ℕ} {d e : List ℕ} → Filled v d x e i → 1 < i → i ≤ length d → Filled v d (x / 10) (set e (i - 1) (48 + x % 10)) (i - 1)
-fill-one {v} {x} {i} {d} {e} q h k =
+pub fill-one : {v x i : ℕ} {d e : List ℕ} → Filled v d x e i → 1 < i → Filled v d (x / 10) (set e (i - 1) (48 + x % 10)) (i - 1)
+fill-one {v} {x} {i} {d} {e} q h =
     let b : 10 ≤ x = long-large x (omega (arith, q .left)) in
     let i′ : i ≡ suc (i - 1) = omega arith in
     record {
-      fits = omega (arith, q .fits);
-      left = omega (arith, q .left, length-large x b (q .fits));
+      some = omega arith;
+      inside = omega arith;
+      same = simp length-set (q .same);
+      fits = omega arith;
+      left = omega (arith, length-large x b (q .fits));
       digits = (48 + x % 10) ∷ q .digits;
       all = q .all ∙ rw (decimal-split x b (q .fits), append-snoc);
       is = ap (λ (z : List ℕ). set z (i - 1) (48 + x % 10)) (q .is ∙ ap (λ (z : ℕ). written z (q .digits) d) i′)
@@ -98,12 +113,11 @@ pub first-small : {v x i : ℕ} {d e : List ℕ} → Filled v d x e i → i ≡ 
 first-small {v} {x} q h =
     tell _ x (λ s. s) (λ b. absurd (omega (arith, q .left, length-large x b (q .fits), length-some (x / 10) (omega (arith, q .fits)))))
 
-pub fill-all : {v x i n : ℕ} {d e : List ℕ} → Filled v d x e i → i ≡ 1 → 0 < length d → n ≡ length (decimal v)
-    → Put (decimal v) d (set e 0 (48 + x)) n
-fill-all {v} {x} {i} {n} {d} q h k m = record {
+pub fill-all : {v x i n : ℕ} {d e : List ℕ} → Filled v d x e i → i ≡ 1 → n ≡ length (decimal v) → Put (decimal v) d (set e 0 (48 + x)) n
+fill-all {v} {x} {i} {n} {d} q h m = record {
   size = m;
   is = ap (λ (z : List ℕ). set z 0 (48 + x)) (q .is ∙ ap (λ (z : ℕ). written z (q .digits) d) h)
-      ∙ written-before (q .digits) d (48 + x) 0 k
+      ∙ written-before (q .digits) d (48 + x) 0 (omega arith)
       ∙ written-front ((48 + x) ∷ q .digits) d
       ∙ rw (q .all, decimal-one x (first-small q h));
 }

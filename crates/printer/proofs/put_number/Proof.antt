@@ -1,18 +1,15 @@
 -- The digits of a number, from the back. The loop's invariant: those behind the first `i` are in place, and the first `i` are those of
 -- what is left.
 -- Assumes nothing.
-use Prim.Native.Nat.{_≤_}
-use mathlib.Core.Path.{_≡_, refl}
 use native.Mathlib.Omega.{arith}
 use denote.Ref.{now}
-use lib.ListN.{length, length-set}
-use Rattle.printer.proofs.Puts.{length-some, Filled, fill-none, fill-one, first-small, fill-all}
+use Rattle.printer.proofs.Puts.{Filled, fill-none, fill-one, first-small, fill-all}
 use borrow.Author.Needs.{needs}
 use Rattle.printer.proofs.put_number.Statement.{statement}
 use Rattle.printer.proofs.put_number.Tie as tie
 
 abbrev Inv-loop : tie.InvT-loop
-Inv-loop buf₀ v n x₀ i₀ buf x i = (1 ≤ i) × (i ≤ length buf₀) × (length buf ≡ length buf₀) × Filled v buf₀ x buf i
+Inv-loop buf₀ v n x₀ i₀ buf x i = Filled v buf₀ x buf i
 
 abbrev μ-loop : tie.MeasureT-loop
 μ-loop buf₀ v n x₀ i₀ buf x i = i
@@ -23,12 +20,8 @@ count-number-requires c κs = search needs
 loop-holds : tie.Need-loop-holds Inv-loop μ-loop
 loop-holds c =
     let a = c .before .before in
-    let e = c .count-number .ensures in (
-      omega (arith, e, length-some (a .args .v) (omega arith)),
-      omega (arith, e, a .pre),
-      refl,
-      fill-none (a .args .v) (now (a .args .buf)) _ (omega arith) e,
-    )
+    let e = c .count-number .ensures in
+    fill-none (a .args .v) (now (a .args .buf)) _ (omega arith) e (omega (arith, e, a .pre))
 
 sub-i : tie.Need-sub-i Inv-loop μ-loop
 sub-i c = omega arith
@@ -46,15 +39,13 @@ loop-less : tie.Need-loop-less Inv-loop μ-loop
 loop-less c = omega arith
 
 loop-again : tie.Need-loop-again Inv-loop μ-loop
-loop-again c =
-    let q = c .before .loop in
-    (omega arith, omega arith, simp length-set (q .inv .2), fill-one (q .inv .3) (omega arith) (omega arith))
+loop-again c = fill-one (c .before .loop .inv) (omega arith)
 
 cast-buf-2 : tie.Need-cast-buf-2 Inv-loop μ-loop
-cast-buf-2 c = omega (arith, first-small (c .before .loop .inv .3) (omega arith))
+cast-buf-2 c = omega (arith, first-small (c .before .loop .inv) (omega arith))
 
 add-buf-2 : tie.Need-add-buf-2 Inv-loop μ-loop
-add-buf-2 c = omega (arith, first-small (c .before .loop .inv .3) (omega arith))
+add-buf-2 c = omega (arith, first-small (c .before .loop .inv) (omega arith))
 
 slice-write-buf-2 : tie.Need-slice-write-buf-2 Inv-loop μ-loop
 slice-write-buf-2 c = omega arith
@@ -63,7 +54,7 @@ same-length : tie.Need-same-length Inv-loop μ-loop
 same-length c = search needs
 
 returns : tie.Need-returns Inv-loop μ-loop
-returns c = fill-all (c .before .loop .inv .3) (omega arith) (omega arith) (c .before .before .count-number .ensures)
+returns c = fill-all (c .before .loop .inv) (omega arith) (c .before .before .count-number .ensures)
 
 pub put-number-spec : {M : Type 1} → statement M
 put-number-spec =
