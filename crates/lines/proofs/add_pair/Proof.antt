@@ -8,6 +8,14 @@ use borrow.Author.Needs.{needs}
 use Rattle.lines.proofs.add_pair.Statement.{statement}
 use Rattle.lines.proofs.add_pair.Tie as tie
 
+-- The line that the parts make. It stands before what the calls ask, so that a part in a wrong place is refused here.
+pair-line : tie.Need-returns
+pair-line c =
+    let three = c .before .before in
+    let two = three .before .before .before .before .before in
+    let one = two .before .before .before .before .before in
+    rw append-assoc at (then (one .add-field .ensures) (then (two .add-field2 .ensures) (three .add-bytes .ensures)))
+
 add-field-requires : tie.Need-add-field-requires
 add-field-requires c κs = simp length-append (omega (arith, simp length-append at (c .before .before .before .pre)))
 
@@ -30,13 +38,6 @@ add-bytes-requires c κs =
 same-length : tie.Need-same-length
 same-length c = search needs
 
-returns : tie.Need-returns
-returns c =
-    let three = c .before .before in
-    let two = three .before .before .before .before .before in
-    let one = two .before .before .before .before .before in
-    rw append-assoc at (then (one .add-field .ensures) (then (two .add-field2 .ensures) (three .add-bytes .ensures)))
-
 pub add-pair-spec : {M : Type 1} → statement M
 add-pair-spec =
     tie.close
@@ -47,4 +48,4 @@ add-pair-spec =
     slice-aggregate-add-bytes
     add-bytes-requires
     same-length
-    returns)
+    pair-line)

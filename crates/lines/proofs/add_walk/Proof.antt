@@ -8,6 +8,24 @@ use borrow.Author.Needs.{needs}
 use Rattle.lines.proofs.add_walk.Statement.{statement}
 use Rattle.lines.proofs.add_walk.Tie as tie
 
+-- The way back from each part to the one before it, and from the first to the start.
+abbrev start : tie.After-add-field → tie.Start
+start one = one .before .before .before .before
+
+abbrev first : tie.After-add-field2 → tie.After-add-field
+first two = two .before .before .before .before .before
+
+abbrev second : tie.After-add-field3 → tie.After-add-field2
+second three = three .before .before .before .before .before
+
+walk-line : tie.Need-returns
+unfolding walkLine
+walk-line c =
+    let four = c .before .before in
+    let three = four .before .before .before .before .before in
+    let two = second three in
+    then (first two .add-field .ensures) (then (two .add-field2 .ensures) (then (three .add-field3 .ensures) (four .add-bytes .ensures)))
+
 slice-aggregate-add-field : tie.Need-slice-aggregate-add-field
 slice-aggregate-add-field c = search needs
 
@@ -20,42 +38,24 @@ slice-aggregate-add-field-2 c = search needs
 
 add-field-requires-2 : tie.Need-add-field-requires-2
 unfolding walkLine
-add-field-requires-2 c κs =
-    let one = c .before .before .before .before in
-    omega (arith, simp length-append at (one .before .before .before .before .pre))
+add-field-requires-2 c κs = omega (arith, simp length-append at (start (c .before .before .before .before) .pre))
 
 slice-aggregate-add-field-3 : tie.Need-slice-aggregate-add-field-3
 slice-aggregate-add-field-3 c = search needs
 
 add-field-requires-3 : tie.Need-add-field-requires-3
 unfolding walkLine
-add-field-requires-3 c κs =
-    let two = c .before .before .before .before in
-    let one = two .before .before .before .before .before in
-    omega (arith, simp length-append at (one .before .before .before .before .pre))
+add-field-requires-3 c κs = omega (arith, simp length-append at (start (first (c .before .before .before .before)) .pre))
 
 slice-aggregate-add-bytes : tie.Need-slice-aggregate-add-bytes
 slice-aggregate-add-bytes c = search needs
 
 add-bytes-requires : tie.Need-add-bytes-requires
 unfolding walkLine
-add-bytes-requires c κs =
-    let three = c .before .before .before .before in
-    let two = three .before .before .before .before .before in
-    let one = two .before .before .before .before .before in
-    omega (arith, simp length-append at (one .before .before .before .before .pre))
+add-bytes-requires c κs = omega (arith, simp length-append at (start (first (second (c .before .before .before .before))) .pre))
 
 same-length : tie.Need-same-length
 same-length c = search needs
-
-returns : tie.Need-returns
-unfolding walkLine
-returns c =
-    let four = c .before .before in
-    let three = four .before .before .before .before .before in
-    let two = three .before .before .before .before .before in
-    let one = two .before .before .before .before .before in
-    then (one .add-field .ensures) (then (two .add-field2 .ensures) (then (three .add-field3 .ensures) (four .add-bytes .ensures)))
 
 pub add-walk-spec : {M : Type 1} → statement M
 add-walk-spec =
@@ -70,4 +70,4 @@ add-walk-spec =
     slice-aggregate-add-bytes
     add-bytes-requires
     same-length
-    returns)
+    walk-line)
