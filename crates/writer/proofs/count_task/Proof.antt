@@ -24,6 +24,16 @@ same c = line-same (now (start c .args .w)) (start c .args .t) (c .before .befor
 fits : (c : tie.After-energies-of) → length (taskText (line c)) < 2 ^ 64
 fits c = omega (arith, ap length (same c), start c .pre .1)
 
+-- The way back from each part to the one before it, and from the first to what was taken.
+abbrev taken : tie.After-count-field → tie.After-energies-of
+taken one = one .before .before
+
+abbrev first : tie.After-count-field2 → tie.After-count-field
+first two = two .before .before
+
+abbrev second : tie.After-count-bytes → tie.After-count-field2
+second three = three .before .before
+
 period-of-requires : tie.Need-period-of-requires
 period-of-requires c κs = c .before .pre .0
 
@@ -49,39 +59,25 @@ slice-aggregate-count-field-2 : tie.Need-slice-aggregate-count-field-2
 slice-aggregate-count-field-2 c = search needs
 
 count-field-requires-2 : tie.Need-count-field-requires-2
-count-field-requires-2 c κs =
-    let one = c .before in
-    omega (arith, simp length-append at (fits (one .before .before)))
+count-field-requires-2 c κs = omega (arith, simp length-append at (fits (taken (c .before))))
 
 slice-aggregate-count-bytes : tie.Need-slice-aggregate-count-bytes
 slice-aggregate-count-bytes c = search needs
 
 count-bytes-requires : tie.Need-count-bytes-requires
-count-bytes-requires c κs =
-    let two = c .before in
-    let one = two .before .before in
-    omega (arith, simp length-append at (fits (one .before .before)))
+count-bytes-requires c κs = omega (arith, simp length-append at (fits (taken (first (c .before)))))
 
 count-numbers-requires : tie.Need-count-numbers-requires
-count-numbers-requires c κs =
-    let three = c in
-    let two = three .before .before in
-    let one = two .before .before in
-    omega (arith, simp length-append at (fits (one .before .before)))
+count-numbers-requires c κs = omega (arith, simp length-append at (fits (taken (first (second c)))))
 
 slice-aggregate-count-bytes-2 : tie.Need-slice-aggregate-count-bytes-2
 slice-aggregate-count-bytes-2 c = search needs
 
 count-bytes-requires-2 : tie.Need-count-bytes-requires-2
-count-bytes-requires-2 c κs =
-    let four = c .before in
-    let three = four .before in
-    let two = three .before .before in
-    let one = two .before .before in
-    omega (arith, simp length-append at (fits (one .before .before)))
+count-bytes-requires-2 c κs = omega (arith, simp length-append at (fits (taken (first (second (c .before .before))))))
 
 returns : tie.Need-returns
-returns c = simp length-append (omega (arith, simp length-append at (ap length (same (c .before .before .before .before .before .before .before .before .before)))))
+returns c = simp length-append (omega (arith, simp length-append at (ap length (same (taken (first (second (c .before .before .before))))))))
 
 pub count-task-spec : {M : Type 1} → statement M
 count-task-spec =

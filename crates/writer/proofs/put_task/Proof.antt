@@ -25,6 +25,19 @@ same c = line-same (now (start c .args .w)) (start c .args .t) (c .before .befor
 fits : (c : tie.After-energies-of) → length (taskText (line c)) ≤ length (now (start c .args .buf))
 fits c = omega (arith, ap length (same c), start c .pre .1)
 
+-- The way back from each part to the one before it, and from the first to what was taken.
+abbrev taken : tie.After-add-field → tie.After-energies-of
+taken one = one .before .before .before
+
+abbrev first : tie.After-add-field2 → tie.After-add-field
+first two = two .before .before .before .before .before
+
+abbrev second : tie.After-add-bytes → tie.After-add-field2
+second three = three .before .before .before .before .before
+
+abbrev third : tie.After-add-numbers → tie.After-add-bytes
+third four = four .before .before .before .before
+
 period-of-requires : tie.Need-period-of-requires
 period-of-requires c κs = c .before .before .pre .0
 
@@ -50,36 +63,22 @@ slice-aggregate-add-field-2 : tie.Need-slice-aggregate-add-field-2
 slice-aggregate-add-field-2 c = search needs
 
 add-field-requires-2 : tie.Need-add-field-requires-2
-add-field-requires-2 c κs =
-    let one = c .before .before .before .before in
-    omega (arith, simp length-append at (fits (one .before .before .before)))
+add-field-requires-2 c κs = omega (arith, simp length-append at (fits (taken (c .before .before .before .before))))
 
 slice-aggregate-add-bytes : tie.Need-slice-aggregate-add-bytes
 slice-aggregate-add-bytes c = search needs
 
 add-bytes-requires : tie.Need-add-bytes-requires
-add-bytes-requires c κs =
-    let two = c .before .before .before .before in
-    let one = two .before .before .before .before .before in
-    omega (arith, simp length-append at (fits (one .before .before .before)))
+add-bytes-requires c κs = omega (arith, simp length-append at (fits (taken (first (c .before .before .before .before)))))
 
 add-numbers-requires : tie.Need-add-numbers-requires
-add-numbers-requires c κs =
-    let three = c .before .before .before in
-    let two = three .before .before .before .before .before in
-    let one = two .before .before .before .before .before in
-    omega (arith, simp length-append at (fits (one .before .before .before)))
+add-numbers-requires c κs = omega (arith, simp length-append at (fits (taken (first (second (c .before .before .before))))))
 
 slice-aggregate-add-bytes-2 : tie.Need-slice-aggregate-add-bytes-2
 slice-aggregate-add-bytes-2 c = search needs
 
 add-bytes-requires-2 : tie.Need-add-bytes-requires-2
-add-bytes-requires-2 c κs =
-    let four = c .before .before .before .before in
-    let three = four .before .before .before .before in
-    let two = three .before .before .before .before .before in
-    let one = two .before .before .before .before .before in
-    omega (arith, simp length-append at (fits (one .before .before .before)))
+add-bytes-requires-2 c κs = omega (arith, simp length-append at (fits (taken (first (second (third (c .before .before .before .before)))))))
 
 same-length : tie.Need-same-length
 same-length c = search needs
@@ -88,11 +87,10 @@ returns : tie.Need-returns
 returns c =
     let five = c .before .before in
     let four = five .before .before .before .before .before in
-    let three = four .before .before .before .before in
-    let two = three .before .before .before .before .before in
-    let one = two .before .before .before .before .before in
-    rw (← same (one .before .before .before))
-    (front (then (one .add-field .ensures) (then (two .add-field2 .ensures) (then (three .add-bytes .ensures) (then (four .add-numbers .ensures) (five .add-bytes2 .ensures))))))
+    let three = third four in
+    let two = second three in
+    rw (← same (taken (first two)))
+    (front (then (first two .add-field .ensures) (then (two .add-field2 .ensures) (then (three .add-bytes .ensures) (then (four .add-numbers .ensures) (five .add-bytes2 .ensures))))))
 
 pub put-task-spec : {M : Type 1} → statement M
 put-task-spec =

@@ -1,65 +1,66 @@
 -- The whole text: each form is written to the rest behind those before it.
 -- Assumes nothing.
+use Prim.Native.Nat.{_+_, _≤_}
 use native.Mathlib.Omega.{arith}
 use denote.Ref.{now}
-use lib.ListN.{length-take, length-drop}
-use Rattle.text.specs.Text.{scriptOf}
+use lib.ListN.{length, length-take, length-drop}
+use Rattle.text.specs.Text.{joined, taskText, scriptOf}
 use Rattle.printer.proofs.Puts.{front, from-front, then-lent}
+use Rattle.writer.specs.Lines.{slackText, ratesText}
 use Rattle.writer.proofs.Lists.{slack-inside, cut, cut-length}
 use borrow.Author.Needs.{needs}
 use Rattle.writer.proofs.put_text.Statement.{statement}
 use Rattle.writer.proofs.put_text.Tie as tie
 
+-- The way back to the start, and that the buffer has room for each form behind those before it.
+abbrev start : tie.After-put-slack → tie.Start
+start one = one .before .before .before .before
+
+abbrev first : tie.After-put-rates → tie.After-put-slack
+first two = two .before .before .before .before
+
+room : (z : tie.Start) → let s = scriptOf (now (z .args .w)) in
+    length (slackText (s .slack)) + length (ratesText (s .rates)) + length (joined taskText (s .tasks)) ≤ length (now (z .args .buf))
+room z = omega (arith, cut-length (scriptOf (now (z .args .w))))
+
 put-slack-requires : tie.Need-put-slack-requires
 put-slack-requires c κs =
-    let s = c .before .before .before in
-    (slack-inside (s .pre .0 .list), omega (arith, cut-length (scriptOf (now (s .args .w)))))
+    let z = c .before .before .before in
+    (slack-inside (z .pre .0 .list), omega (arith, room z))
 
 sub-put-rates : tie.Need-sub-put-rates
-sub-put-rates c =
-    let s = c .before .before .before .before .before .before in
-    omega (arith, cut-length (scriptOf (now (s .args .w))))
+sub-put-rates c = omega (arith, room (start (c .before .before)))
 
 part-put-rates-start : tie.Need-part-put-rates-start
-part-put-rates-start c =
-    let s = c .before .before .before .before .before .before in
-    omega (arith, cut-length (scriptOf (now (s .args .w))))
+part-put-rates-start c = omega (arith, room (start (c .before .before)))
 
 part-put-rates-end : tie.Need-part-put-rates-end
 part-put-rates-end c = search needs
 
 put-rates-requires : tie.Need-put-rates-requires
 put-rates-requires c κs =
-    let s = c .before .before .before .before .before .before .before in
-    (s .pre .0 .list, simp (length-take, length-drop) (omega (arith, cut-length (scriptOf (now (s .args .w))))))
+    let z = start (c .before .before .before) in
+    (z .pre .0 .list, simp (length-take, length-drop) (omega (arith, room z)))
 
 add-b : tie.Need-add-b
-add-b c =
-    let s = c .before .before .before .before .before .before .before .before .before .before in
-    omega (arith, cut-length (scriptOf (now (s .args .w))))
+add-b c = omega (arith, room (start (first (c .before .before))))
 
 sub-put-tasks : tie.Need-sub-put-tasks
-sub-put-tasks c =
-    let s = c .before .before .before .before .before .before .before .before .before .before in
-    omega (arith, cut-length (scriptOf (now (s .args .w))))
+sub-put-tasks c = omega (arith, room (start (first (c .before .before))))
 
 part-put-tasks-start : tie.Need-part-put-tasks-start
-part-put-tasks-start c =
-    let s = c .before .before .before .before .before .before .before .before .before .before in
-    omega (arith, cut-length (scriptOf (now (s .args .w))))
+part-put-tasks-start c = omega (arith, room (start (first (c .before .before))))
 
 part-put-tasks-end : tie.Need-part-put-tasks-end
 part-put-tasks-end c = search needs
 
 put-tasks-requires : tie.Need-put-tasks-requires
 put-tasks-requires c κs =
-    let s = c .before .before .before .before .before .before .before .before .before .before .before in
-    (s .pre .0, simp (length-take, length-drop) (omega (arith, cut-length (scriptOf (now (s .args .w))))))
+    let z = start (first (c .before .before .before)) in
+    (z .pre .0, simp (length-take, length-drop) (omega (arith, room z)))
 
 add-result : tie.Need-add-result
-add-result c =
-    let s = c .before .before .before .before .before .before .before .before .before .before .before .before .before .before in
-    omega (arith, cut-length (scriptOf (now (s .args .w))))
+add-result c = omega (arith, room (start (first (c .before .before .before .before .before .before))))
 
 same-length : tie.Need-same-length
 same-length c = search needs
@@ -68,12 +69,9 @@ returns : tie.Need-returns
 returns c =
     let three = c .before .before in
     let two = three .before .before .before .before in
-    let one = two .before .before .before .before in
-    let script = scriptOf (now (one .before .before .before .before .args .w)) in
-    let size = cut-length script in
-    let slack = from-front (one .put-slack .ensures) in
-    let rates = then-lent slack (omega arith) (two .put-rates .ensures) in
-    rw (cut script) (front (then-lent rates (omega arith) (three .put-tasks .ensures)))
+    let size = room (start (first two)) in
+    let rates = then-lent (from-front (first two .put-slack .ensures)) (omega arith) (two .put-rates .ensures) in
+    rw (cut (scriptOf (now (start (first two) .args .w)))) (front (then-lent rates (omega arith) (three .put-tasks .ensures)))
 
 pub put-text-spec : {M : Type 1} → statement M
 put-text-spec =
