@@ -1,36 +1,34 @@
 -- The whole text: its lines, one after the other.
 -- Assumes nothing.
+use Prim.Native.Nat.{_+_, _<_}
 use native.Mathlib.Omega.{arith}
 use denote.Ref.{now}
-use Rattle.text.specs.Text.{scriptOf}
+use lib.ListN.{length}
+use Rattle.text.specs.Text.{joined, taskText, scriptOf}
+use Rattle.writer.specs.Lines.{slackText, ratesText}
 use Rattle.writer.proofs.Lists.{slack-inside, cut-length, text-short}
 use Rattle.writer.proofs.count_text.Statement.{statement}
 use Rattle.writer.proofs.count_text.Tie as tie
 
+-- The forms together are short.
+room : (z : tie.Start) → let s = scriptOf (now (z .args .w)) in
+    length (slackText (s .slack)) + length (ratesText (s .rates)) + length (joined taskText (s .tasks)) < 5000
+room z = omega (arith, cut-length (scriptOf (now (z .args .w))), text-short (z .pre .list))
+
 count-slack-requires : tie.Need-count-slack-requires
-count-slack-requires c κs =
-    let s = c .before in
-    (slack-inside (s .pre .list), omega (arith, cut-length (scriptOf (now (s .args .w))), text-short (s .pre .list)))
+count-slack-requires c κs = (slack-inside (c .before .pre .list), omega (arith, room (c .before)))
 
 count-rates-requires : tie.Need-count-rates-requires
-count-rates-requires c κs =
-    let s = c .before .before in
-    (s .pre .list, omega (arith, cut-length (scriptOf (now (s .args .w))), text-short (s .pre .list)))
+count-rates-requires c κs = (c .before .before .pre .list, omega (arith, room (c .before .before)))
 
 add-b : tie.Need-add-b
-add-b c =
-    let s = c .before .before .before in
-    omega (arith, cut-length (scriptOf (now (s .args .w))), text-short (s .pre .list))
+add-b c = omega (arith, room (c .before .before .before))
 
 count-tasks-requires : tie.Need-count-tasks-requires
-count-tasks-requires c κs =
-    let s = c .before .before .before in
-    (s .pre, omega (arith, cut-length (scriptOf (now (s .args .w))), text-short (s .pre .list)))
+count-tasks-requires c κs = (c .before .before .before .pre, omega (arith, room (c .before .before .before)))
 
 add-result : tie.Need-add-result
-add-result c =
-    let s = c .before .before .before .before in
-    omega (arith, cut-length (scriptOf (now (s .args .w))), text-short (s .pre .list))
+add-result c = omega (arith, room (c .before .before .before .before))
 
 returns : tie.Need-returns
 returns c = omega (arith, cut-length (scriptOf (now (c .before .before .before .before .args .w))))
