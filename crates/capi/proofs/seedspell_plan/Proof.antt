@@ -6,12 +6,39 @@ use Rattle.taskset.specs.Refusals.{number, second, readyChecks}
 use Rattle.taskset.proofs.Small.{planner-second-small}
 use Rattle.layout.specs.declared.Layout.the-variants.{Ordinary}
 use Rattle.taskset.specs.Calls.{SetAfter}
+use Rattle.taskset.specs.declared.Checked.{Checked}
+use Rattle.taskset.specs.declared.Checked.the-variants.{Good, Refused as NotGood}
+use Rattle.taskset.specs.declared.PlannerAnswer.{PlannerAnswer}
 use Rattle.planner.specs.Answers.{PlannerCall}
 use Rattle.capi.proofs.PlanEntries.{ready-small, ready-refused, results-few, answer-refused, entry-planned}
-use native.Mathlib.Omega.{arith}
 use borrow.Author.Needs.{needs}
 use Rattle.capi.proofs.seedspell_plan.Statement.{statement}
 use Rattle.capi.proofs.seedspell_plan.Tie as tie
+
+-- The ways back: to the start, to the checks, and to the planner.
+abbrev start : tie.After-ready → tie.Start
+start y = y .before .before .before .before .before
+
+abbrev checked : tie.After-plan-checked → tie.After-checked2
+checked q = q .before .before .before .before .before
+
+abbrev called : tie.After-slice-known5 → tie.After-plan-checked
+called v = v .before .before .before .before
+
+-- What the checks gave, and what the planner gives.
+abbrev Ready : tie.After-ready → Checked → Type 0
+Ready y = let a = start y .args in SetAfter (readyChecks (a .set .now) (length (a .plan .now)) (length (a .work .now))) Ordinary (a .set .now)
+
+refused : (k : tie.After-checked) → Ready (k .before .before) (NotGood (k .checked .given .0 .0))
+refused k = subst (Ready (k .before .before)) (k .checked .given .1) (k .before .before .ready .ensures)
+
+good : (k : tie.After-checked2) → Ready (k .before .before) (Good (k .checked2 .given .0 .0) (k .checked2 .given .0 .1 .0) (k .checked2 .given .0 .1 .1 .0))
+good k = subst (Ready (k .before .before)) (k .checked2 .given .1) (k .before .before .ready .ensures)
+
+abbrev Call : tie.After-plan-checked → PlannerAnswer → Type 0
+Call q =
+    let a = start (checked q .before .before) .args in
+    PlannerCall (a .set .now) (a .plan .now) (a .work .now) (q .plan-checked .last .1 .0) (q .plan-checked .last .1 .1 .0)
 
 ready-requires : tie.Need-ready-requires
 ready-requires c κs = search needs
@@ -21,10 +48,8 @@ enum-known-checked c = search needs
 
 code-of-requires : tie.Need-code-of-requires
 code-of-requires c κs =
-    let y = c .before .before .before in
-    let a = y .before .before .before .before .before .args in
-    let h = subst (SetAfter (readyChecks (a .set .now) (length (a .plan .now)) (length (a .work .now))) Ordinary (a .set .now)) (c .before .checked .given .1) (y .ready .ensures) in
-    ready-small (a .set .now) (a .plan .now) (a .work .now) (a .results .now) (c .before .checked .given .0 .0) h
+    let a = start (c .before .before .before) .args in
+    ready-small _ (a .plan .now) (a .work .now) (a .results .now) (c .before .checked .given .0 .0) (refused (c .before))
 
 enum-known-checked-2 : tie.Need-enum-known-checked-2
 enum-known-checked-2 c = search needs
@@ -33,33 +58,20 @@ code-of-requires-2 : tie.Need-code-of-requires-2
 code-of-requires-2 c κs = search needs
 
 returns : tie.Need-returns
-returns c =
-    let k = c .before .before in
-    let y = k .before .before .before in
-    let a = y .before .before .before .before .before .args in
-    let h = subst (SetAfter (readyChecks (a .set .now) (length (a .plan .now)) (length (a .work .now))) Ordinary (a .set .now)) (k .before .checked2 .given .1) (y .ready .ensures) in
-    results-few (a .set .now) (a .plan .now) (a .work .now) (a .results .now) _ (c .code-of2 .ensures) (h .0) (c .before .if1 .taken)
+returns c = results-few _ _ _ _ _ (c .code-of2 .ensures) (good (c .before .before .before) .0) (c .before .if1 .taken)
 
 plan-checked-requires : tie.Need-plan-checked-requires
-plan-checked-requires c κs =
-    let k = c .before .before .before in
-    let y = k .before .before .before in
-    let z = y .before .before .before .before .before in
-    let a = z .args in
-    let h = subst (SetAfter (readyChecks (a .set .now) (length (a .plan .now)) (length (a .work .now))) Ordinary (a .set .now)) (k .before .checked2 .given .1) (y .ready .ensures) in
-    h
+plan-checked-requires c κs = good (c .before .before .before .before)
 
 enum-known-answer : tie.Need-enum-known-answer
 enum-known-answer c = search needs
 
 code-of-requires-3 : tie.Need-code-of-requires-3
 code-of-requires-3 c κs =
-    let q = c .before .before .before .before .before .before .before in
-    let k = q .before .before .before .before in
-    let a = k .before .before .before .before .before .before .before .before .args in
-    let h = subst (PlannerCall (a .set .now) (a .plan .now) (a .work .now) _ _) (c .before .answer .given .1) (q .plan-checked .ensures) in
-    let r = c .before .answer .given .0 .0 in
-    planner-second-small (a .set .now) (length (a .plan .now)) (length (a .work .now)) (number r) (second r) (h .gives .0)
+    let m = c .before .answer in
+    let q = called (c .before .before .before) in
+    let h = subst (Call q) (m .given .1) (q .plan-checked .ensures) in
+    planner-second-small _ _ _ (number (m .given .0 .0)) (second (m .given .0 .0)) (h .gives .0)
 
 enum-known-answer-2 : tie.Need-enum-known-answer-2
 enum-known-answer-2 c = search needs
@@ -68,12 +80,7 @@ put-values-requires : tie.Need-put-values-requires
 put-values-requires c κs = search needs
 
 returns-2 : tie.Need-returns-2
-returns-2 c =
-    let k = c .before in
-    let y = k .before .before .before in
-    let a = y .before .before .before .before .before .args in
-    let h = subst (SetAfter (readyChecks (a .set .now) (length (a .plan .now)) (length (a .work .now))) Ordinary (a .set .now)) (k .before .checked .given .1) (y .ready .ensures) in
-    ready-refused (a .set .now) (a .plan .now) (a .work .now) (a .results .now) (k .before .checked .given .0 .0) _ (c .code-of .ensures) h
+returns-2 c = ready-refused _ _ _ _ (c .before .before .checked .given .0 .0) _ (c .code-of .ensures) (refused (c .before .before))
 
 same-length : tie.Need-same-length
 same-length c = search needs
@@ -84,14 +91,9 @@ same-length-2 c = search needs
 returns-3 : tie.Need-returns-3
 returns-3 c =
     let m = c .before .before in
-    let q = m .before .before .before .before .before .before in
-    let k = q .before .before .before .before in
-    let y = k .before .before .before in
-    let a = y .before .before .before .before .before .args in
-    let g = subst (SetAfter (readyChecks (a .set .now) (length (a .plan .now)) (length (a .work .now))) Ordinary (a .set .now)) (k .before .checked2 .given .1) (y .ready .ensures) in
-    let h = subst (PlannerCall (a .set .now) (a .plan .now) (a .work .now) _ _) (m .answer .given .1) (q .plan-checked .ensures) in
-    answer-refused (a .set .now) (a .plan .now) (a .work .now) (a .results .now) _ _ (h .gives .1) (h .gives .2) (m .answer .given .0 .0) _ (c .code-of3 .ensures)
-    (g .0) (omega (arith, q .before .before .before .if1 .left)) h
+    let q = called (m .before .before) in
+    let h = subst (Call q) (m .answer .given .1) (q .plan-checked .ensures) in
+    answer-refused _ _ _ _ _ _ (h .gives .1) (h .gives .2) (m .answer .given .0 .0) _ (c .code-of3 .ensures) (good (checked q) .0) (q .before .before .before .if1 .left) h
 
 same-length-3 : tie.Need-same-length-3
 same-length-3 c = search needs
@@ -102,14 +104,13 @@ same-length-4 c = search needs
 same-length-5 : tie.Need-same-length-5
 same-length-5 c = search needs
 
-returns-4 : tie.Need-returns-4
-returns-4 c =
+planned-results : tie.Need-returns-4
+planned-results c =
     let v = c .before .before in
     let m = v .before .before .before in
-    let q = m .before .before .before .before .before .before in
-    let a = q .before .before .before .before .before .before .before .before .before .before .before .before .args in
-    let h = subst (PlannerCall (a .set .now) (a .plan .now) (a .work .now) _ _) (m .answer2 .given .1) (q .plan-checked .ensures) in
-    entry-planned (a .set .now) (a .plan .now) (a .work .now) (a .results .now) (omega (arith, q .before .before .before .if1 .left)) _ _ _ _ _ _ _ h (v .put-values .ensures .bytes)
+    let q = called (m .before .before) in
+    let h = subst (Call q) (m .answer2 .given .1) (q .plan-checked .ensures) in
+    entry-planned _ _ _ _ (q .before .before .before .if1 .left) _ _ _ _ _ _ _ h (v .put-values .ensures .bytes)
 
 pub seedspell-plan-spec : {M : Type 1} → statement M
 seedspell-plan-spec =
@@ -133,4 +134,4 @@ seedspell-plan-spec =
     same-length-3
     same-length-4
     same-length-5
-    returns-4)
+    planned-results)

@@ -1,9 +1,11 @@
 -- The walk's checks, the result bytes, and then the walk's answer.
 -- Assumes nothing.
 use mathlib.Core.Path.{subst}
-use native.Mathlib.Omega.{arith}
 use Rattle.taskset.specs.Refusals.{number, second, walkChecks}
-use Rattle.taskset.specs.declared.Checked.the-variants.{Good}
+use Rattle.taskset.specs.declared.Checked.{Checked}
+use Rattle.taskset.specs.declared.Checked.the-variants.{Good, Refused as NotGood}
+use Rattle.taskset.specs.declared.WalkAnswer.{WalkAnswer}
+use Rattle.taskset.specs.declared.WalkAnswer.the-variants.{Refused as NotWalked}
 use Rattle.taskset.proofs.Small.{walk-second-small}
 use Rattle.layout.specs.declared.Layout.the-variants.{Ordinary}
 use Rattle.taskset.specs.Calls.{SetAfter}
@@ -13,20 +15,28 @@ use borrow.Author.Needs.{needs}
 use Rattle.capi.proofs.seedspell_walk.Statement.{statement}
 use Rattle.capi.proofs.seedspell_walk.Tie as tie
 
--- The entry, and what the checks gave.
+-- The ways back: to the start, and to the checks.
 abbrev start : tie.After-ready → tie.Start
 start r = r .before .before .before .before
 
-given : (c : tie.After-checked2) → let a = start (c .before .before) .args in
-    SetAfter (walkChecks (a .set .now) (a .plan .now)) Ordinary (a .set .now) (Good (c .checked2 .given .0 .0) (c .checked2 .given .0 .1 .0) (c .checked2 .given .0 .1 .1 .0))
-given c =
-    let r = c .before .before in
-    let a = start r .args in
-    subst (SetAfter (walkChecks (a .set .now) (a .plan .now)) Ordinary (a .set .now)) (c .checked2 .given .1) (r .ready .ensures)
-
--- Where the walk was made.
 abbrev checked : tie.After-walk-checked → tie.After-checked2
 checked w = w .before .before .before
+
+-- What the checks gave, and what the walk gave.
+abbrev Ready : tie.After-ready → Checked → Type 0
+Ready r = let a = start r .args in SetAfter (walkChecks (a .set .now) (a .plan .now)) Ordinary (a .set .now)
+
+refused : (k : tie.After-checked) → Ready (k .before .before) (NotGood (k .checked .given .0 .0))
+refused k = subst (Ready (k .before .before)) (k .checked .given .1) (k .before .before .ready .ensures)
+
+good : (k : tie.After-checked2) → Ready (k .before .before) (Good (k .checked2 .given .0 .0) (k .checked2 .given .0 .1 .0) (k .checked2 .given .0 .1 .1 .0))
+good k = subst (Ready (k .before .before)) (k .checked2 .given .1) (k .before .before .ready .ensures)
+
+abbrev Call : tie.After-walk-checked → WalkAnswer → Type 0
+Call w = let a = start (checked w .before .before) .args in Walked (a .set .now) (a .plan .now)
+
+none : (m : tie.After-answer) → Call (m .before .before) (NotWalked (m .answer .given .0 .0))
+none m = subst (Call (m .before .before)) (m .answer .given .1) (m .before .before .walk-checked .ensures)
 
 ready-requires : tie.Need-ready-requires
 ready-requires c κs = search needs
@@ -36,12 +46,8 @@ enum-known-checked c = search needs
 
 code-of-requires : tie.Need-code-of-requires
 code-of-requires c κs =
-    let k = c .before in
-    let r = k .before .before in
-    let a = start r .args in
-    let f = k .checked .given .0 .0 in
-    walk-second-small (a .set .now) (a .plan .now) (number f) (second f)
-    (subst (SetAfter (walkChecks (a .set .now) (a .plan .now)) Ordinary (a .set .now)) (k .checked .given .1) (r .ready .ensures))
+    let f = c .before .checked .given .0 .0 in
+    walk-second-small _ (start (c .before .before .before) .args .plan .now) (number f) (second f) (refused (c .before))
 
 enum-known-checked-2 : tie.Need-enum-known-checked-2
 enum-known-checked-2 c = search needs
@@ -50,25 +56,18 @@ code-of-requires-2 : tie.Need-code-of-requires-2
 code-of-requires-2 c κs = search needs
 
 returns : tie.Need-returns
-returns c =
-    let k = c .before .before .before in
-    let a = start (k .before .before) .args in
-    results-short (a .set .now) (a .plan .now) (a .results .now) _ (c .code-of2 .ensures) (given k .0) (c .before .if1 .taken)
+returns c = results-short _ _ _ _ (c .code-of2 .ensures) (good (c .before .before .before) .0) (c .before .if1 .taken)
 
 walk-checked-requires : tie.Need-walk-checked-requires
-walk-checked-requires c κs = given (c .before .before)
+walk-checked-requires c κs = good (c .before .before)
 
 enum-known-answer : tie.Need-enum-known-answer
 enum-known-answer c = search needs
 
 code-of-requires-3 : tie.Need-code-of-requires-3
 code-of-requires-3 c κs =
-    let m = c .before in
-    let w = m .before .before in
-    let a = start (checked w .before .before) .args in
-    let f = m .answer .given .0 .0 in
-    let h = subst (Walked (a .set .now) (a .plan .now)) (m .answer .given .1) (w .walk-checked .ensures) in
-    walk-second-small (a .set .now) (a .plan .now) (number f) (second f) (h .answers)
+    let f = c .before .answer .given .0 .0 in
+    walk-second-small _ (start (checked (c .before .before .before) .before .before) .args .plan .now) (number f) (second f) (none (c .before) .answers)
 
 enum-known-answer-2 : tie.Need-enum-known-answer-2
 enum-known-answer-2 c = search needs
@@ -83,44 +82,32 @@ put-values-requires-2 : tie.Need-put-values-requires-2
 put-values-requires-2 c κs = search needs
 
 returns-2 : tie.Need-returns-2
-returns-2 c =
-    let k = c .before .before in
-    let r = k .before .before in
-    let a = start r .args in
-    ready-refused (a .set .now) (a .plan .now) (a .results .now) (k .checked .given .0 .0) _ (c .code-of .ensures)
-    (subst (SetAfter (walkChecks (a .set .now) (a .plan .now)) Ordinary (a .set .now)) (k .checked .given .1) (r .ready .ensures))
+returns-2 c = ready-refused _ _ _ (c .before .before .checked .given .0 .0) _ (c .code-of .ensures) (refused (c .before .before))
 
 returns-3 : tie.Need-returns-3
 returns-3 c =
     let m = c .before .before in
-    let w = m .before .before in
-    let a = start (checked w .before .before) .args in
-    absurd (walk-refused (a .set .now) (a .plan .now) (a .results .now) (m .answer .given .0 .0) (given (checked w) .0)
-    (subst (Walked (a .set .now) (a .plan .now)) (m .answer .given .1) (w .walk-checked .ensures)))
+    absurd (walk-refused _ _ (start (checked (m .before .before) .before .before) .args .results .now) (m .answer .given .0 .0) (good (checked (m .before .before)) .0) (none m))
 
 same-length : tie.Need-same-length
 same-length c = search needs
 
-returns-4 : tie.Need-returns-4
-returns-4 c =
+kept-results : tie.Need-returns-4
+kept-results c =
     let v = c .before .before in
     let m = v .before .before .before in
     let w = m .before .before in
-    let a = start (checked w .before .before) .args in
-    let h = subst (Walked (a .set .now) (a .plan .now)) (m .answer2 .given .1) (w .walk-checked .ensures) in
-    entry-kept (a .set .now) (a .plan .now) (a .results .now) (omega (arith, w .before .if1 .left)) _ _ _ _ h (v .put-values .ensures .bytes)
+    entry-kept _ _ _ (w .before .if1 .left) _ _ _ _ (subst (Call w) (m .answer2 .given .1) (w .walk-checked .ensures)) (v .put-values .ensures .bytes)
 
 same-length-2 : tie.Need-same-length-2
 same-length-2 c = search needs
 
-returns-5 : tie.Need-returns-5
-returns-5 c =
+missed-results : tie.Need-returns-5
+missed-results c =
     let v = c .before .before in
     let m = v .before .before .before in
     let w = m .before .before in
-    let a = start (checked w .before .before) .args in
-    let h = subst (Walked (a .set .now) (a .plan .now)) (m .answer3 .given .1) (w .walk-checked .ensures) in
-    entry-missed (a .set .now) (a .plan .now) (a .results .now) (omega (arith, w .before .if1 .left)) _ _ _ h (v .put-values2 .ensures .bytes)
+    entry-missed _ _ _ (w .before .if1 .left) _ _ _ (subst (Call w) (m .answer3 .given .1) (w .walk-checked .ensures)) (v .put-values2 .ensures .bytes)
 
 pub seedspell-walk-spec : {M : Type 1} → statement M
 seedspell-walk-spec =
@@ -142,6 +129,6 @@ seedspell-walk-spec =
     returns-2
     returns-3
     same-length
-    returns-4
+    kept-results
     same-length-2
-    returns-5)
+    missed-results)
