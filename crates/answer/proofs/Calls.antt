@@ -33,11 +33,11 @@ use Rattle.planner.specs.Answers.{PlannerCall}
 use Rattle.walk.specs.Answers.{Walked}
 use Rattle.answer.specs.Answer.{workLent, planLent, setLent, Read, Prints, unread, refused, planned, RespondGives, Responds}
 use Rattle.answer.specs.Steps as steps
-use Rattle.answer.specs.Steps.{PlanGiven, PrintsSet, PutSet, PutAnswer}
+use Rattle.answer.specs.Steps.{PlannedSet, PrintsSet, PutSet, PutAnswer}
 use Rattle.answer.proofs.Outputs.{is-plan, plan-length, promise, seven-iff, output-short}
 
 -- ---- a plan and its walk
-module _ (s P : List ℕ) (unit load hyper energy : ℕ) (given : PlanGiven s P unit load hyper energy) where
+module _ {s P : List ℕ} {unit load hyper energy : ℕ} (given : PlannedSet s P unit load hyper energy) where
   pub plan-room : (b i p : ℕ) → length (planLine unit load hyper energy ++ (rateLines 1 P ++ walkLine b i p)) ≤ 2048
   plan-room b i p = plan-short unit load hyper energy P b i p (plan-length s (given .accepts) P unit load hyper energy (given .selected))
 
@@ -95,7 +95,7 @@ module _ (s plan work plan′ work′ : List ℕ) (lp : length plan ≡ planLent
   pub call-refused : (r : Refusal) → PlannerCall s plan work plan′ work′ (NotPlanned r) → Refuses (plannerChecks s planLent workLent) (number r) (second r)
   call-refused r c = rw (lp, lw) at (c .gives .0)
 
-  pub call-planned : (n u l h e : ℕ) → n ≡ taskCount Ordinary s → PlannerCall s plan work plan′ work′ (Planned u l h e) → PlanGiven s (take n plan′) u l h e
+  pub call-planned : (n u l h e : ℕ) → n ≡ taskCount Ordinary s → PlannerCall s plan work plan′ work′ (Planned u l h e) → PlannedSet s (take n plan′) u l h e
   call-planned n u l h e count c =
       let g = c .gives .1 in
       let is : take n plan′ ≡ g .0 = ap (λ (k : ℕ). take k plan′) count ∙ g .2 .front in

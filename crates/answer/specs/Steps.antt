@@ -9,7 +9,7 @@ use Rattle.lines.specs.Lines.{refusedLine}
 use Rattle.answer.specs.Answer.{workLent, planLent, PrintsPlan, Prints}
 
 -- A plan that the planner gave for a set, with its four values.
-pub record PlanGiven (s P : List ℕ) (unit load hyper energy : ℕ) : Type 0 where
+pub record PlannedSet (s P : List ℕ) (unit load hyper energy : ℕ) : Type 0 where
   pub accepts : Accepts (plannerChecks s planLent workLent)
   pub selected : Selected s P (unit ∷ load ∷ hyper ∷ energy ∷ [])
 

@@ -1,7 +1,7 @@
 // The program's whole job as a call, text in, text out: it reads the set, plans it, walks the plan, and gives the lines, or the line of
 // the refusal. Standard input and output are left to the program.
 ghost use Rattle.answer.specs.Answer.{Responds};
-ghost use Rattle.answer.specs.Steps.{PutAnswer, PutSet, PlanGiven};
+ghost use Rattle.answer.specs.Steps.{PutAnswer, PutSet, PlannedSet};
 use layout::MOST_TASKS;
 use layout::MOST_WORDS;
 use taskset::Checked;
@@ -23,7 +23,7 @@ fn answer_plan(
     energy: u64,
     text: &mut [u8; 2048],
 ) -> usize
-    requires { ⌜ PlanGiven (now set) (now plan) unit load hyper energy ⌝ }
+    requires { ⌜ PlannedSet (now set) (now plan) unit load hyper energy ⌝ }
     ensures { λ r. ⌜ PutSet (now (set .entry)) (now (text .entry)) (now (text .exit)) r ⌝ }
 {
     match walk::walk(set, plan) {

@@ -8,13 +8,13 @@ use denote.Ref.{now}
 use lib.ListN.{length, take, replicate}
 use lib.Seq.{length-take-le}
 use Rattle.taskset.specs.declared.Checked.the-variants.{Good}
-use Rattle.taskset.specs.declared.PlannerAnswer.the-variants.{Planned}
+use Rattle.taskset.specs.declared.PlannerAnswer.{PlannerAnswer}
 use Rattle.planner.specs.Answers.{PlannerCall}
 use Rattle.layout.specs.declared.Layout.the-variants.{Ordinary}
 use Rattle.taskset.specs.Refusals.{readyChecks}
 use Rattle.taskset.specs.Calls.{SetAfter}
 use Rattle.answer.specs.Answer.{planLent, workLent}
-use Rattle.answer.specs.Steps.{PlanGiven}
+use Rattle.answer.specs.Steps.{PlannedSet}
 use Rattle.answer.proofs.Outputs.{tasks-few}
 use Rattle.answer.proofs.Calls.{set-refused, ready-refused, more-room, call-refused, call-planned}
 use Rattle.taskset.specs.Refusals.{number, second}
@@ -23,39 +23,42 @@ use borrow.Author.Needs.{needs}
 use Rattle.answer.proofs.answer_set.Statement.{statement}
 use Rattle.answer.proofs.answer_set.Tie as tie
 
+-- The ways back: from the checks to the set, and from the planner's answer to its call and to the checks.
+abbrev set-of : tie.After-ready → List ℕ
+set-of x = now (x .before .before .args .set)
+
+abbrev called : tie.After-work2 → tie.After-plan-checked
+called v = v .before .before
+
+abbrev checked : tie.After-plan-checked → tie.After-rates
+checked p = p .before .before .before .before
+
+abbrev planned-set : tie.After-plan-checked → List ℕ
+planned-set p = set-of (checked p .before .before)
+
 -- What checks 2 to 6 gave.
-ready : (c : tie.After-rates) → let x = c .before .before in let a = x .before .before .args in
-    SetAfter (readyChecks (now (a .set)) planLent workLent) Ordinary (now (a .set)) (Good (c .rates .given .0 .0) (c .rates .given .0 .1 .0) (c .rates .given .0 .1 .1 .0))
+ready : (c : tie.After-rates) → let s = set-of (c .before .before) in
+    SetAfter (readyChecks s planLent workLent) Ordinary s (Good (c .rates .given .0 .0) (c .rates .given .0 .1 .0) (c .rates .given .0 .1 .1 .0))
 ready c =
     let x = c .before .before in
-    more-room (now (x .before .before .args .set)) _ _ planLent workLent _ _ _ (omega arith) (omega arith)
-    (subst (SetAfter (readyChecks (now (x .before .before .args .set)) _ _) Ordinary (now (x .before .before .args .set))) (c .rates .given .1) (x .ready .ensures))
+    more-room (set-of x) _ _ planLent workLent _ _ _ (omega arith) (omega arith)
+    (subst (SetAfter (readyChecks (set-of x) _ _) Ordinary (set-of x)) (c .rates .given .1) (x .ready .ensures))
 
 -- What the planner gave.
-abbrev at-rates : tie.After-plan-checked → tie.After-rates
-at-rates p = p .before .before .before .before
+abbrev Call : tie.After-plan-checked → PlannerAnswer → Type 0
+Call p = PlannerCall (planned-set p) (replicate planLent 0) (replicate workLent 0) (p .plan-checked .last .1 .0) (p .plan-checked .last .1 .1 .0)
 
-abbrev set-of : tie.After-plan-checked → List ℕ
-set-of p = now (at-rates p .before .before .before .before .args .set)
-
-given : (c : tie.After-unit) → let p = c .before .before .before .before in
-    PlannerCall (set-of p) (replicate planLent 0) (replicate workLent 0) (p .plan-checked .last .1 .0) (p .plan-checked .last .1 .1 .0)
-    (Planned (c .unit .given .0 .0) (c .unit .given .0 .1 .0) (c .unit .given .0 .1 .1 .0) (c .unit .given .0 .1 .1 .1 .0))
-given c =
-    let p = c .before .before .before .before in
-    subst (PlannerCall (set-of p) (replicate planLent 0) (replicate workLent 0) (p .plan-checked .last .1 .0) (p .plan-checked .last .1 .1 .0)) (c .unit .given .1) (p .plan-checked .ensures)
-
-plan-of : (c : tie.After-unit) → let p = c .before .before .before .before in
-    PlanGiven (set-of p) (take (at-rates p .rates .given .0 .1 .0) (p .plan-checked .last .1 .0))
+plan-of : (c : tie.After-unit) → let p = called (c .before .before) in
+    PlannedSet (planned-set p) (take (checked p .rates .given .0 .1 .0) (p .plan-checked .last .1 .0))
     (c .unit .given .0 .0) (c .unit .given .0 .1 .0) (c .unit .given .0 .1 .1 .0) (c .unit .given .0 .1 .1 .1 .0)
 plan-of c =
-    let p = c .before .before .before .before in
-    call-planned (set-of p) _ _ _ _ refl refl _ _ _ _ _ (ready (at-rates p) .2) (given c)
+    let p = called (c .before .before) in
+    call-planned (planned-set p) _ _ _ _ refl refl _ _ _ _ _ (ready (checked p) .2) (subst (Call p) (c .unit .given .1) (p .plan-checked .ensures))
 
-fits : (c : tie.After-unit) → let p = c .before .before .before .before in at-rates p .rates .given .0 .1 .0 ≤ length (p .plan-checked .last .1 .0)
+fits : (c : tie.After-unit) → let p = called (c .before .before) in checked p .rates .given .0 .1 .0 ≤ length (p .plan-checked .last .1 .0)
 fits c =
-    let p = c .before .before .before .before in
-    omega (arith, ready (at-rates p) .2, tasks-few (set-of p) (plan-of c .accepts), p .plan-checked .kept .1 .0)
+    let p = called (c .before .before) in
+    omega (arith, ready (checked p) .2, tasks-few (planned-set p) (plan-of c .accepts), p .plan-checked .kept .1 .0)
 
 ready-requires : tie.Need-ready-requires
 ready-requires c κs = search needs
@@ -103,20 +106,17 @@ answer-plan-requires c κs = plan-of (c .before .before .before)
 returns : tie.Need-returns
 returns c =
     let r = c .before .before .before in
-    let x = r .before .before in
-    let s = now (x .before .before .args .set) in
+    let s = set-of (r .before .before) in
     set-refused s _ _ _ (r .r .given .0 .0)
-    (ready-refused s (r .r .given .0 .0) (subst (SetAfter (readyChecks s planLent workLent) Ordinary s) (r .r .given .1) (x .ready .ensures)))
+    (ready-refused s (r .r .given .0 .0) (subst (SetAfter (readyChecks s planLent workLent) Ordinary s) (r .r .given .1) (r .before .before .ready .ensures)))
     (c .put-refused .ensures)
 
 returns-2 : tie.Need-returns-2
 returns-2 c =
     let r = c .before .before .before in
-    let p = r .before .before .before .before in
-    let s = set-of p in
-    set-refused s _ _ _ (r .r2 .given .0 .0)
-    (call-refused s _ _ _ _ refl refl (r .r2 .given .0 .0)
-    (subst (PlannerCall s (replicate planLent 0) (replicate workLent 0) (p .plan-checked .last .1 .0) (p .plan-checked .last .1 .1 .0)) (r .r2 .given .1) (p .plan-checked .ensures)))
+    let p = called (r .before .before) in
+    set-refused (planned-set p) _ _ _ (r .r2 .given .0 .0)
+    (call-refused (planned-set p) _ _ _ _ refl refl (r .r2 .given .0 .0) (subst (Call p) (r .r2 .given .1) (p .plan-checked .ensures)))
     (c .put-refused2 .ensures)
 
 returns-3 : tie.Need-returns-3
