@@ -1,8 +1,6 @@
-use Prim.Native.Nat.{ℕ}
-use mathlib.Core.Path.{_≡_, sym, ap, _∙_}
-use mathlib.Core.List.{List}
+-- Whether a word is in its range: the tests of the definition, one for each kind.
+-- Assumes nothing.
 use native.Mathlib.Omega.{arith}
-use Rattle.layout.specs.declared.Kind.{Kind}
 use Rattle.layout.specs.Words.{allows}
 use borrow.Author.Needs.{needs}
 use Rattle.layout.proofs.is_allowed.Statement.{statement}
@@ -16,9 +14,6 @@ shared-slice-read-w c = search needs
 
 cast-w : tie.Need-cast-w
 cast-w c = omega (arith, c .shared-slice-known2 .given (c .before .before .args .q))
-
-of-kind : (s : List ℕ) (q : ℕ) {k x : Kind} → k ≡ x → allows s q k ≡ allows s q x
-of-kind s q e = ap (allows s q) e
 
 enum-told : tie.Need-enum-told
 enum-told c = search needs
@@ -65,37 +60,37 @@ is-between-requires-7 c κs = search needs
 enum-told-8 : tie.Need-enum-told-8
 enum-told-8 c = search needs
 
-returns : tie.Need-returns
+slack-range : tie.Need-returns
 unfolding allows
-returns c = c .is-between .ensures ∙ sym (of-kind (c .before .before .before .before .before .args .s .now) (c .before .before .before .before .before .args .q) (c .before .enum-told .given .1))
+slack-range c = rw (c .before .enum-told .given .1) (c .is-between .ensures)
 
-returns-2 : tie.Need-returns-2
+rate-count-range : tie.Need-returns-2
 unfolding allows
-returns-2 c = c .is-between2 .ensures ∙ sym (of-kind (c .before .before .before .before .before .args .s .now) (c .before .before .before .before .before .args .q) (c .before .enum-told2 .given .1))
+rate-count-range c = rw (c .before .enum-told2 .given .1) (c .is-between2 .ensures)
 
-returns-3 : tie.Need-returns-3
+rate-range : tie.Need-returns-3
 unfolding allows
-returns-3 c = c .is-between3 .ensures ∙ sym (of-kind (c .before .before .before .before .before .args .s .now) (c .before .before .before .before .before .args .q) (c .before .enum-told3 .given .1))
+rate-range c = rw (c .before .enum-told3 .given .1) (c .is-between3 .ensures)
 
-returns-4 : tie.Need-returns-4
+task-count-range : tie.Need-returns-4
 unfolding allows
-returns-4 c = c .is-between4 .ensures ∙ sym (of-kind (c .before .before .before .before .before .args .s .now) (c .before .before .before .before .before .args .q) (c .before .enum-told4 .given .1))
+task-count-range c = rw (c .before .enum-told4 .given .1) (c .is-between4 .ensures)
 
-returns-5 : tie.Need-returns-5
+period-range : tie.Need-returns-5
 unfolding allows
-returns-5 c = c .is-between5 .ensures ∙ sym (of-kind (c .before .before .before .before .before .args .s .now) (c .before .before .before .before .before .args .q) (c .before .enum-told5 .given .1))
+period-range c = rw (c .before .enum-told5 .given .1) (c .is-between5 .ensures)
 
-returns-6 : tie.Need-returns-6
+cycles-range : tie.Need-returns-6
 unfolding allows
-returns-6 c = c .is-between6 .ensures ∙ sym (of-kind (c .before .before .before .before .before .args .s .now) (c .before .before .before .before .before .args .q) (c .before .enum-told6 .given .1))
+cycles-range c = rw (c .before .enum-told6 .given .1) (c .is-between6 .ensures)
 
-returns-7 : tie.Need-returns-7
+energy-range : tie.Need-returns-7
 unfolding allows
-returns-7 c = c .is-between7 .ensures ∙ sym (of-kind (c .before .before .before .before .before .args .s .now) (c .before .before .before .before .before .args .q) (c .before .enum-told7 .given .1))
+energy-range c = rw (c .before .enum-told7 .given .1) (c .is-between7 .ensures)
 
-returns-8 : tie.Need-returns-8
+left-over : tie.Need-returns-8
 unfolding allows
-returns-8 c = sym (of-kind (c .before .before .before .before .args .s .now) (c .before .before .before .before .args .q) (c .enum-told8 .given .1))
+left-over c = rw (c .enum-told8 .given .1)
 
 pub is-allowed-spec : {M : Type 1} → statement M
 is-allowed-spec =
@@ -119,11 +114,11 @@ is-allowed-spec =
     enum-told-7
     is-between-requires-7
     enum-told-8
-    returns
-    returns-2
-    returns-3
-    returns-4
-    returns-5
-    returns-6
-    returns-7
-    returns-8)
+    slack-range
+    rate-count-range
+    rate-range
+    task-count-range
+    period-range
+    cycles-range
+    energy-range
+    left-over)
