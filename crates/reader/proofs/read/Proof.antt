@@ -51,8 +51,8 @@ returns c =
     let t = read-as n in
     laws.trailing _ _ (t .item) (n .count .given .0 .1 .0) (t .is) (omega (arith, laws.inside _ (t .item) _ (t .is)))
 
-returns-2 : tie.Need-returns-2
-returns-2 c =
+too-few-words : tie.Need-returns-2
+too-few-words c =
     let n = c .before .before .before in
     let t = read-as n in
     laws.too-short _ _ (t .item) (n .count .given .0 .1 .0) (t .is) _ (c .before .if1 .left) (t .shows) (c .if2 .taken)
@@ -102,7 +102,7 @@ read-spec =
     enum-known-count
     cast-n
     returns
-    returns-2
+    too-few-words
     array-share-prefix-set
     slice-aggregate-put-words
     put-words-requires

@@ -27,8 +27,8 @@ returns c = sym (laws.number-none _ _ (no-digit _ _ (not-digit _ _ (c .before .s
 add-t6 : tie.Need-add-t6
 add-t6 c = omega (arith, read (c .before .before))
 
-returns-2 : tie.Need-returns-2
-returns-2 c = sym (laws.number-zero _ _ _ (read (c .before .before)) (omega (arith, read (c .before .before))))
+zero-read : tie.Need-returns-2
+zero-read c = sym (laws.number-zero _ _ _ (read (c .before .before)) (omega (arith, read (c .before .before))))
 
 add-more : tie.Need-add-more
 add-more c = omega (arith, read (c .before .before))
@@ -36,12 +36,12 @@ add-more c = omega (arith, read (c .before .before))
 more-requires : tie.Need-more-requires
 more-requires c κs = search needs
 
-returns-3 : tie.Need-returns-3
-returns-3 c =
+longer-read : tie.Need-returns-3
+longer-read c =
     let h = read (c .before .before .before) in
     c .more .ensures ∙ sym (laws.number-on _ _ (c .before .before .before .d .given .0 .0) h (omega (arith, c .before .if1 .left)))
 
 pub number-spec : {M : Type 1} → statement M
 number-spec =
     tie.close
-    (tie.spec step-requires enum-known-d returns add-t6 returns-2 add-more more-requires returns-3)
+    (tie.spec step-requires enum-known-d returns add-t6 zero-read add-more more-requires longer-read)

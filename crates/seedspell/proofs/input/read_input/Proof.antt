@@ -53,8 +53,8 @@ returns-2 c = search needs
 sub-retries : tie.Need-sub-retries Inv-loop μ-loop
 sub-retries c = search needs
 
-loop-less-2 : tie.Need-loop-less-2 Inv-loop μ-loop
-loop-less-2 c = search needs
+retry-used : tie.Need-loop-less-2 Inv-loop μ-loop
+retry-used c = search needs
 
 loop-again-2 : tie.Need-loop-again-2 Inv-loop μ-loop
 loop-again-2 c = search needs
@@ -85,7 +85,7 @@ read-input-spec =
     enum-told-2
     returns-2
     sub-retries
-    loop-less-2
+    retry-used
     loop-again-2
     enum-told-3
     returns-3
