@@ -1,5 +1,5 @@
--- The turns of the loop that follows the running multiple: the task at t has its first word at `at`, its period is p, the multiple of
--- the tasks before it is l, and g is the greatest common divisor of both.
+-- The turns of the loop that follows the running multiple: the task at t has its first word, its period, at `at`, the
+-- multiple of the tasks before it is l, and g is the greatest common divisor of both.
 -- Assumes nothing.
 use Prim.Native.Nat.{ℕ, suc, _+_, _*_, _/_, _^_, _≤_, _<_}
 use mathlib.Core.Path.{_≡_, sym, ap, _∙_}

@@ -22,7 +22,7 @@ use Rattle.taskset.proofs.Checks.{no-word-fault, accepts-join, refuses-back}
 use Rattle.layout.proofs.Whole.{whole-of, rates-in, tasks-in}
 use Rattle.layout.specs.declared.Layout.{Layout}
 
--- What the code reads of a list: its head's size h, the rate count there, the place c of its task count, and the count there.
+-- What the code reads of a list: its head's size h, the rate count there, its task count's place c, the count there.
 pub record Counts (layout : Layout) (s : List ℕ) (h c : ℕ) : Type 0 where
   pub head : h ≡ headSize layout
   pub rates : word s h ≡ rateCount layout s

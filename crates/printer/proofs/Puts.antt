@@ -61,7 +61,7 @@ length-above (suc j) v h l =
     let e = length-above j (v / 10) (omega arith) (omega arith) in
     rw (pow-succ' 10 j, ← div-div-eq-div-mul) (omega (arith, length-large v (omega arith) l))
 
--- Digits from the back: those of v behind the first i stand in their places of e, which was d, and the first i are those of x.
+-- Digits from the back: those of v behind the first i stand in their places of e, which was d; the first i are x's.
 pub record Filled (v : ℕ) (d : List ℕ) (x : ℕ) (e : List ℕ) (i : ℕ) : Type 0 where
   pub some : 1 ≤ i
   pub inside : i ≤ length d

@@ -21,39 +21,39 @@ searched x = x .before .before .before .before .before
 abbrev counted : tie.After-period-place → tie.After-task-count-place
 counted p = p .before .before .before
 
-abbrev way : tie.After-first-bad → Layout
-way b = b .before .before .args .layout
+abbrev layout : tie.After-first-bad → Layout
+layout b = b .before .before .args .layout
 
 abbrev list : tie.After-first-bad → List ℕ
 list b = b .before .before .args .s .now
 
 -- What was read of the list.
 counts : (x : tie.After-task-count-place) →
-    Counts (way (searched x)) (list (searched x)) (x .before .before .before .head-size .result) (x .task-count-place .result)
+    Counts (layout (searched x)) (list (searched x)) (x .before .before .before .head-size .result) (x .task-count-place .result)
 counts x = counts-read _ _ (x .before .before .before .head-size .ensures) (x .task-count-place .ensures)
 
 -- Both are in their ranges, where the list is long enough to have them.
-rates : (e : tie.Else3) → let b = searched (e .before) in (2 ≤ rateCount (way b) (list b)) × (rateCount (way b) (list b) ≤ mostRates)
+rates : (e : tie.Else3) → let b = searched (e .before) in (2 ≤ rateCount (layout b) (list b)) × (rateCount (layout b) (list b) ≤ mostRates)
 rates e = let b = searched (e .before) in
     rates-range _ _ _ (b .first-bad .ensures) (omega arith) (omega (arith, counts (e .before) .place))
 
-tasks : (e : tie.Else3) → let b = searched (e .before) in (1 ≤ taskCount (way b) (list b)) × (taskCount (way b) (list b) ≤ mostTasks)
+tasks : (e : tie.Else3) → let b = searched (e .before) in (1 ≤ taskCount (layout b) (list b)) × (taskCount (layout b) (list b) ≤ mostTasks)
 tasks e = let b = searched (e .before) in
     tasks-range _ _ _ (b .first-bad .ensures) (omega arith) (omega (arith, counts (e .before) .place))
 
 -- The place after the last task's words is how many words the list must have.
-end-is : (p : tie.After-period-place) → let b = searched (counted p) in p .period-place .result ≡ wordCount (way b) (list b)
+end-is : (p : tie.After-period-place) → let b = searched (counted p) in p .period-place .result ≡ wordCount (layout b) (list b)
 end-is p =
     let f = counts (counted p) in
     let e = p .period-place .ensures in
     cc
 
 -- What the second search finds, in a list that has all its words.
-enough : (g : tie.After-first-fall) → let b = searched (counted (g .before .before)) in wordCount (way b) (list b) ≤ length (list b)
+enough : (g : tie.After-first-fall) → let b = searched (counted (g .before .before)) in wordCount (layout b) (list b) ≤ length (list b)
 enough g = omega (arith, end-is (g .before .before))
 
 fall : (g : tie.After-first-fall) → let b = searched (counted (g .before .before)) in
-    Found (Falls (list b)) (ratePlace (way b) 2) (taskCountPlace (way b) (rateCount (way b) (list b))) (g .first-fall .result)
+    Found (Falls (list b)) (ratePlace (layout b) 2) (taskCountPlace (layout b) (rateCount (layout b) (list b))) (g .first-fall .result)
 fall g = rw (counts (counted (g .before .before)) .rates) at (g .first-fall .ensures)
 
 first-bad-requires : tie.Need-first-bad-requires

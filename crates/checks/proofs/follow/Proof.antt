@@ -1,4 +1,4 @@
--- The running multiple, period by period. The invariant: where the task in hand stands, its multiple, and that none before passes the limit.
+-- The running multiple, period by period. The invariant, Turn, says where the task in hand stands.
 -- Assumes nothing.
 use mathlib.Core.Path.{sym}
 use lib.ListN.{getD}

@@ -1,5 +1,5 @@
--- The digits of a number, from the back. The loop's invariant: those behind the first `i` are in place, and the first `i` are those of
--- what is left.
+-- The digits of a number, from the back. The loop's invariant, Filled: those behind the first `i` are in place, and the
+-- first `i` are those of what is left.
 -- Assumes nothing.
 use native.Mathlib.Omega.{arith}
 use denote.Ref.{now}

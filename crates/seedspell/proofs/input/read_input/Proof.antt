@@ -1,5 +1,6 @@
--- `input::read_input` meets its contract. The invariant: the bytes that were read are within the array. The measure is the room that is left
--- and the retries that are left, together: a read that brings bytes lessens the first, one that is interrupted the second.
+-- `input::read_input` meets its contract. The invariant: the bytes that were read are within the array. The measure is
+-- the room and the retries that are left, together: a read that brings bytes lessens the first, one that is interrupted
+-- the second.
 -- Assumes nothing.
 use Prim.Native.Nat.{_+_, _-_, _≤_}
 use native.Mathlib.Omega.{arith}
