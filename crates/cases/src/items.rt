@@ -1,142 +1,125 @@
-// The items of a record: a name, numbers, lists of numbers, and a text. A number is read with the one space in front of it, and so is a
-// text, so that no place needs a test for what separates items.
-use crate::print;
-ghost use Prim.Native.Nat.{_≤_, _<_};
+// The items of a record: a name, numbers, lists of numbers, and a text. A reader of an item takes the place of the one space in front
+// of it and gives the place behind it. Where no such item stands, that is NOWHERE, and so it is for every item that is read from there:
+// a record is tested once, at its end.
+ghost use Prim.Native.Nat.{_≤_};
 ghost use lib.ListN.{length};
-ghost use Rattle.cases.specs.Items.{ItemEnd, DigitAt, MoreAt, NumberAt, NumbersAt, ListAt, TextAt};
 
-// A number and the place after it.
-pub(crate) enum Value {
-    Is(u32, usize),
-    No,
+// A place that no record has.
+const NOWHERE: usize = usize::MAX;
+
+// A number, or how many numbers a list has, and the place behind.
+pub(crate) struct Item {
+    pub(crate) value: usize,
+    pub(crate) next: usize,
 }
 
-// How many numbers, and the place after them.
-pub(crate) enum Counted {
-    Of(usize, usize),
-    No,
+// No item.
+fn none() -> Item
+    ensures { λ r. ⌜ r .value ≤ 0 ⌝ }
+{
+    Item {
+        value: 0,
+        next: NOWHERE,
+    }
 }
 
 // Where the item that starts at a place ends: at the first space, or at the end of the record.
 pub(crate) fn item_end(s: &[u8], from: usize) -> usize
-    requires { ⌜ from ≤ length (now s) ⌝ }
-    ensures { λ r. ⌜ ItemEnd (now (s .entry)) from r ⌝ }
+    ensures { λ r. ⌜ r ≤ length (now (s .entry)) ⌝ }
 {
     let mut i = from;
     while i < s.len() {
-        if s[i] == 32 {
+        if s[i] == b' ' {
             return i;
         }
         i += 1;
     }
-    i
+    s.len()
 }
 
-// The digit at a place, or 10 where none stands there.
-fn digit(s: &[u8], at: usize) -> u64
-    ensures { λ r. ⌜ DigitAt (now (s .entry)) at r ⌝ }
+// The value of a digit, or 10 for another byte.
+fn digit(b: u8) -> usize
+    ensures { λ r. ⌜ r ≤ 10 ⌝ }
 {
-    if s.len() <= at {
+    if b < b'0' {
         return 10;
     }
-    let b = s[at];
-    if b < 48 {
+    if b > b'9' {
         return 10;
     }
-    if b > 57 {
-        return 10;
-    }
-    (b - 48) as u64
+    (b - b'0') as usize
 }
 
-// The digits after a number's first one. A number that starts with 0 has no more, so that each number has one text. The value is
-// tested before the next digit, so that 64 bits hold it.
-fn more(s: &[u8], at: usize, first: u64) -> Value
-    requires { ⌜ (at ≤ length (now s)) × (first < 10) ⌝ }
-    ensures { λ r. ⌜ MoreAt (now (s .entry)) at first r ⌝ }
+// A space and a number of at most `most`. One that starts with 0 has no more digits, so that each number has one text.
+pub(crate) fn number(s: &[u8], at: usize, most: u32) -> Item
+    ensures { λ r. ⌜ r .value ≤ most ⌝ }
 {
-    let mut v = first;
-    let mut i = at;
-    loop {
-        let d = digit(s, i);
+    let start = rest(s, at);
+    let end = item_end(s, start);
+    let mut v: usize = 0;
+    let mut i = start;
+    if end <= start {
+        return none();
+    }
+    while i < end {
+        let d = digit(s[i]);
         if d > 9 {
-            return Value::Is(v as u32, i);
+            return none();
         }
         if v == 0 {
-            return Value::No;
+            if i > start {
+                return none();
+            }
         }
         v = v * 10 + d;
-        if v > 4294967295 {
-            return Value::No;
+        if v > most as usize {
+            return none();
         }
         i += 1;
     }
-}
-
-// A space and a number of at most 32 bits.
-pub(crate) fn number(s: &[u8], at: usize) -> Value
-    ensures { λ r. ⌜ NumberAt (now (s .entry)) at r ⌝ }
-{
-    if s.len() <= at {
-        return Value::No;
+    Item {
+        value: v,
+        next: end,
     }
-    if s[at] != 32 {
-        return Value::No;
-    }
-    let first = digit(s, at + 1);
-    if first > 9 {
-        return Value::No;
-    }
-    more(s, at + 2, first)
-}
-
-// So many numbers, to the front of a list. Each turn takes one.
-fn numbers(s: &[u8], at: usize, k: usize, out: &mut [u32]) -> Counted
-    requires { ⌜ (at ≤ length (now s)) × (k ≤ length (now out)) ⌝ }
-    ensures { λ r. ⌜ NumbersAt (now (s .entry)) at k (now (out .exit)) r ⌝ }
-{
-    let mut i = at;
-    let mut n = 0;
-    while n < k {
-        let Value::Is(v, next) = number(s, i) else {
-            return Counted::No;
-        };
-        out[n] = v;
-        i = next;
-        n += 1;
-    }
-    Counted::Of(n, i)
 }
 
 // A count, at most `most`, and so many numbers, to the front of a list. One size of list serves sets and plans.
-pub(crate) fn list(s: &[u8], at: usize, most: usize, out: &mut [u32; 400]) -> Counted
-    requires { ⌜ most ≤ 400 ⌝ }
-    ensures { λ r. ⌜ ListAt (now (s .entry)) at most (now (out .exit)) r ⌝ }
+pub(crate) fn list(s: &[u8], at: usize, most: u32, out: &mut [u32]) -> Item
+    requires { ⌜ most ≤ length (now out) ⌝ }
+    ensures { λ r. ⌜ r .value ≤ length (now (out .exit)) ⌝ }
 {
-    let Value::Is(k, next) = number(s, at) else {
-        return Counted::No;
-    };
-    let count = k as usize;
-    if count > most {
-        return Counted::No;
+    let count = number(s, at, most);
+    let k = count.value;
+    let mut next = count.next;
+    let mut i = 0;
+    while i < k {
+        let word = number(s, next, u32::MAX);
+        out[i] = word.value as u32;
+        next = word.next;
+        i += 1;
     }
-    numbers(s, next, count, out)
+    Item { value: k, next }
 }
 
-// A space and a text, to the front of a list: all that is left of the record, with byte 10 for each `/`.
-pub(crate) fn text(s: &[u8], at: usize, out: &mut [u8; 16384]) -> Counted
-    ensures { λ r. ⌜ TextAt (now (s .entry)) at (now (out .exit)) r ⌝ }
-{
+// Where what stands behind a space starts.
+fn rest(s: &[u8], at: usize) -> usize {
     if s.len() <= at {
-        return Counted::No;
+        return NOWHERE;
     }
-    if s[at] != 32 {
-        return Counted::No;
+    if s[at] != b' ' {
+        return NOWHERE;
     }
-    let start = at + 1;
+    at + 1
+}
+
+// A space and a text: all that is left of the record, at most 16384 bytes. The place where it starts.
+pub(crate) fn text(s: &[u8], at: usize) -> usize {
+    let start = rest(s, at);
+    if start > s.len() {
+        return NOWHERE;
+    }
     if s.len() - start > 16384 {
-        return Counted::No;
+        return NOWHERE;
     }
-    let n = print::put_swapped(out, 0, &s[start..], b'/', b'\n');
-    Counted::Of(n, s.len())
+    start
 }

@@ -1,4 +1,0 @@
-pub mod Digits
-pub mod Parts
-pub mod Texts
-pub mod Copies

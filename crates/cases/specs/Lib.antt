@@ -1,4 +1,0 @@
-pub mod Decimal
-pub mod Answers
-pub mod Items
-pub mod Lines
