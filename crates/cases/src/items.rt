@@ -54,7 +54,7 @@ fn digit(b: u8) -> usize
 pub(crate) fn number(s: &[u8], at: usize, most: u32) -> Item
     ensures { λ r. ⌜ r .value ≤ most ⌝ }
 {
-    let start = rest(s, at);
+    let start = after_space(s, at);
     let end = item_end(s, start);
     let mut v: usize = 0;
     let mut i = start;
@@ -102,7 +102,7 @@ pub(crate) fn list(s: &[u8], at: usize, most: u32, out: &mut [u32]) -> Item
 }
 
 // Where what stands behind a space starts.
-fn rest(s: &[u8], at: usize) -> usize {
+pub(crate) fn after_space(s: &[u8], at: usize) -> usize {
     if s.len() <= at {
         return NOWHERE;
     }
@@ -114,7 +114,7 @@ fn rest(s: &[u8], at: usize) -> usize {
 
 // A space and a text: all that is left of the record, at most 16384 bytes. The place where it starts.
 pub(crate) fn text(s: &[u8], at: usize) -> usize {
-    let start = rest(s, at);
+    let start = after_space(s, at);
     if start > s.len() {
         return NOWHERE;
     }

@@ -1,57 +1,56 @@
-// Runs the calls on stored records. Each line of standard input is a record, and gets a line of standard output, which is held to
-// the stored one. README.md has the form of the records and of their lines. What is proved of the program is that it is safe and ends;
-// what it prints is compared.
+// Runs the calls on stored records. Each line of standard input is a record, and gets a line of standard output. README.md has their
+// form. What is proved of the program is that it is safe and ends; what it prints is held to the stored lines by comparison.
 mod input;
 mod items;
 mod print;
 
 ghost use Prim.Native.Nat.{_≤_};
-ghost use lib.ListN.{length};
 use input::Window;
 use layout::Layout;
-use libc::STDOUT_FILENO;
-use taskset::CopyAnswer;
-use taskset::PlannerAnswer;
 
-// A function for each kind of record. It reads the items from the end of the name on, `at`, and puts the line's rest behind the name,
-// whose n bytes are in the buffer. It gives the line's length, or 0 where the record is not of its form.
+// A function for each kind of record. It takes the record's name and what stands behind it, runs the call and prints the line, but
+// for the byte that ends it. Where the record is not of its form, it prints nothing and gives false.
 
 // A record for check_set: the list of a set.
-fn check_record(s: &[u8], at: usize, out: &mut [u8; 65536], n: usize) -> usize {
+fn check_record(name: &[u8], s: &[u8]) -> bool {
     let mut words = [0u32; 400];
-    let set = items::list(s, at, 400, &mut words);
+    let set = items::list(s, 0, 400, &mut words);
     if set.next != s.len() {
-        return 0;
+        return false;
     }
     let k = set.value;
     let a = checks::check_set(&words[0..k], Layout::Ordinary);
-    print::put_checked(out, n, a)
+    print::text(name);
+    print::checked(a);
+    true
 }
 
 // A record for the walk: the list of a set, and a plan.
-fn walk_record(s: &[u8], at: usize, out: &mut [u8; 65536], n: usize) -> usize {
+fn walk_record(name: &[u8], s: &[u8]) -> bool {
     let mut words = [0u32; 400];
-    let set = items::list(s, at, 400, &mut words);
+    let set = items::list(s, 0, 400, &mut words);
     let mut rates = [0u32; 400];
     let plan = items::list(s, set.next, 40, &mut rates);
     if plan.next != s.len() {
-        return 0;
+        return false;
     }
     let k = set.value;
     let j = plan.value;
     let a = walk::walk(&words[0..k], &rates[0..j]);
-    print::put_walked(out, n, a)
+    print::text(name);
+    print::walked(a);
+    true
 }
 
 // A record for the planner: the list of a set, how many words are lent for the plan, and how many working words. The words lent for
-// the plan hold 0 before the call, so that the plan's words show; the working words hold anything else.
-fn plan_record(s: &[u8], at: usize, out: &mut [u8; 65536], n: usize) -> usize {
+// the plan hold 0 before the call, which is no rate number, and the working words something else.
+fn plan_record(name: &[u8], s: &[u8]) -> bool {
     let mut words = [0u32; 400];
-    let set = items::list(s, at, 400, &mut words);
+    let set = items::list(s, 0, 400, &mut words);
     let lent = items::number(s, set.next, 64);
     let working = items::number(s, lent.next, 16384);
     if working.next != s.len() {
-        return 0;
+        return false;
     }
     let k = set.value;
     let j = lent.value;
@@ -59,101 +58,104 @@ fn plan_record(s: &[u8], at: usize, out: &mut [u8; 65536], n: usize) -> usize {
     let mut plan = [0u32; 400];
     let mut work = [7u32; 16384];
     let a = planner::plan(&words[0..k], &mut plan[0..j], &mut work[0..w]);
-    print::put_planned(out, n, a, &plan)
+    print::text(name);
+    print::planned(a, &plan);
+    true
 }
 
 // A record for the reader: how many words are lent, and a text. The words hold 7 before the call, also those that are not lent, so that
 // a word that the call must not write shows when it does.
-fn read_record(s: &[u8], at: usize, out: &mut [u8; 65536], n: usize) -> usize {
-    let lent = items::number(s, at, 400);
+fn read_record(name: &[u8], s: &[u8]) -> bool {
+    let lent = items::number(s, 0, 400);
     let start = items::text(s, lent.next);
     if start > s.len() {
-        return 0;
+        return false;
     }
     let j = lent.value;
     let mut words = [7u32; 400];
     let a = reader::read(&s[start..], &mut words[0..j]);
-    print::put_read(out, n, a, &words)
+    print::text(name);
+    print::read(a, &words);
+    true
 }
 
 // A record for the writer: the list of a set, and how many bytes are lent. They hold 7 before the call, which no text has.
-fn write_record(s: &[u8], at: usize, out: &mut [u8; 65536], n: usize) -> usize {
+fn write_record(name: &[u8], s: &[u8]) -> bool {
     let mut words = [0u32; 400];
-    let set = items::list(s, at, 400, &mut words);
+    let set = items::list(s, 0, 400, &mut words);
     let lent = items::number(s, set.next, 8192);
     if lent.next != s.len() {
-        return 0;
+        return false;
     }
     let k = set.value;
     let j = lent.value;
     let mut text = [7u8; 8192];
     let a = writer::write(&words[0..k], &mut text[0..j]);
-    print::put_wrote(out, n, b" wrote", a, &text)
+    print::text(name);
+    print::wrote(b" wrote", a, &text);
+    true
 }
 
 // A record for the program's call: how many bytes are lent, and a text. The bytes hold 7 before the call, which no output has.
-fn respond_record(s: &[u8], at: usize, out: &mut [u8; 65536], n: usize) -> usize {
-    let lent = items::number(s, at, 2048);
+fn respond_record(name: &[u8], s: &[u8]) -> bool {
+    let lent = items::number(s, 0, 2048);
     let start = items::text(s, lent.next);
     if start > s.len() {
-        return 0;
+        return false;
     }
     let j = lent.value;
     let mut text = [7u8; 8192];
     let a = answer::respond(&s[start..], &mut text[0..j]);
-    print::put_wrote(out, n, b" prints", a, &text)
+    print::text(name);
+    print::wrote(b" prints", a, &text);
+    true
 }
 
-// The length of the line for a record, its name and what its kind asks for; or 0.
-fn line_for(s: &[u8], out: &mut [u8; 65536]) -> usize {
-    if s.len() < 3 {
-        return 0;
-    }
-    if s[1] != b' ' {
-        return 0;
-    }
-    let end = items::item_end(s, 2);
-    if end <= 2 {
-        return 0;
-    }
-    if end > 42 {
-        return 0;
-    }
-    let n = print::put_text(out, 0, &s[2..end]);
-    match s[0] {
-        b'c' => check_record(s, end, out, n),
-        b'w' => walk_record(s, end, out, n),
-        b'p' => plan_record(s, end, out, n),
-        b'r' => read_record(s, end, out, n),
-        b't' => write_record(s, end, out, n),
-        b'a' => respond_record(s, end, out, n),
-        _ => 0,
-    }
-}
-
-// Writes the line for a record. Whether the next one is to be read.
-fn reply(line: &[u8; 65536], count: usize, out: &mut [u8; 65536]) -> bool
-    requires { ⌜ count ≤ 65536 ⌝ }
-{
-    let s: &[u8] = line;
-    let n = line_for(&s[0..count], out);
-    if n == 0 {
-        refuse();
+// A record of any kind: the byte that says which, and its name, of 1 to 40 bytes.
+fn record(s: &[u8]) -> bool {
+    let start = items::after_space(s, 1);
+    let end = items::item_end(s, start);
+    if end <= start {
         return false;
     }
-    print::write_line(out, n)
+    if end - start > 40 {
+        return false;
+    }
+    let name = &s[start..end];
+    let rest = &s[end..];
+    match s[0] {
+        b'c' => check_record(name, rest),
+        b'w' => walk_record(name, rest),
+        b'p' => plan_record(name, rest),
+        b'r' => read_record(name, rest),
+        b't' => write_record(name, rest),
+        b'a' => respond_record(name, rest),
+        _ => false,
+    }
+}
+
+// Answers the line's first n bytes. Whether they were a record, and the next line is to be read.
+fn reply(line: &[u8; 65536], n: usize) -> bool
+    requires { ⌜ n ≤ 65536 ⌝ }
+{
+    let s: &[u8] = line;
+    if record(&s[0..n]) {
+        print::say(b"\n");
+        return true;
+    }
+    refuse();
+    false
 }
 
 // Writes the line for what is no record.
 fn refuse() {
-    io::write_all(STDOUT_FILENO, b"bad record\n");
+    print::say(b"bad record\n");
 }
 
 // Nothing says that the input ends, so that the loop counts its turns down, from a number that no run uses up.
 fn main() {
     let mut buf = io::buffer();
     let mut line = io::large_buffer();
-    let mut out = io::large_buffer();
     let mut left = Window { at: 0, have: 0 };
     let mut turns = u64::MAX;
     while turns > 0 {
@@ -165,7 +167,7 @@ fn main() {
             }
             return;
         }
-        if !reply(&line, n, &mut out) {
+        if !reply(&line, n) {
             return;
         }
         left = l.left;

@@ -1,127 +1,105 @@
-// The line that answers a record, put together part by part in a buffer. A `put_` function puts its part from a place on and gives
-// the place behind it. The buffer has room for far longer lines than those of the kinds below. Where it is full, nothing more is put,
-// and such a line is not written: what the program prints is then not what is stored.
+// The parts of the line that answers a record, each written as it comes. A write that fails is not looked at: what stands on standard
+// output is then not what is stored.
 use libc::STDOUT_FILENO;
 use taskset::Checked;
 use taskset::CopyAnswer;
 use taskset::PlannerAnswer;
 use taskset::Refusal;
 use taskset::WalkAnswer;
-ghost use Prim.Native.Nat.{_≤_};
-ghost use lib.ListN.{length};
 
-fn put_byte(out: &mut [u8; 65536], at: usize, b: u8) -> usize {
-    if at < 65536 {
-        out[at] = b;
-        return at + 1;
-    }
-    at
-}
-
-// A byte of a text: `/` stands for byte 10, as it does in a record.
-fn shown(b: u8) -> u8 {
-    if b == b'\n' { b'/' } else { b }
-}
-
-pub(crate) fn put_text(out: &mut [u8; 65536], at: usize, text: &[u8]) -> usize {
-    let mut n = at;
-    let mut i = 0;
-    while i < text.len() {
-        n = put_byte(out, n, shown(text[i]));
-        i += 1;
-    }
-    n
-}
-
-// The first `count` bytes of a text, if it has so many.
-fn put_front(out: &mut [u8; 65536], at: usize, text: &[u8], count: usize) -> usize {
-    if count > text.len() {
-        return at;
-    }
-    put_text(out, at, &text[0..count])
+pub(crate) fn say(word: &[u8]) {
+    io::write_all(STDOUT_FILENO, word);
 }
 
 // A space and a number in decimal.
-fn put_number(out: &mut [u8; 65536], at: usize, x: u64) -> usize {
-    let mut digits = [0u8; 20];
-    let k = io::decimal(x, &mut digits);
-    let n = put_byte(out, at, b' ');
-    put_text(out, n, &digits[0..k])
+fn number(x: u64) {
+    say(b" ");
+    io::print_decimal(STDOUT_FILENO, x);
+}
+
+fn word(x: u32) {
+    number(x as u64);
 }
 
 // The first `count` words of a list in a row, as far as it has so many.
-fn put_words(out: &mut [u8; 65536], at: usize, words: &[u32; 400], count: usize) -> usize {
-    let mut n = at;
+fn words(list: &[u32; 400], count: usize) {
     let mut i = 0;
     while i < 400 {
         if i == count {
-            return n;
+            return;
         }
-        n = put_number(out, n, wide(words[i]));
+        word(list[i]);
         i += 1;
     }
-    n
 }
 
-fn wide(x: u32) -> u64 {
-    x as u64
+// A byte of a text: `/` stands for byte 10, as it does in a record.
+fn spelled(b: u8) -> u8 {
+    if b == b'\n' { b'/' } else { b }
 }
 
-// A word, with its space in front, and a number: every answer starts so.
-fn put_said(out: &mut [u8; 65536], at: usize, word: &[u8], x: u64) -> usize {
-    let n = put_text(out, at, word);
-    put_number(out, n, x)
+// A text, of which no more than 8192 bytes are written.
+pub(crate) fn text(t: &[u8]) {
+    let mut line = [0u8; 8192];
+    let mut i = 0;
+    while i < t.len() {
+        if i >= 8192 {
+            return;
+        }
+        line[i] = spelled(t[i]);
+        i += 1;
+    }
+    say(&line[0..i]);
 }
 
 // A refusal, from any call.
-fn put_refused(out: &mut [u8; 65536], at: usize, f: Refusal) -> usize {
-    let n = put_said(out, at, b" refused", taskset::number_of(f));
-    put_number(out, n, taskset::second_of(f))
+fn refused(f: Refusal) {
+    say(b" refused");
+    number(taskset::number_of(f));
+    number(taskset::second_of(f));
 }
 
 // The answer of check_set.
-pub(crate) fn put_checked(out: &mut [u8; 65536], at: usize, a: Checked) -> usize {
+pub(crate) fn checked(a: Checked) {
     match a {
         Checked::Good {
             rates,
             tasks,
             hyper,
         } => {
-            let m = put_said(out, at, b" good", rates as u64);
-            let n = put_number(out, m, tasks as u64);
-            put_number(out, n, hyper)
+            say(b" good");
+            number(rates as u64);
+            number(tasks as u64);
+            number(hyper);
         }
-        Checked::Refused(f) => put_refused(out, at, f),
+        Checked::Refused(f) => refused(f),
     }
 }
 
 // The answer of the walk.
-pub(crate) fn put_walked(out: &mut [u8; 65536], at: usize, a: WalkAnswer) -> usize {
+pub(crate) fn walked(a: WalkAnswer) {
     match a {
         WalkAnswer::Kept {
             busy,
             idle,
             preempted,
         } => {
-            let m = put_said(out, at, b" kept", busy);
-            let n = put_number(out, m, idle);
-            put_number(out, n, preempted)
+            say(b" kept");
+            number(busy);
+            number(idle);
+            number(preempted);
         }
         WalkAnswer::Missed { tick, task } => {
-            let n = put_said(out, at, b" missed", tick);
-            put_number(out, n, task)
+            say(b" missed");
+            number(tick);
+            number(task);
         }
-        WalkAnswer::Refused(f) => put_refused(out, at, f),
+        WalkAnswer::Refused(f) => refused(f),
     }
 }
 
-// The answer of the planner, with the rate numbers of the plan: its words, which held 0 before the call.
-pub(crate) fn put_planned(
-    out: &mut [u8; 65536],
-    at: usize,
-    a: PlannerAnswer,
-    plan: &[u32; 400],
-) -> usize {
+// The answer of the planner, with the rate numbers of the plan, whose words held 0 before the call.
+pub(crate) fn planned(a: PlannerAnswer, plan: &[u32; 400]) {
     match a {
         PlannerAnswer::Planned {
             unit,
@@ -129,76 +107,72 @@ pub(crate) fn put_planned(
             hyper,
             energy,
         } => {
-            let k = put_said(out, at, b" planned", unit);
-            let l = put_number(out, k, load);
-            let m = put_number(out, l, hyper);
-            let n = put_number(out, m, energy);
-            put_words(out, n, plan, words_changed(plan, 0))
+            say(b" planned");
+            number(unit);
+            number(load);
+            number(hyper);
+            number(energy);
+            words(plan, words_used(plan, 0));
         }
-        PlannerAnswer::Refused(f) => put_refused(out, at, f),
+        PlannerAnswer::Refused(f) => refused(f),
     }
 }
 
-// The answer of the reader, with the words that were read. The words held 7 before the call.
-pub(crate) fn put_read(
-    out: &mut [u8; 65536],
-    at: usize,
-    a: CopyAnswer,
-    words: &[u32; 400],
-) -> usize {
-    let changed = words_changed(words, 7);
+// The answer of the reader, with the words that were read. The list held 7 before the call.
+pub(crate) fn read(a: CopyAnswer, list: &[u32; 400]) {
+    let used = words_used(list, 7);
     match a {
         CopyAnswer::Wrote(count) => {
-            let m = put_said(out, at, b" read", count as u64);
-            let n = put_words(out, m, words, count);
-            put_changed(out, n, changed > count)
+            say(b" read");
+            number(count as u64);
+            words(list, count);
+            changed(used > count);
         }
         CopyAnswer::Refused(f) => {
-            let n = put_refused(out, at, f);
-            put_changed(out, n, changed > 0)
+            refused(f);
+            changed(used > 0);
         }
     }
 }
 
-// The answer of the writer or the program's call: the word that names what was done, and the text that was written. The bytes held 7
+// The answer of the writer or the program's call: the word that names what was done, and the text that was written. The buffer held 7
 // before the call, which no text has.
-pub(crate) fn put_wrote(
-    out: &mut [u8; 65536],
-    at: usize,
-    word: &[u8],
-    a: CopyAnswer,
-    text: &[u8; 8192],
-) -> usize {
-    let changed = bytes_changed(text, 7);
+pub(crate) fn wrote(word: &[u8], a: CopyAnswer, buffer: &[u8; 8192]) {
+    let used = bytes_used(buffer, 7);
     match a {
         CopyAnswer::Wrote(count) => {
-            let l = put_said(out, at, word, count as u64);
-            let m = put_byte(out, l, b' ');
-            let n = put_front(out, m, text, count);
-            put_changed(out, n, changed > count)
+            say(word);
+            number(count as u64);
+            say(b" ");
+            front(buffer, count);
+            changed(used > count);
         }
         CopyAnswer::Refused(f) => {
-            let n = put_refused(out, at, f);
-            put_changed(out, n, changed > 0)
+            refused(f);
+            changed(used > 0);
         }
+    }
+}
+
+// The first `count` bytes of a text, if it has so many.
+fn front(t: &[u8], count: usize) {
+    if count <= t.len() {
+        text(&t[0..count]);
     }
 }
 
 // Says so, behind an answer, where a call has changed what it must leave as it was.
-fn put_changed(out: &mut [u8; 65536], at: usize, changed: bool) -> usize {
-    if changed {
-        put_text(out, at, b" changed")
-    } else {
-        at
+fn changed(is: bool) {
+    if is {
+        say(b" changed");
     }
 }
 
-// How many words at the front of a list a call has used, where each held `before` before the call: those up to the last that does
-// not hold it any more.
-fn words_changed(words: &[u32; 400], before: u32) -> usize {
+// How many words of a list a call has used, which all held `before`: those up to the last one that holds something else.
+fn words_used(list: &[u32; 400], before: u32) -> usize {
     let mut n = 400;
     while n > 0 {
-        if words[n - 1] != before {
+        if list[n - 1] != before {
             return n;
         }
         n -= 1;
@@ -207,29 +181,13 @@ fn words_changed(words: &[u32; 400], before: u32) -> usize {
 }
 
 // The same of bytes.
-fn bytes_changed(text: &[u8; 8192], before: u8) -> usize {
+fn bytes_used(buffer: &[u8; 8192], before: u8) -> usize {
     let mut n = 8192;
     while n > 0 {
-        if text[n - 1] != before {
+        if buffer[n - 1] != before {
             return n;
         }
         n -= 1;
     }
     n
-}
-
-// Ends the line and writes it in one call. Whether all of it was written: a line for which there was no room is not.
-pub(crate) fn write_line(out: &mut [u8; 65536], at: usize) -> bool {
-    if at < 65536 {
-        out[at] = b'\n';
-        return write_front(out, at + 1);
-    }
-    false
-}
-
-// Writes a buffer's bytes before a place.
-fn write_front(out: &[u8], end: usize) -> bool
-    requires { ⌜ end ≤ length (now out) ⌝ }
-{
-    io::write_all(STDOUT_FILENO, &out[0..end])
 }

@@ -6,10 +6,10 @@ use Rattle.cases.proofs.main.Statement.{statement}
 use Rattle.cases.proofs.main.Tie as tie
 
 abbrev Inv-loop : tie.InvT-loop
-Inv-loop buf₀ line₀ out₀ left₀ turns₀ buf line out left turns = left .have ≤ 4096
+Inv-loop buf₀ line₀ left₀ turns₀ buf line left turns = left .have ≤ 4096
 
 abbrev μ-loop : tie.MeasureT-loop
-μ-loop buf₀ line₀ out₀ left₀ turns₀ buf line out left turns = turns
+μ-loop buf₀ line₀ left₀ turns₀ buf line left turns = turns
 
 pub main-spec : {M : Type 1} → statement M
 main-spec =
@@ -17,7 +17,6 @@ main-spec =
     (tie.spec
     Inv-loop
     μ-loop
-    (λ c κs. search needs)
     (λ c κs. search needs)
     (λ c κs. search needs)
     (λ c. search needs)
