@@ -8,16 +8,16 @@ pub(crate) struct Window {
     pub(crate) have: usize,
 }
 
-// A line of n bytes, and what is left of the buffer. A line is whole where the byte that ends it was found: after the room for it,
-// or at the end of the input, there is none.
+// A line of n bytes, and what is left of the buffer. It is whole where the byte that ends it was found, within the room
+// for a line and before the end of the input.
 pub(crate) struct Line {
     pub(crate) n: usize,
     pub(crate) whole: bool,
     pub(crate) left: Window,
 }
 
-// A window with a byte to take, or an empty one where the input ends. A read that fails, or that a signal interrupts before it has a
-// byte, counts as the end.
+// A window with a byte to take, or an empty one where the input ends. A read that fails, or that a signal interrupts
+// before it has a byte, counts as the end.
 fn ready(buf: &mut [u8; 4096], w: Window) -> Window
     requires { ⌜ w .have ≤ 4096 ⌝ }
     ensures { λ r. ⌜ r .have ≤ 4096 ⌝ }
@@ -34,7 +34,7 @@ fn meant(b: u8) -> u8 {
     if b == b'/' { b'\n' } else { b }
 }
 
-// Takes the next line into `line`. Each turn takes a byte, and the room for a line is limited, so that the loop ends.
+// Takes the next line. Each turn takes a byte, and the room for a line is limited, so that the loop ends.
 pub(crate) fn read_line(buf: &mut [u8; 4096], w: Window, line: &mut [u8; 65536]) -> Line
     requires { ⌜ w .have ≤ 4096 ⌝ }
     ensures { λ r. ⌜ (r .n ≤ 65536) × (r .left .have ≤ 4096) ⌝ }

@@ -1,6 +1,7 @@
-// The items of a record: a name, numbers, lists of numbers, and a text. A reader of an item takes the place of the one space in front
-// of it and gives the place behind it. Where no such item stands, that is NOWHERE, and so it is for every item that is read from there:
-// a record is tested once, at its end.
+// The items of a record: numbers, lists of numbers, and a text. What reads an item takes the place of the one space in
+// front of it, and gives the place behind it; where no such item stands, that is NOWHERE. From there nothing can be
+// read, so that a record is tested once, at its end.
+ghost use mathlib.Core.Path.{_≡_};
 ghost use Prim.Native.Nat.{_≤_};
 ghost use lib.ListN.{length};
 
@@ -15,12 +16,23 @@ pub(crate) struct Item {
 
 // No item.
 fn none() -> Item
-    ensures { λ r. ⌜ r .value ≤ 0 ⌝ }
+    ensures { λ r. ⌜ r .value ≡ 0 ⌝ }
 {
     Item {
         value: 0,
         next: NOWHERE,
     }
+}
+
+// The place behind a space.
+pub(crate) fn after_space(s: &[u8], at: usize) -> usize {
+    if s.len() <= at {
+        return NOWHERE;
+    }
+    if s[at] != b' ' {
+        return NOWHERE;
+    }
+    at + 1
 }
 
 // Where the item that starts at a place ends: at the first space, or at the end of the record.
@@ -50,17 +62,17 @@ fn digit(b: u8) -> usize
     (b - b'0') as usize
 }
 
-// A space and a number of at most `most`. One that starts with 0 has no more digits, so that each number has one text.
+// A space and a number, at most `most`. One that starts with 0 has no more digits, so that each number has one text.
 pub(crate) fn number(s: &[u8], at: usize, most: u32) -> Item
     ensures { λ r. ⌜ r .value ≤ most ⌝ }
 {
     let start = after_space(s, at);
     let end = item_end(s, start);
-    let mut v: usize = 0;
-    let mut i = start;
     if end <= start {
         return none();
     }
+    let mut v: usize = 0;
+    let mut i = start;
     while i < end {
         let d = digit(s[i]);
         if d > 9 {
@@ -83,7 +95,7 @@ pub(crate) fn number(s: &[u8], at: usize, most: u32) -> Item
     }
 }
 
-// A count, at most `most`, and so many numbers, to the front of a list. One size of list serves sets and plans.
+// A count, at most `most`, and so many numbers, to the front of a list.
 pub(crate) fn list(s: &[u8], at: usize, most: u32, out: &mut [u32]) -> Item
     requires { ⌜ most ≤ length (now out) ⌝ }
     ensures { λ r. ⌜ r .value ≤ length (now (out .exit)) ⌝ }
@@ -101,18 +113,7 @@ pub(crate) fn list(s: &[u8], at: usize, most: u32, out: &mut [u32]) -> Item
     Item { value: k, next }
 }
 
-// Where what stands behind a space starts.
-pub(crate) fn after_space(s: &[u8], at: usize) -> usize {
-    if s.len() <= at {
-        return NOWHERE;
-    }
-    if s[at] != b' ' {
-        return NOWHERE;
-    }
-    at + 1
-}
-
-// A space and a text: all that is left of the record, at most 16384 bytes. The place where it starts.
+// Where a text starts, behind its space: it is all that is left of the record, at most 16384 bytes.
 pub(crate) fn text(s: &[u8], at: usize) -> usize {
     let start = after_space(s, at);
     if start > s.len() {

@@ -1,5 +1,6 @@
-// Runs the calls on stored records. Each line of standard input is a record, and gets a line of standard output. README.md has their
-// form. What is proved of the program is that it is safe and ends; what it prints is held to the stored lines by comparison.
+// Runs the calls on stored records: each line of standard input is a record, and gets a line of standard output.
+// README.md has the form of both. What is proved of the program is that it is safe and ends; what it prints is held to
+// the stored lines by comparison.
 mod input;
 mod items;
 mod print;
@@ -8,8 +9,8 @@ ghost use Prim.Native.Nat.{_≤_};
 use input::Window;
 use layout::Layout;
 
-// A function for each kind of record. It takes the record's name and what stands behind it, runs the call and prints the line, but
-// for the byte that ends it. Where the record is not of its form, it prints nothing and gives false.
+// A function for each kind of record. It takes the record's name and what stands behind it, runs the call and prints
+// the line, but for the byte that ends it. Where the record is not of its form, it prints nothing and gives false.
 
 // A record for check_set: the list of a set.
 fn check_record(name: &[u8], s: &[u8]) -> bool {
@@ -29,7 +30,7 @@ fn check_record(name: &[u8], s: &[u8]) -> bool {
 fn walk_record(name: &[u8], s: &[u8]) -> bool {
     let mut words = [0u32; 400];
     let set = items::list(s, 0, 400, &mut words);
-    let mut rates = [0u32; 400];
+    let mut rates = [0u32; 40];
     let plan = items::list(s, set.next, 40, &mut rates);
     if plan.next != s.len() {
         return false;
@@ -42,8 +43,8 @@ fn walk_record(name: &[u8], s: &[u8]) -> bool {
     true
 }
 
-// A record for the planner: the list of a set, how many words are lent for the plan, and how many working words. The words lent for
-// the plan hold 0 before the call, which is no rate number, and the working words something else.
+// A record for the planner: the list of a set, how many words are lent for the plan, and how many working words. The
+// words lent for the plan hold 0 before the call, which is no rate number, and the working words something else.
 fn plan_record(name: &[u8], s: &[u8]) -> bool {
     let mut words = [0u32; 400];
     let set = items::list(s, 0, 400, &mut words);
@@ -63,8 +64,8 @@ fn plan_record(name: &[u8], s: &[u8]) -> bool {
     true
 }
 
-// A record for the reader: how many words are lent, and a text. The words hold 7 before the call, also those that are not lent, so that
-// a word that the call must not write shows when it does.
+// A record for the reader: how many words are lent, and a text. The words hold 7 before the call, also those that are
+// not lent, so that a word that the call must not write shows when it does.
 fn read_record(name: &[u8], s: &[u8]) -> bool {
     let lent = items::number(s, 0, 400);
     let start = items::text(s, lent.next);
@@ -79,7 +80,8 @@ fn read_record(name: &[u8], s: &[u8]) -> bool {
     true
 }
 
-// A record for the writer: the list of a set, and how many bytes are lent. They hold 7 before the call, which no text has.
+// A record for the writer: the list of a set, and how many bytes are lent. They hold 7 before the call, which no text
+// has.
 fn write_record(name: &[u8], s: &[u8]) -> bool {
     let mut words = [0u32; 400];
     let set = items::list(s, 0, 400, &mut words);
@@ -96,7 +98,8 @@ fn write_record(name: &[u8], s: &[u8]) -> bool {
     true
 }
 
-// A record for the program's call: how many bytes are lent, and a text. The bytes hold 7 before the call, which no output has.
+// A record for the program's call: how many bytes are lent, and a text. The bytes hold 7 before the call, which no
+// output has.
 fn respond_record(name: &[u8], s: &[u8]) -> bool {
     let lent = items::number(s, 0, 2048);
     let start = items::text(s, lent.next);
@@ -111,7 +114,7 @@ fn respond_record(name: &[u8], s: &[u8]) -> bool {
     true
 }
 
-// A record of any kind: the byte that says which, and its name, of 1 to 40 bytes.
+// A record of any kind: the byte that says which, and its name, of 1 to 40 bytes. Whether it was of its form.
 fn record(s: &[u8]) -> bool {
     let start = items::after_space(s, 1);
     let end = items::item_end(s, start);
@@ -134,7 +137,7 @@ fn record(s: &[u8]) -> bool {
     }
 }
 
-// Answers the line's first n bytes. Whether they were a record, and the next line is to be read.
+// Answers the first n bytes of the buffer. Whether they were a record: only then is a further line read.
 fn reply(line: &[u8; 65536], n: usize) -> bool
     requires { ⌜ n ≤ 65536 ⌝ }
 {

@@ -1,5 +1,5 @@
-// The parts of the line that answers a record, each written as it comes. A write that fails is not looked at: what stands on standard
-// output is then not what is stored.
+// The parts of the line that answers a record, each written as it comes. What cannot be written, or is longer than any
+// kind needs, is left out: the line is then not the stored one, which shows.
 use libc::STDOUT_FILENO;
 use taskset::Checked;
 use taskset::CopyAnswer;
@@ -38,7 +38,7 @@ fn spelled(b: u8) -> u8 {
     if b == b'\n' { b'/' } else { b }
 }
 
-// A text, of which no more than 8192 bytes are written.
+// A text of at most 8192 bytes.
 pub(crate) fn text(t: &[u8]) {
     let mut line = [0u8; 8192];
     let mut i = 0;
@@ -135,8 +135,8 @@ pub(crate) fn read(a: CopyAnswer, list: &[u32; 400]) {
     }
 }
 
-// The answer of the writer or the program's call: the word that names what was done, and the text that was written. The buffer held 7
-// before the call, which no text has.
+// The answer of the writer or the program's call: the word that names what was done, and the text that was written. The
+// buffer held 7 before the call, which no text has.
 pub(crate) fn wrote(word: &[u8], a: CopyAnswer, buffer: &[u8; 8192]) {
     let used = bytes_used(buffer, 7);
     match a {
@@ -168,7 +168,7 @@ fn changed(is: bool) {
     }
 }
 
-// How many words of a list a call has used, which all held `before`: those up to the last one that holds something else.
+// How many words of a list a call has used, where all held `before`: those up to the last that holds something else.
 fn words_used(list: &[u32; 400], before: u32) -> usize {
     let mut n = 400;
     while n > 0 {

@@ -1,4 +1,4 @@
--- `main` is safe and ends. The invariant: the window lies in the buffer. The measure is the number of turns that are left.
+-- `main` is safe and ends. The invariant: the window lies in the buffer. The measure: the turns that are left.
 -- Assumes nothing.
 use Prim.Native.Nat.{_≤_}
 use borrow.Author.Needs.{needs}

@@ -1,4 +1,4 @@
--- `items::list` meets its contract: a turn for each number, of which there are at most 400.
+-- `items::list` meets its contract. The invariant: the list keeps its length. A turn for each number.
 -- Assumes nothing.
 use Prim.Native.Nat.{_-_}
 use mathlib.Core.Path.{_≡_}

@@ -1,4 +1,4 @@
--- `items::number` meets its contract. The invariant: the place is behind the start, and the value at most `most`.
+-- `items::number` meets its contract. The invariant: the digits passed make at most `most`. A turn for each of them.
 -- Assumes nothing.
 use Prim.Native.Nat.{_-_, _≤_}
 use borrow.Author.Needs.{needs}
