@@ -1,5 +1,5 @@
--- What the program prints for an input, byte by byte (document 01, 'The bracketed text': "Input of the program, on standard input" and "All that it
--- prints"), and the contract of the call that does it.
+-- What the program prints for an input, byte by byte (document 01, 'The bracketed text': "Input of the program, on
+-- standard input" and "All that it prints"), and the contract of the call that does it.
 use Prim.Native.Nat.{ℕ}
 use mathlib.Core.Path.{_≡_}
 use mathlib.Core.List.{List, [], _∷_, _++_}
@@ -29,8 +29,9 @@ planLent = mostTasks
 abbrev pub setLent : ℕ
 setLent = mostWords
 
--- THE LINES OF A PLAN. For the set s: no check of the planner's holds; P is the plan that document 01 selects, with its unit, load, L and
--- energy; the walk of P is kept with its counts; and out is their lines: the plan's, one a task from task number 1 on, the walk's.
+-- THE LINES OF A PLAN. For the set s: no check of the planner's holds; P is the plan that document 01 selects, with its
+-- unit, load, L and energy; the walk of P is kept with its counts; and out is their lines: the plan's, one a task from
+-- task number 1 on, the walk's.
 pub record PrintsPlan (s P out : List ℕ) (unit load hyper energy busy idle preempted : ℕ) : Type 0 where
   pub accepts : Accepts (plannerChecks s planLent workLent)
   pub selected : Selected s P (unit ∷ load ∷ hyper ∷ energy ∷ [])
@@ -42,15 +43,16 @@ pub record Read (s : Script) (t : List ℕ) : Type 0 where
   pub accepts : Accepts (readerChecks t setLent)
   pub text : IsTextOf s t
 
--- THE OUTPUT for an input t: "For a refusal it prints only `(refused 7 0)`, with that number and place": of the reader, or of the planner on the
--- words of t's script; else a plan's lines.
+-- THE OUTPUT for an input t: "For a refusal it prints only `(refused 7 0)`, with that number and place": of the reader,
+-- or of the planner on the words of t's script; else a plan's lines.
 pub data Prints (t out : List ℕ) : Type 0 where
   unread : (n k : ℕ) → Refuses (readerChecks t setLent) n k → out ≡ refusedLine n k → Prints t out
   refused : (s : Script) (n k : ℕ) → Read s t → Refuses (plannerChecks (words s) planLent workLent) n k → out ≡ refusedLine n k → Prints t out
   planned : (s : Script) (P : List ℕ) (unit load hyper energy busy idle preempted : ℕ)
       → Read s t → PrintsPlan (words s) P out unit load hyper energy busy idle preempted → Prints t out
 
--- THE CALL. Its one check is 6: "Receiving list or buffer too short", with the bytes needed. d is the buffer as lent, d′ as given back.
+-- THE CALL. Its one check is 6: "Receiving list or buffer too short", with the bytes needed. d is the buffer as lent,
+-- d′ as given back.
 abbrev pub outputChecks : ℕ → ℕ → List Check
 outputChecks needed lent = roomCheck needed lent ∷ []
 
@@ -60,8 +62,9 @@ RespondGives t d d′ (Wrote n) =
 RespondGives t d d′ (NotCopied r) =
     (out : List ℕ) × Prints t out × Refuses (outputChecks (length out) (length d)) (number r) (second r) × (d′ ≡ d)
 
--- The call's contract: the above; and demand 3 of whatever it prints: a plan keeps every deadline for ever, its energy is its own and within the
--- slack of the least; and the planner's refusal is 7 exactly when checks 2 to 6 pass and no plan keeps every deadline for ever.
+-- The call's contract: the above; and demand 3 of whatever it prints: a plan keeps every deadline for ever, its energy
+-- is its own and within the slack of the least; and the planner's refusal is 7 exactly when checks 2 to 6 pass and no
+-- plan keeps every deadline for ever.
 pub record Responds (t d d′ : List ℕ) (a : CopyAnswer) : Type 0 where
   pub gives : RespondGives t d d′ a
   pub promise : (s : Script) (P out : List ℕ) (unit load hyper energy busy idle preempted : ℕ)

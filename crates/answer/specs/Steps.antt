@@ -1,4 +1,5 @@
--- What the functions below the call take and give. Not part of what a reader must believe: the call's own contract names none of it.
+-- What the functions below the call take and give. Not part of what a reader must believe: the call's own contract
+-- names none of it.
 use Prim.Native.Nat.{ℕ}
 use mathlib.Core.List.{List, [], _∷_}
 use mathlib.Core.Path.{_≡_}

@@ -1,5 +1,5 @@
-// The program's whole job as a call, text in, text out: it reads the set, plans it, walks the plan, and gives the lines, or the line of
-// the refusal. Standard input and output are left to the program.
+// The program's whole job as a call, text in, text out: it reads the set, plans it, walks the plan, and gives the
+// lines, or the line of the refusal. Standard input and output are left to the program.
 ghost use Rattle.answer.specs.Answer.{Responds};
 ghost use Rattle.answer.specs.Steps.{PutAnswer, PutSet, PlannedSet};
 use layout::MOST_TASKS;
@@ -13,7 +13,8 @@ use taskset::WalkAnswer;
 // The working words that the program has.
 const WORK_WORDS: usize = 16_384;
 
-// The lines of a plan that was given, with those of its walk. A plan from the planner is always kept, so the other answers do not occur.
+// The lines of a plan that was given, with those of its walk. A plan from the planner is always kept, so the other
+// answers do not occur.
 fn answer_plan(
     set: &[u32],
     plan: &[u32],
@@ -74,7 +75,8 @@ fn answer_text(input: &[u8], text: &mut [u8; 2048]) -> usize
     }
 }
 
-// What the program prints for an input, to the front of the buffer lent: how many bytes, or 6 with the bytes needed and nothing changed.
+// What the program prints for an input, to the front of the buffer lent: how many bytes, or 6 with the bytes needed and
+// nothing changed.
 pub fn respond(input: &[u8], output: &mut [u8]) -> CopyAnswer
     ensures { λ a. ⌜ Responds (now (input .entry)) (now (output .entry)) (now (output .exit)) a ⌝ }
 {

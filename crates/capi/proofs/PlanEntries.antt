@@ -47,7 +47,8 @@ module _ (s plan work d : List ℕ) where
   not-7 = without-by 7 before refl
 
   module _ (plan′ work′ : List ℕ) (p : plan′ ≡ plan) (w : work′ ≡ work) where
-    -- Any refusal. It is not 0; and it is 7 with 0 only by the last check, as the second number does not reach into the first.
+    -- Any refusal. It is not 0; and it is 7 with 0 only by the last check, as the second number does not reach into the
+    -- first.
     refused : (r : Refusal) (x : ℕ) → x ≡ code r → second r < 2 ^ 32 → Refuses (planEntryChecks s (length plan) (length work) (length d)) (number r) (second r)
         → PlanEntry s plan work d plan′ work′ d x
     refused r x e small h =

@@ -16,7 +16,8 @@ use Rattle.taskset.specs.declared.PlannerAnswer.{PlannerAnswer}
 use Rattle.taskset.specs.declared.WalkAnswer.{WalkAnswer}
 use Rattle.planner.specs.Answers.{RateNumber}
 
--- "It leaves its results, eight bytes each, lowest byte first": the first k bytes of a value, and the bytes of a list of values.
+-- "It leaves its results, eight bytes each, lowest byte first": the first k bytes of a value, and the bytes of a list
+-- of values.
 unfoldable pub bytesOf : ℕ → ℕ → List ℕ
 bytesOf zero v = []
 bytesOf (suc k) v = v % 256 ∷ bytesOf k (v / 256)
@@ -45,22 +46,22 @@ resultSize = 32
 abbrev pub walkEntryChecks : List ℕ → List ℕ → ℕ → List Check
 walkEntryChecks s P size = walkChecks s P ▹ roomCheck resultSize size
 
--- "A C call returns 0, or refusal number × 2^32 + the second number." results and results′ are the lent bytes before and after: on
--- success only the first 32 change, on refusal none.
+-- "A C call returns 0, or refusal number × 2^32 + the second number." results and results′ are the lent bytes before
+-- and after: on success only the first 32 change, on refusal none.
 abbrev pub WalkEntryGives : (s P results results′ : List ℕ) → ℕ → Type 0
 WalkEntryGives s P results results′ returned =
     ((a : WalkAnswer) × Accepts (walkEntryChecks s P (length results)) × WalkAnswers s P a × (returned ≡ 0) × (results′ ≡ resultBytes (walkValues a) ++ drop resultSize results)) ⊎
     ((r : Refusal) × Refuses (walkEntryChecks s P (length results)) (number r) (second r) × (returned ≡ code r) × (results′ ≡ results))
 
--- The entry's contract: the above; and again over the bytes, where 0 is returned: the first value is 1 if and only if the plan keeps
--- every deadline for ever, and then the second is its load.
+-- The entry's contract: the above; and again over the bytes, where 0 is returned: the first value is 1 if and only if
+-- the plan keeps every deadline for ever, and then the second is its load.
 pub record WalkEntry (s P results results′ : List ℕ) (returned : ℕ) : Type 0 where
   pub gives : WalkEntryGives s P results results′ returned
   pub kept-iff-keeps : returned ≡ 0 → (resultAt results′ 0 ≡ 1) ↔ Keeps s P
   pub busy-is-load : returned ≡ 0 → resultAt results′ 0 ≡ 1 → resultAt results′ 1 ≡ planLoad (problem s) P
 
--- THE PLANNER FROM C. Its own checks but 7, then the result bytes, then 7. The lengths are those of the plan list, the working list and the
--- result bytes.
+-- THE PLANNER FROM C. Its own checks but 7, then the result bytes, then 7. The lengths are those of the plan list, the
+-- working list and the result bytes.
 abbrev pub beforeSeven : List ℕ → ℕ → ℕ → ℕ → List Check
 beforeSeven s planLength workLength size = readyChecks s planLength workLength ▹ roomCheck resultSize size
 
@@ -75,9 +76,10 @@ PlanEntryGives s plan work results plan′ work′ results′ returned =
     ((r : Refusal) × Refuses (planEntryChecks s (length plan) (length work) (length results)) (number r) (second r) × (returned ≡ code r) ×
     (plan′ ≡ plan) × (work′ ≡ work) × (results′ ≡ results))
 
--- The entry's contract: the above; and demand 3 again over the plan words and the bytes. Where 0 is returned, every plan word is a rate number, and the
--- plan keeps its promise with the energy that the fourth value is; the second value is its load, the third the hyper-period. And 7 is returned if and only if no cause before it holds and no
--- plan keeps every deadline for ever.
+-- The entry's contract: the above; and demand 3 again over the plan words and the bytes. Where 0 is returned, every
+-- plan word is a rate number, and the plan keeps its promise with the energy that the fourth value is; the second value
+-- is its load, the third the hyper-period. And 7 is returned if and only if no cause before it holds and no plan keeps
+-- every deadline for ever.
 pub record PlanEntry (s plan work results plan′ work′ results′ : List ℕ) (returned : ℕ) : Type 0 where
   pub gives : PlanEntryGives s plan work results plan′ work′ results′ returned
   pub numbers : returned ≡ 0 → (t : ℕ) → t < taskCount Ordinary s → RateNumber (rateCount Ordinary s) (getD plan′ t 0)

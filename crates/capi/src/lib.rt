@@ -1,6 +1,6 @@
-// The entries for C: word lists and numbers in, a number out, results in a lent byte list. Thin: each entry calls the library's
-// function and puts its answer into bytes. Pointers are not null and aligned, and lists lent together do not overlap
-// (include/seedspell.h).
+// The entries for C: word lists and numbers in, a number out, results in a lent byte list. Thin: each entry calls the
+// library's function and puts its answer into bytes. Pointers are not null and aligned, and lists lent together do not
+// overlap (include/seedspell.h).
 ghost use mathlib.Core.Path.{_≡_};
 ghost use Prim.Native.Nat.{_+_, _<_, _≤_, _^_};
 ghost use lib.ListN.{length};
@@ -46,8 +46,8 @@ fn put_values(d: &mut [u8], a: u64, b: u64, c: u64, e: u64)
     put_value(d, 24, e);
 }
 
-// The walk: 0 and 32 result bytes (1, busy, idle, preempted; or 0, tick, task, 0), or a refusal. Too few result bytes are refused before
-// a tick is walked.
+// The walk: 0 and 32 result bytes (1, busy, idle, preempted; or 0, tick, task, 0), or a refusal. Too few result bytes
+// are refused before a tick is walked.
 #[no_mangle]
 pub extern "C" fn seedspell_walk(set: &[u32], plan: &[u32], results: &mut [u8]) -> u64
     ensures { λ r. ⌜ WalkEntry (now (set .entry)) (now (plan .entry)) (now (results .entry)) (now (results .exit)) r ⌝ }

@@ -1,5 +1,5 @@
--- What the functions below the calls are asked for and give. Not part of what a reader must believe: the calls' contracts speak of
--- Refusals and Calls alone.
+-- What the functions below the calls are asked for and give. Not part of what a reader must believe: the calls'
+-- contracts speak of Refusals and Calls alone.
 use Prim.Native.Nat.{ℕ, suc, _-_, _≤_, _<_}
 use mathlib.Core.Path.{_≡_}
 use mathlib.Core.List.{List}

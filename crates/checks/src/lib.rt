@@ -1,5 +1,5 @@
-// The checks of a task set in code, and the readers of its words and quantities. What each says is defined in `taskset`; what stands where
-// in a list, and what each word may be, is left to the crate layout.
+// The checks of a task set in code, and the readers of its words and quantities. What each says is defined in
+// `taskset`; what stands where in a list, and what each word may be, is left to the crate layout.
 ghost use mathlib.Core.Path.{_≡_};
 ghost use mathlib.Core.List.{[], _∷_};
 ghost use Prim.Native.Nat.{_*_, _<_, _≤_};
@@ -19,14 +19,15 @@ use taskset::Shape;
 // The largest hyper-period.
 const HYPER_LIMIT: u64 = 10_000_000;
 
-// How far the running multiple was followed: the tasks before the first at which it passes the limit, and the multiple of these.
+// How far the running multiple was followed: the tasks before the first at which it passes the limit, and the multiple
+// of these.
 struct Multiple {
     tasks: usize,
     value: u64,
 }
 
-// What the word at place q stands for, by the words before it. The number of tasks is compared with a quotient: their words might
-// not fit a usize where the task count is bad.
+// What the word at place q stands for, by the words before it. The number of tasks is compared with a quotient: their
+// words might not fit a usize where the task count is bad.
 fn kind_at(s: &[u32], layout: Layout, q: usize) -> Kind
     requires { ⌜ q < length (now s) ⌝ }
     ensures { λ r. ⌜ r ≡ kindAt layout (now (s .entry)) q ⌝ }

@@ -47,7 +47,8 @@ module _ {f : Frame} {unit : Power} {energies load cost₀ work₀ : List ℕ} (
     };
   }
 
--- Over arrays cut at the limit and rounded by the unit 2 ^ exponent the table is the problem's own; its columns do not matter here.
+-- Over arrays cut at the limit and rounded by the unit 2 ^ exponent the table is the problem's own; its columns do not
+-- matter here.
 module _ (q : Request) (loads energies load cost : List ℕ) (exponent : ℕ) (few : q .rates ≤ 8)
     (cuts : (j : ℕ) → j < q .tasks * 16 → getD load j 0 ≡ cutOf loads (q .limit + 1) j)
     (costs : (j : ℕ) → j < q .tasks * 16 → getD cost j 0 ≡ costOf energies exponent j) where
@@ -106,7 +107,8 @@ module _ (q : Request) (loads energies load cost : List ℕ) (exponent : ℕ) (f
 pub narrow-words : (tasks slack columns : ℕ) → columns ≤ lastColumn tasks slack + 1 → (tasks + 1) * columns ≤ workWords tasks slack
 narrow-words tasks slack columns h = mul-le-mul-left (tasks + 1) h
 
--- What holds before a unit is tried with so many columns, where 2 ^ first is the first unit; work₀ is the working list as lent.
+-- What holds before a unit is tried with so many columns, where 2 ^ first is the first unit; work₀ is the working list
+-- as lent.
 pub record Trying (q : Request) (loads energies work₀ : List ℕ) (first : ℕ) (cost work : List ℕ) (unit : Power) (columns : ℕ) : Type 0 where
   pub is-first : LeastPower (planEnergy (arrays q loads energies) (fastest (arrays q loads energies))) first
   pub first-low : first ≤ 63

@@ -17,8 +17,8 @@ use Rattle.choice.specs.Units.{WayReady, WayTaken}
 abbrev Follow : Frame → List ℕ → List ℕ → ℕ → ℕ → List ℕ → Type 0
 Follow f cost load i e P = Way (optionAt cost) (optionAt load) (f .rates) (f .cap) i e P
 
--- What holds before the task i - 1 is taken: the entry in row i, which begins at start, column e, is not 'none', and whatever list goes
--- back from there and has the plan's numbers from i on goes back from the last row.
+-- What holds before the task i - 1 is taken: the entry in row i, which begins at start, column e, is not 'none', and
+-- whatever list goes back from there and has the plan's numbers from i on goes back from the last row.
 pub record OnWay (f : Frame) (column : ℕ) (cost load plan₀ plan : List ℕ) (e i start : ℕ) : Type 0 where
   pub tasks : i ≤ f .tasks
   pub row : start ≡ i * f .columns

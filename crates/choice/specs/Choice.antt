@@ -1,5 +1,5 @@
--- What the choice of a plan takes and gives, over arrays of loads and energies. Not part of what a reader must believe: the planner's
--- contract speaks of the set's own problem.
+-- What the choice of a plan takes and gives, over arrays of loads and energies. Not part of what a reader must believe:
+-- the planner's contract speaks of the set's own problem.
 use Prim.Native.Nat.{ℕ, _^_, _≤_, _<_}
 use mathlib.Core.Path.{_≡_}
 use mathlib.Core.List.{List, _++_}
@@ -29,8 +29,8 @@ pub record ChoiceReady (q : Request) (loads energies plan work : List ℕ) : Typ
   pub plan-room : q .tasks ≤ length plan
   pub work-room : workWords (q .tasks) (q .slack) ≤ length work
 
--- What it gives: the plan selected in the first words of the plan list, its unit, load and energy, and zeros where the table was;
--- every other word as before.
+-- What it gives: the plan selected in the first words of the plan list, its unit, load and energy, and zeros where the
+-- table was; every other word as before.
 pub record Chose (q : Request) (loads energies plan work plan′ work′ : List ℕ) (c : Choice) : Type 0 where
   pub exponent : ℕ
   pub unit-is : c .unit ≡ 2 ^ exponent

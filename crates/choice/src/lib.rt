@@ -1,5 +1,6 @@
-// The choice of unit and plan by document 01's rule, over arrays of loads and energies: the table, unit by unit, the way
-// back through it, the plan's sums, and zeros where the table was. Whose loads and energies these are is left to others.
+// The choice of unit and plan by document 01's rule, over arrays of loads and energies: the table, unit by unit, the
+// way back through it, the plan's sums, and zeros where the table was. Whose loads and energies these are is left to
+// others.
 ghost use mathlib.Core.Path.{_≡_};
 ghost use Prim.Native.Nat.{_+_, _*_, _≤_, min};
 ghost use lib.ListN.{length, replicate};
@@ -155,9 +156,9 @@ fn least_energy(
 }
 
 // Finds the unit used: tries the first unit and halves it until the rule stops. Each unit's table is only as wide as is
-// known to suffice: at the first unit the last column is the number of tasks, since there the plan with every task at the
-// highest rate costs 1 a task at most; then it is twice the last least energy, since at half the unit no rounded energy
-// is more than doubled.
+// known to suffice: at the first unit the last column is the number of tasks, since there the plan with every task at
+// the highest rate costs 1 a task at most; then it is twice the last least energy, since at half the unit no rounded
+// energy is more than doubled.
 fn find_unit(
     loads: &[u64; 512],
     energies: &[u64; 512],

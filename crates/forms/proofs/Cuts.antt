@@ -1,4 +1,5 @@
--- A string in two parts, read one after the other, as the code reads the end of the first line and the beginning of the second.
+-- A string in two parts, read one after the other, as the code reads the end of the first line and the beginning of the
+-- second.
 -- Assumes nothing.
 use Prim.Native.Nat.{ℕ, suc}
 use mathlib.Core.Path.{_≡_, refl, sym, ap, _∙_}

@@ -53,10 +53,11 @@ plainly {x = bad o} g = record { answers = g .answers; wrote = tt }
 abbrev left : {A : Type 0} → (List ℕ → Res A) → ℕ → ℕ → ℕ → ℕ → List ℕ → Res (List A)
 left p c low spare n = many p c (low - n) (spare - (n - low))
 
--- A loop that reads low items and up to so many more, each of which starts with the byte c and has so many words, f of it.
+-- A loop that reads low items and up to so many more, each of which starts with the byte c and has so many words, f of
+-- it.
 module _ {A : Type 0} (p : List ℕ → Res A) (c low spare : ℕ) (f : A → List ℕ) (size : ℕ) where
-  -- n of them are read, their words stand in the list from k on, and with those that are left, read at the place in hand, they give the
-  -- whole answer: d is the list before, e now.
+  -- n of them are read, their words stand in the list from k on, and with those that are left, read at the place in
+  -- hand, they give the whole answer: d is the list before, e now.
   pub record SoFar (s : List ℕ) (at k : ℕ) (d : List ℕ) (i n : ℕ) (e : List ℕ) : Type 0 where
     pub most : n ≤ low + spare
     pub items : List A

@@ -28,7 +28,8 @@ pub task-words : (m : ℕ) (s : List ℕ) (at i : ℕ) (t : TaskLine) → readAt
 unfolding extraKinds
 task-words m s at i t e = let h = dom-of (task-piece m) s at i t e in omega (arith, h .energies .least, h .energies .most)
 
--- The rates and the tasks stand in their places, and the counts and the head go in front of them, from the back to the front.
+-- The rates and the tasks stand in their places, and the counts and the head go in front of them, from the back to the
+-- front.
 pub set-words : (s : Script) (d e : List ℕ) (h k m n : ℕ) → h ≡ headSize Ordinary → k ≡ taskCountPlace Ordinary m
     → length (s .rates) ≡ m → length (s .tasks) ≡ n → tasksPlace Ordinary m ≤ length d
     → e ≡ written (tasksPlace Ordinary m) (allWords (s .tasks)) (written (h + 1) (s .rates) d)

@@ -1,4 +1,5 @@
-// The forms of a text, one after the other, and the words that they say, to a list. What becomes of the list is left to the reader.
+// The forms of a text, one after the other, and the words that they say, to a list. What becomes of the list is left to
+// the reader.
 ghost use mathlib.Core.Path.{_≡_};
 ghost use Prim.Native.Nat.{_+_, _≤_};
 ghost use lib.ListN.{length, drop};
@@ -44,7 +45,8 @@ fn numbers(s: &[u8], at: usize, out: &mut [u32], k: usize, low: usize, spare: us
     Read::Got(n as u32, i)
 }
 
-// A task's line, with m energies, to the list from k on: the period and the cycles are the first words of a task in every layout.
+// A task's line, with m energies, to the list from k on: the period and the cycles are the first words of a task in
+// every layout.
 fn task(s: &[u8], at: usize, out: &mut [u32], k: usize, m: usize) -> Read
     requires { ⌜ (m ≤ mostRates) × (k + taskSize Ordinary m ≤ length (now out)) ⌝ }
     ensures { λ r. ⌜ Gives noValue Text.taskWords k (now (out .entry)) (now (out .exit)) (readAt (Reading.readTask m) (now (s .entry)) at) r ⌝ }
@@ -104,9 +106,9 @@ fn tasks(s: &[u8], at: usize, out: &mut [u32], m: usize) -> Read
     Read::Got(n as u32, i)
 }
 
-// A set's words, to the front of the list: how many, and the place after the last line. The first line is read with the bracket that
-// opens the second: the letter behind it is to tell which line that is. A count is known only when what it counts stands in the list, so
-// the words in front of a list are stored after it.
+// A set's words, to the front of the list: how many, and the place after the last line. The first line is read with the
+// bracket that opens the second: the letter behind it is to tell which line that is. A count is known only when what it
+// counts stands in the list, so the words in front of a list are stored after it.
 pub fn read_set(s: &[u8], out: &mut [u32]) -> Read
     requires { ⌜ mostWords ≤ length (now out) ⌝ }
     ensures { λ r. ⌜ Gives wordCount Text.words 0 (now (out .entry)) (now (out .exit)) (readAt Reading.readScript (now (s .entry)) 0) r ⌝ }

@@ -1,4 +1,5 @@
--- What a list without a fault is: it has just the words that it must have, each in its range; and a list of which that holds has no fault.
+-- What a list without a fault is: it has just the words that it must have, each in its range; and a list of which that
+-- holds has no fault.
 -- Assumes nothing.
 use Prim.Native.Nat.{ℕ, _+_, _-_, _/_, _%_, _≤_, _<_}
 use mathlib.Core.Path.{_≡_, refl, sym, subst, _∙_}
@@ -189,6 +190,7 @@ module _ (layout : Layout) (s : List ℕ) where
     pub no-fault : (q : ℕ) → WordFault layout s q → ⊥
     no-fault q f = ⊎-elim (λ a. true≢false (sym (judged-right q (a .0)) ∙ a .1)) (λ a. omega (arith, a .1, w .size)) f
 
--- A list is whole exactly when it has no fault: who builds a list shows that it passes check 2 from the facts of its words.
+-- A list is whole exactly when it has no fault: who builds a list shows that it passes check 2 from the facts of its
+-- words.
 pub whole-iff : (layout : Layout) (s : List ℕ) → IsWhole layout s ↔ ((q : ℕ) → WordFault layout s q → ⊥)
 whole-iff layout s = (no-fault layout s, whole-of layout s)

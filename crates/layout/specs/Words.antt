@@ -1,7 +1,8 @@
--- A task set as a list of words (document 01, 'A task set'): which words there are, what stands where, and what each word may be.
--- A list has the words of its head, the first of them the slack; the rate count; the rates; the task count; then for each task its period,
--- its cycles, what else its layout has there, and its energies. Places are functions of the layout, the rate count m, the task's place t
--- (from 0) and the rate number r (from 1); nothing outside this crate knows a place or a size by its number.
+-- A task set as a list of words (document 01, 'A task set'): which words there are, what stands where, and what each
+-- word may be. A list has the words of its head, the first of them the slack; the rate count; the rates; the task
+-- count; then for each task its period, its cycles, what else its layout has there, and its energies. Places are
+-- functions of the layout, the rate count m, the task's place t (from 0) and the rate number r (from 1); nothing
+-- outside this crate knows a place or a size by its number.
 use Prim.Native.Nat.{ℕ, zero, suc, _+_, _-_, _*_, _%_, _<_}
 use mathlib.Core.Path.{_≡_}
 use mathlib.Core.Bool.{Bool, false, cond}
@@ -15,8 +16,9 @@ use Rattle.layout.specs.declared.Kind.the-variants.{Slack, RateCount, Ra
 use Rattle.layout.specs.declared.Layout.{Layout}
 use Rattle.layout.specs.declared.Layout.the-variants.{Ordinary}
 
--- WHICH LIST. A layout is the kinds of the words of its head, in order, and of the words between a task's cycles and its energies. Document
--- 01's list is the ordinary one: "the slack G" alone before "the rate count M", and energies straight after the cycles.
+-- WHICH LIST. A layout is the kinds of the words of its head, in order, and of the words between a task's cycles and
+-- its energies. Document 01's list is the ordinary one: "the slack G" alone before "the rate count M", and energies
+-- straight after the cycles.
 unfoldable pub headKinds : Layout → List Kind
 headKinds Ordinary = Slack ∷ []
 
@@ -132,10 +134,10 @@ kindAt layout s q =
     (cond (ltb q (wordCount layout s)) (taskKind layout ((q - tasksPlace layout (rateCount layout s)) % taskSize layout (rateCount layout s)))
     LeftOver))))
 
--- RANGES. "the slack G in thousandths (1 to 1,000); the rate count M (2 to 8); M rates in cycles per tick (1 to 1,000,000); the task count N
--- (1 to 32); then for each task the period p in ticks (1 to 10,000,000), the cycles c of one job (1 to 4,000,000,000), and M energies
--- in microjoules per job (1 to 1,000,000)": whether the word at place q, of a kind, is in its range. A range may look at the words before
--- it. A word that is left over may be nothing.
+-- RANGES. "the slack G in thousandths (1 to 1,000); the rate count M (2 to 8); M rates in cycles per tick (1 to
+-- 1,000,000); the task count N (1 to 32); then for each task the period p in ticks (1 to 10,000,000), the cycles c of
+-- one job (1 to 4,000,000,000), and M energies in microjoules per job (1 to 1,000,000)": whether the word at place q,
+-- of a kind, is in its range. A range may look at the words before it. A word that is left over may be nothing.
 unfoldable pub allows : List ℕ → ℕ → Kind → Bool
 allows s q Slack = between 1 1000 (word s q)
 allows s q RateCount = between 2 mostRates (word s q)

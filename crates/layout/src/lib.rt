@@ -1,5 +1,6 @@
-// The list of words of a task set: its layouts, what stands where, and what each word may be. A word that is added to a list stands here,
-// by its kind, its range and its place in a layout, and in specs/Words; what is made of it is left to the crates above.
+// The list of words of a task set: its layouts, what stands where, and what each word may be. A word that is added to a
+// list stands here, by its kind, its range and its place in a layout, and in specs/Words; what is made of it is left to
+// the crates above.
 ghost use mathlib.Core.Path.{_≡_};
 ghost use Prim.Native.Nat.{_^_, _<_, _≤_};
 ghost use lib.ListN.{length};

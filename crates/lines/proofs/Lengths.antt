@@ -81,8 +81,8 @@ module _ (P : List ℕ) (i : ℕ) (h : i < length P) where
       let there : 1 + length (take i P) ≡ i + 1 = omega (arith, length-take-le i P (omega arith)) in
       rw (add-one i, take-suc P i 0 h, rates-append, ← add-one i, there, append-nil)
 
-  -- Where n bytes have room for all lines from a place on, they have it for this one behind those before it: whatever its task's number, if that is
-  -- no larger than it should be.
+  -- Where n bytes have room for all lines from a place on, they have it for this one behind those before it: whatever
+  -- its task's number, if that is no larger than it should be.
   pub rate-room : (t at p n : ℕ) → t ≤ i + 1 → p ≡ at + length (rateLines 1 (take i P)) → at + length (rateLines 1 P) ≤ n
       → p + length (rateLine t (getD P i 0)) ≤ n
   rate-room t at p n l e r =

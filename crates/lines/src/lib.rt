@@ -1,4 +1,5 @@
-// The lines that the program prints: of a plan, of its rates, of its walk, and of a refusal. What stands in them is left to the caller.
+// The lines that the program prints: of a plan, of its rates, of its walk, and of a refusal. What stands in them is
+// left to the caller.
 ghost use mathlib.Core.List.{_++_};
 ghost use Prim.Native.Nat.{_+_, _≤_};
 ghost use lib.ListN.{length};

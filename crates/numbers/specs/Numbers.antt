@@ -1,5 +1,5 @@
--- The whole-number operations in which document 01 speaks. Each is defined here once; proofs/ has the laws that show it to be
--- the operation that its name says.
+-- The whole-number operations in which document 01 speaks. Each is defined here once; proofs/ has the laws that show it
+-- to be the operation that its name says.
 use Prim.Native.Nat.{ℕ, zero, suc, _+_, _-_, _*_, _/_, _%_, _^_, _≤_, _<_}
 use mathlib.Core.Bool.{Bool, _&&_}
 use mathlib.Core.List.{List, [], _∷_}

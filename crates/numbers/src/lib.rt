@@ -1,6 +1,6 @@
 // Whole-number arithmetic for clock-rate plans: rounded-up division, sums over tasks, common divisors and multiples,
-// powers of two. specs/ defines each once, proofs/ has its laws, and here is the code that works one out. Tasks, words and
-// times are left to the crates above.
+// powers of two. specs/ defines each once, proofs/ has its laws, and here is the code that works one out. Tasks, words
+// and times are left to the crates above.
 ghost use mathlib.Core.Path.{_≡_};
 ghost use Prim.Native.Nat.{_^_, _≤_, min};
 ghost use Rattle.numbers.specs.Numbers.{between, gcd, LeastPower};

@@ -1,5 +1,5 @@
--- What is handed to the choice of a plan: arrays with an option for each task and rate number. Not part of what a reader must believe: the
--- calls' contracts speak of the set's own loads and energies.
+-- What is handed to the choice of a plan: arrays with an option for each task and rate number. Not part of what a
+-- reader must believe: the calls' contracts speak of the set's own loads and energies.
 use Prim.Native.Nat.{ℕ, _^_, _≤_, _<_}
 use mathlib.Core.Path.{_≡_}
 use mathlib.Core.List.{List}
@@ -9,8 +9,8 @@ use Rattle.taskset.specs.Quantities.{hyperPeriod, taskLoad, taskEnergy}
 use Rattle.checks.specs.Steps.{OfTask}
 use Rattle.table.specs.Rows.{optionAt}
 
--- The array d of 512 words holds f at every rate number 1 to m of the tasks before place t, and at those before r of the task at place
--- t; and every word leaves room for a sum of 32.
+-- The array d of 512 words holds f at every rate number 1 to m of the tasks before place t, and at those before r of
+-- the task at place t; and every word leaves room for a sum of 32.
 pub record Laid (f : ℕ → ℕ → ℕ) (m t r : ℕ) (d : List ℕ) : Type 0 where
   pub size : length d ≡ 512
   pub small : (k : ℕ) → getD d k 0 < 2 ^ 58

@@ -1,10 +1,11 @@
-// A set's options, laid out for whoever chooses among them: the load and the energy of each task at each rate, by task and rate number, in
-// two arrays. Which plan is chosen, and how, is left to the engines above.
+// A set's options, laid out for whoever chooses among them: the load and the energy of each task at each rate, by task
+// and rate number, in two arrays. Which plan is chosen, and how, is left to the engines above.
 ghost use Prim.Native.Nat.{_+_};
 ghost use Rattle.options.specs.Options.{LaidBoth, TaskGiven, TasksGiven};
 use layout::Layout;
 
-// Puts down the loads and energies of the task at place t: at each of m rates, that of one job times the jobs in a hyper-period.
+// Puts down the loads and energies of the task at place t: at each of m rates, that of one job times the jobs in a
+// hyper-period.
 fn put_task(
     loads: &mut [u64; 512],
     energies: &mut [u64; 512],

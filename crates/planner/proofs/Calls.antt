@@ -1,5 +1,5 @@
--- From the functions below it to the call: what the checks give is what the choice asks for, and what is chosen over the arrays is what
--- document 01 selects of the set.
+-- From the functions below it to the call: what the checks give is what the choice asks for, and what is chosen over
+-- the arrays is what document 01 selects of the set.
 -- Assumes nothing.
 use Prim.Native.Nat.{ℕ, _≤_, _<_}
 use mathlib.Core.Path.{_≡_, refl, _∙_}

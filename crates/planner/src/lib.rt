@@ -1,5 +1,5 @@
-// The planner: the checks in document 01's order, then the choice among the set's options. How these are laid out is left
-// to the crate options, how the choice is made to the crate choice.
+// The planner: the checks in document 01's order, then the choice among the set's options. How these are laid out is
+// left to the crate options, how the choice is made to the crate choice.
 ghost use mathlib.Core.Path.{_≡_};
 ghost use Prim.Native.Nat.{_+_, _≤_};
 ghost use lib.ListN.{length};
@@ -52,8 +52,8 @@ pub fn ready(set: &[u32], plan_len: usize, work_len: usize) -> Checked
     }
 }
 
-// Check 7 and the choice of a plan, for a set that has passed checks 2 to 6. No load is lower than at the last rate, so some plan fits
-// exactly when the plan with every task at that rate does.
+// Check 7 and the choice of a plan, for a set that has passed checks 2 to 6. No load is lower than at the last rate, so
+// some plan fits exactly when the plan with every task at that rate does.
 pub fn plan_checked(
     set: &[u32],
     plan: &mut [u32],

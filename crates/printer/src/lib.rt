@@ -1,5 +1,6 @@
-// Bytes of a text, part by part: fixed strings and numbers, to a buffer from a place on, or only counted. What the parts make together is
-// left to the crates above. Each part's writer is lent the rest of the buffer that is not yet written.
+// Bytes of a text, part by part: fixed strings and numbers, to a buffer from a place on, or only counted. What the
+// parts make together is left to the crates above. Each part's writer is lent the rest of the buffer that is not yet
+// written.
 ghost use mathlib.Core.Path.{_≡_};
 ghost use mathlib.Core.List.{_++_};
 ghost use Prim.Native.Nat.{_+_, _^_, _≤_, _<_};

@@ -1,5 +1,5 @@
--- What the functions that go byte by byte give: the class of a byte, and what a piece of the text reads as at a place. Not part of what a reader must
--- believe: the reader's contract speaks of scripts and their texts.
+-- What the functions that go byte by byte give: the class of a byte, and what a piece of the text reads as at a place.
+-- Not part of what a reader must believe: the reader's contract speaks of scripts and their texts.
 use Prim.Native.Nat.{ℕ, _-_, _≤_, _<_}
 use mathlib.Core.Path.{_≡_}
 use mathlib.Core.List.{List}

@@ -1,10 +1,12 @@
-// The reader's steps: the class of the next byte, fixed strings, and numbers. Which of them make a text is left to the crates above.
+// The reader's steps: the class of the next byte, fixed strings, and numbers. Which of them make a text is left to the
+// crates above.
 ghost use mathlib.Core.Path.{_≡_};
 ghost use Rattle.text.proofs.Reading;
 ghost use Rattle.text.proofs.Reading.{readAt, mapRes};
 ghost use Rattle.scanner.specs.Steps.{Stands, ofRead, noValue};
 
-// What stands at a place of the text. Nothing looks at a letter yet: it is to tell an optional line from the line that follows.
+// What stands at a place of the text. Nothing looks at a letter yet: it is to tell an optional line from the line that
+// follows.
 pub enum Class {
     End,
     Digit(u32),
@@ -15,15 +17,15 @@ pub enum Class {
     Other,
 }
 
-// What reading gives: a value and the place after it, or the offset at which the text departs. The value is the number that was read,
-// how many items a list has, and 0 where there is none to give.
+// What reading gives: a value and the place after it, or the offset at which the text departs. The value is the number
+// that was read, how many items a list has, and 0 where there is none to give.
 pub enum Read {
     Got(u32, usize),
     Bad(usize),
 }
 
-// The class of the next byte. Each bracket has an arm of its own: four single bytes are tested together, in front of the digits, where two
-// would be tested one by one, and digits are most of a text.
+// The class of the next byte. Each bracket has an arm of its own: four single bytes are tested together, in front of
+// the digits, where two would be tested one by one, and digits are most of a text.
 pub fn step(s: &[u8], at: usize) -> Class
     ensures { λ r. ⌜ Stands r (now (s .entry)) at ⌝ }
 {

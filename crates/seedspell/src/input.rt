@@ -1,5 +1,5 @@
-// Standard input, read to its end or until 8,192 bytes are there. Every well-formed text is shorter, so that a longer input is refused by
-// what it has in those bytes, and its rest is left unread.
+// Standard input, read to its end or until 8,192 bytes are there. Every well-formed text is shorter, so that a longer
+// input is refused by what it has in those bytes, and its rest is left unread.
 ghost use Prim.Native.Nat.{_≤_};
 ghost use lib.ListN.{length};
 ghost use Rattle.seedspell.specs.Program.{ReadMore, InputFits};
@@ -42,8 +42,8 @@ fn read_more(bytes: &mut [u8], at: usize) -> Got
     Got::Failed
 }
 
-// Reads until the input ends or the places are full. Each turn brings a byte or uses up one of 1,000 retries, so that the loop ends: the
-// room that is left and the retries that are left, together, get less with each turn.
+// Reads until the input ends or the places are full. Each turn brings a byte or uses up one of 1,000 retries, so that
+// the loop ends: the room that is left and the retries that are left, together, get less with each turn.
 pub(crate) fn read_input(bytes: &mut [u8; 8192]) -> Input
     ensures { λ r. ⌜ InputFits (now (bytes .exit)) r ⌝ }
 {

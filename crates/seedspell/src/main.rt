@@ -1,9 +1,10 @@
-// The program: plans the set whose text stands on standard input, and prints the plan's lines, or the line of the refusal.
+// The program: plans the set whose text stands on standard input, and prints the plan's lines, or the line of the
+// refusal.
 //
-// What it offers to standard output is the answer to the bytes that it has read: write_answer asks for that, and answer_bytes gives it.
-// Which bytes a read brings, and where those of a write go, no contract can say: read, write and errno are taken at their word. The program
-// always returns, however often a signal interrupts it. Its exit status is always 0, so that an input that cannot be read, or an answer
-// that cannot be written, shows on standard error only.
+// What it offers to standard output is the answer to the bytes that it has read: write_answer asks for that, and
+// answer_bytes gives it. Which bytes a read brings, and where those of a write go, no contract can say: read, write and
+// errno are taken at their word. The program always returns, however often a signal interrupts it. Its exit status is
+// always 0, so that an input that cannot be read, or an answer that cannot be written, shows on standard error only.
 mod input;
 mod output;
 
@@ -12,8 +13,8 @@ use input::Input;
 use libc::STDERR_FILENO;
 use taskset::CopyAnswer;
 
-// The answer to a text, at the front of the output: how many bytes. No answer is longer than 2,048 bytes, so that the call finds room and
-// the second case does not occur.
+// The answer to a text, at the front of the output: how many bytes. No answer is longer than 2,048 bytes, so that the
+// call finds room and the second case does not occur.
 fn answer_bytes(text: &[u8], output: &mut [u8; 2048]) -> usize
     ensures { λ r. ⌜ Answered (now (text .entry)) (now (output .exit)) r ⌝ }
 {

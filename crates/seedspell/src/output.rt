@@ -16,8 +16,8 @@ pub(crate) enum Put {
     Failed,
 }
 
-// One write, of the bytes from `at` on. A write that takes nothing without an error counts as interrupted, so that it is tried again and
-// uses up a retry.
+// One write, of the bytes from `at` on. A write that takes nothing without an error counts as interrupted, so that it
+// is tried again and uses up a retry.
 fn write_more(answer: &[u8], at: usize) -> Put
     requires { ⌜ at ≤ length (now answer) ⌝ }
     ensures { λ r. ⌜ WroteMore (now (answer .entry)) at r ⌝ }
@@ -35,9 +35,9 @@ fn write_more(answer: &[u8], at: usize) -> Put
     Put::Failed
 }
 
-// Writes the answer to an input, and gives how many of its bytes were taken: all, unless a write fails or 1,000 retries are used up. Each
-// turn gets rid of a byte or uses up a retry, so that the loop ends. Nothing else writes to standard output; the input is there for the
-// contract to speak of it.
+// Writes the answer to an input, and gives how many of its bytes were taken: all, unless a write fails or 1,000 retries
+// are used up. Each turn gets rid of a byte or uses up a retry, so that the loop ends. Nothing else writes to standard
+// output; the input is there for the contract to speak of it.
 pub(crate) fn write_answer(input: &[u8], answer: &[u8]) -> usize
     requires { ⌜ Prints (now input) (now answer) ⌝ }
     ensures { λ r. ⌜ r ≤ length (now (answer .entry)) ⌝ }

@@ -1,5 +1,5 @@
--- The table depends only on the costs and loads of its own tasks at rate numbers 1 to M, and on loads only up to C: so a table over
--- arrays with loads cut at C is the problem's own.
+-- The table depends only on the costs and loads of its own tasks at rate numbers 1 to M, and on loads only up to C: so
+-- a table over arrays with loads cut at C is the problem's own.
 -- Assumes nothing.
 use Prim.Native.Nat.{ℕ, zero, suc, _+_, _-_, _≤_, _<_, min}
 use mathlib.Core.Path.{_≡_, refl, sym, ap, ap₂, _∙_}

@@ -63,7 +63,8 @@ module _ (Ok : List ℕ → Type 0) (p : Problem) where
   pub margin : (d : ℕ) → 0 < d → (P : List ℕ) → IsChosenOf Ok p d P → (Q : List ℕ) → Ok Q → planEnergy p P ≤ planEnergy p Q + p .count * (d - 1)
   margin d pos P c Q f = omega (arith, rounded-covers p d pos P, rounded-over p d pos Q, mul-le-mul-left d (c .least-energy Q f))
 
-  -- Document 000, Lemma 2: where G × k(d) reaches 2,000 × N, or the unit is 1, the chosen plan is within the slack of every Ok plan.
+  -- Document 000, Lemma 2: where G × k(d) reaches 2,000 × N, or the unit is 1, the chosen plan is within the slack of
+  -- every Ok plan.
   pub within-slack : (G d : ℕ) → 0 < d → G ≤ 1000 → (P : List ℕ) → IsChosenOf Ok p d P → (d ≡ 1) ⊎ (threshold p ≤ G * rounded p d P)
       → (Q : List ℕ) → Ok Q → 1000 * planEnergy p P ≤ (1000 + G) * planEnergy p Q
   within-slack G d pos small P c (inl one) Q f =

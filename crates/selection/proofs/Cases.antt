@@ -1,5 +1,5 @@
--- Document 01's marked selections, over the loads and energies of their tasks: the set S at two slacks, 60 and 61 cycles, and the
--- task energy of 33 that shows rounding.
+-- Document 01's marked selections, over the loads and energies of their tasks: the set S at two slacks, 60 and 61
+-- cycles, and the task energy of 33 that shows rounding.
 -- Assumes nothing.
 use Prim.Native.Nat.{ℕ, zero, suc, _^_, _≤_}
 use mathlib.Core.Path.{_≡_, refl}

@@ -1,5 +1,6 @@
--- The table's laws in the steps that code takes: a row from the row before it, rate by rate; and the way back, task by task. Over
--- any costs and loads, by the task's place and the rate number; M is the highest rate number, and C stands for 'none'.
+-- The table's laws in the steps that code takes: a row from the row before it, rate by rate; and the way back, task by
+-- task. Over any costs and loads, by the task's place and the rate number; M is the highest rate number, and C stands
+-- for 'none'.
 -- Assumes nothing.
 use Prim.Native.Nat.{ℕ, zero, suc, _+_, _-_, _≤_, _<_, min}
 use mathlib.Core.Path.{_≡_, refl}
@@ -94,7 +95,8 @@ module _ (cost load : ℕ → ℕ → ℕ) (M C : ℕ) where
   unfolding Way Follows
   way-end e P = tt
 
-  -- Where an entry is below C, the rate there is 1 to M, its cost is allowed, and the entry comes from the one that it leaves.
+  -- Where an entry is below C, the rate there is 1 to M, its cost is allowed, and the entry comes from the one that it
+  -- leaves.
   pub record Sound (i e r : ℕ) : Type 0 where
     pub above : 1 ≤ r
     pub below : r ≤ M

@@ -51,7 +51,8 @@ module _ {Ok : List ℕ → Type 0} {p : Problem} {d : ℕ} {S : Type 0} {back :
       not-below Q f = le-of-suc-le-suc (lt-of-not-le (λ (x : rounded p d Q < k). omega (arith, over (rounded p d Q) x, cellOf-le Q f, cov .within Q f)))
 
 -- ---- over rounded energies
--- What is left of the rounded energy e once task t runs at rate number r, where each costs what `cost` says; there is no rate 0.
+-- What is left of the rounded energy e once task t runs at rate number r, where each costs what `cost` says; there is
+-- no rate 0.
 unfoldable pub spend : (ℕ → ℕ → ℕ) → ℕ → ℕ → ℕ → Option ℕ
 spend cost t zero e = none
 spend cost t (suc r) e = cond (leb (cost t (suc r)) e) (some (e - cost t (suc r))) none

@@ -1,4 +1,5 @@
--- The selection as functions that compute, and that they meet the definitions: so a plan is selected exactly where one fits.
+-- The selection as functions that compute, and that they meet the definitions: so a plan is selected exactly where one
+-- fits.
 -- Assumes nothing.
 use Prim.Native.Nat.{ℕ, zero, suc, _+_, _*_, _^_, _≤_, _<_, min}
 use mathlib.Core.Path.{_≡_, refl}
@@ -63,7 +64,8 @@ module _ (S : Type 0) (back : ℕ → ℕ → S → Option S) (load : ℕ → �
             follows = (here, λ s″ q. let y : s″ ≡ s′ = cc in rw y (t .follows));
           }
 
--- The way back from the first column at which the last row is within the limit is the chosen plan, and that column is k(d).
+-- The way back from the first column at which the last row is within the limit is the chosen plan, and that column is
+-- k(d).
 module _ (p : Problem) (d k : ℕ) (low : cell p d (p .count) k ≤ p .limit) (over : (e : ℕ) → e < k → p .limit < cell p d (p .count) e) where
   abbrev traced : List ℕ
   traced = trace ℕ (spend (roundedTask p d)) (p .load) (p .rates) (suc (p .limit)) (p .count) k []

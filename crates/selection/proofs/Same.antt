@@ -1,5 +1,5 @@
--- Two problems that agree in every number that a plan can meet have the same plan selected: so the choice may be made over arrays that
--- hold just these numbers.
+-- Two problems that agree in every number that a plan can meet have the same plan selected: so the choice may be made
+-- over arrays that hold just these numbers.
 -- Assumes nothing.
 use Prim.Native.Nat.{ℕ, _^_, _≤_, _<_}
 use mathlib.Core.Path.{_≡_, sym, ap, _∙_, subst}

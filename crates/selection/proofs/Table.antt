@@ -1,6 +1,6 @@
--- The table that finds the chosen plan: least loads, task by task, and the way back through it.
--- What a plan may spend is a state: `back t r s` is what is left of s once the task at t runs at rate number r, none where s does
--- not allow that. For document 01 a state is a rounded energy; a second budget is a state of two numbers.
+-- The table that finds the chosen plan: least loads, task by task, and the way back through it. What a plan may spend
+-- is a state: `back t r s` is what is left of s once the task at t runs at rate number r, none where s does not allow
+-- that. For document 01 a state is a rounded energy; a second budget is a state of two numbers.
 -- Assumes nothing.
 use Prim.Native.Nat.{ℕ, zero, suc, _+_, _≤_, _<_, min}
 use mathlib.Core.Path.{_≡_, refl, ap}
@@ -81,7 +81,8 @@ module _ (S : Type 0) (back : ℕ → ℕ → S → Option S) (load : ℕ → �
   best zero s = 0
   best (suc i) s = leastOf C (λ r. via C (best i) (load i r) (back i r s)) (suc M)
 
-  -- P is what going back through the table from s gives: for the last task the lowest rate number with the least load, and so on.
+  -- P is what going back through the table from s gives: for the last task the lowest rate number with the least load,
+  -- and so on.
   unfoldable pub Follows : ℕ → S → List ℕ → Type 0
   Follows zero s P = Unit {0}
   Follows (suc i) s P =

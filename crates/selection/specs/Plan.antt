@@ -7,8 +7,8 @@ use mathlib.Core.Logic.{_⊎_}
 use lib.ListN.{length, getD, replicate}
 use Rattle.numbers.specs.Numbers.{ceil, total, LeastPower}
 
--- A task set as far as the choice goes: N tasks, M rates, the limit L, and "Task load at a rate" and "Task energy at a rate" by
--- the task's place and the rate number.
+-- A task set as far as the choice goes: N tasks, M rates, the limit L, and "Task load at a rate" and "Task energy at a
+-- rate" by the task's place and the rate number.
 pub record Problem : Type 0 where
   pub count : ℕ
   pub rates : ℕ
@@ -42,20 +42,22 @@ roundedTask p d t r = ceil (p .energy t r) d
 abbrev pub rounded : Problem → ℕ → List ℕ → ℕ
 rounded p d P = total (roundedTask p d) (p .count) P
 
--- "Let k(d) be the least rounded energy of a plan that fits." Which plans count is a parameter, Ok: for document 01 those that fit.
+-- "Let k(d) be the least rounded energy of a plan that fits." Which plans count is a parameter, Ok: for document 01
+-- those that fit.
 pub record IsLeastOf (Ok : List ℕ → Type 0) (p : Problem) (d k : ℕ) : Type 0 where
   pub plan : List ℕ
   pub ok : Ok plan
   pub reached : rounded p d plan ≡ k
   pub least : (Q : List ℕ) → Ok Q → k ≤ rounded p d Q
 
--- "the lowest rate number for task N, then for task N - 1, and so on down to task 1": of the first n tasks, P's numbers are Q's,
--- or lower at the last task where they differ.
+-- "the lowest rate number for task N, then for task N - 1, and so on down to task 1": of the first n tasks, P's numbers
+-- are Q's, or lower at the last task where they differ.
 abbrev pub NotAfter : ℕ → List ℕ → List ℕ → Type 0
 NotAfter zero P Q = Unit {0}
 NotAfter (suc n) P Q = (getD P n 0 < getD Q n 0) ⊎ ((getD P n 0 ≡ getD Q n 0) × NotAfter n P Q)
 
--- "Among fitting plans with rounded energy k(d), take those with least load. Among these take the lowest rate number for task N .."
+-- "Among fitting plans with rounded energy k(d), take those with least load. Among these take the lowest rate number
+-- for task N .."
 pub record IsChosenOf (Ok : List ℕ → Type 0) (p : Problem) (d : ℕ) (P : List ℕ) : Type 0 where
   pub ok : Ok P
   pub least-energy : (Q : List ℕ) → Ok Q → rounded p d P ≤ rounded p d Q
@@ -77,9 +79,9 @@ QualifiesOf Ok p G d = (k : ℕ) × IsLeastOf Ok p d k × (threshold p ≤ G * k
 abbrev pub FallsShortOf : (List ℕ → Type 0) → Problem → ℕ → ℕ → Type 0
 FallsShortOf Ok p G d = (k : ℕ) × IsLeastOf Ok p d k × (G * k < threshold p)
 
--- 2 ^ a is the unit used; a, first and b are exponents. "The first unit is the smallest power of two not below the energy of the plan with every task at rate
--- M; 1 if that energy is 0. Units are halved from there. The unit used is the first with G × k(d) at least 2,000 × N, or 1 if
--- none before it qualifies."
+-- 2 ^ a is the unit used; a, first and b are exponents. "The first unit is the smallest power of two not below the
+-- energy of the plan with every task at rate M; 1 if that energy is 0. Units are halved from there. The unit used is
+-- the first with G × k(d) at least 2,000 × N, or 1 if none before it qualifies."
 pub record IsUsedOf (Ok : List ℕ → Type 0) (p : Problem) (G a : ℕ) : Type 0 where
   pub first : ℕ
   pub is-first : LeastPower (planEnergy p (fastest p)) first

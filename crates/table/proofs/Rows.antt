@@ -14,7 +14,8 @@ use Rattle.table.specs.declared.Frame.{Frame}
 use Rattle.table.specs.Rows.{optionAt, entryOf, Written, relaxed, Relaxable, RowAt, RowReady, RowWritten, TableReady, Tabled}
 
 -- ---- a row
--- The row that begins at `here` and ends at `end`, with the least loads by the rate numbers below r; every other place as it was.
+-- The row that begins at `here` and ends at `end`, with the least loads by the rate numbers below r; every other place
+-- as it was.
 abbrev pub RowTo : Frame → ℕ → List ℕ → List ℕ → ℕ → ℕ → ℕ → List ℕ → List ℕ → Type 0
 RowTo f i cost load r here end = Written (λ p. leastTo (optionAt cost) (optionAt load) (f .rates) (f .cap) i (p - here) r) here end
 

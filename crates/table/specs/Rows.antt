@@ -75,7 +75,8 @@ Defined d start cap e = getD d (start + e) 0 < cap
 abbrev pub rateOf : Frame → List ℕ → List ℕ → ℕ → ℕ → ℕ
 rateOf f cost load task e = rateTo (optionAt cost) (optionAt load) (f .rates) (f .cap) task e (f .rates + 1)
 
--- What the search for a rate asks: the rows before and after the task, from start on, and a column of the second that is not 'none'.
+-- What the search for a rate asks: the rows before and after the task, from start on, and a column of the second that
+-- is not 'none'.
 pub record RateReady (f : Frame) (start column task : ℕ) (cost load d : List ℕ) : Type 0 where
   pub framed : Framed f load
   pub is-task : task < f .tasks

@@ -1,5 +1,5 @@
--- The cases of document 01's 'Either side of an edge', gathered in one record and proved together of the definitions: every marked one,
--- each of the call's whole answer, and the unmarked refusals of a set.
+-- The cases of document 01's 'Either side of an edge', gathered in one record and proved together of the definitions:
+-- every marked one, each of the call's whole answer, and the unmarked refusals of a set.
 -- Assumes nothing.
 use Prim.Native.Nat.{ℕ, _*_, _^_, _≤_, _<_}
 use mathlib.Core.Path.{_≡_, refl, sym, _∙_, subst}
@@ -188,16 +188,18 @@ pub record Cases : Type 0 where
   -- "Two rates, periods 9,999,999 and 10,000,000: refusal 4, place 9. One period of 10,000,000 passes."
   periods-too-long : Declined (two-periods 9999999 10000000) (TooLong 9)
   period-10000000 : SetAfter (wordChecks Ordinary (one-period 10000000) ▹ hyperCheck Ordinary (one-period 10000000)) Ordinary (one-period 10000000) (Good 2 1 10000000)
-  -- A rate count of 9 and a task count of 33, refused where they stand; a list that ends before its last word; a word too many.
+  -- A rate count of 9 and a task count of 33, refused where they stand; a list that ends before its last word; a word
+  -- too many.
   bad-rate-count : Declined (100 ∷ 9 ∷ 2 ∷ []) (BadWord 1)
   bad-task-count : Declined (100 ∷ 2 ∷ 2 ∷ 4 ∷ 33 ∷ 10 ∷ []) (BadWord 4)
   missing : Declined (with-rates 2 4 []) (BadWord 8)
   left-over : Declined (with-rates 2 4 (9 ∷ 1 ∷ [])) (BadWord 9)
-  -- A plan list of one word for two tasks: refusal 6 with 2. Two plans that differ in rate numbers alone: the lower number for task 2.
+  -- A plan list of one word for two tasks: refusal 6 with 2. Two plans that differ in rate numbers alone: the lower
+  -- number for task 2.
   plan-list-1 : (plan work : List ℕ) → length plan ≡ 1 → length work ≡ 243 → PlannerGives (S 100) plan work plan work (NotPlanned (TooShort 2))
   tie : (plan work : List ℕ) → length plan ≡ 2 → length work ≡ 243 → PlannerGives even-tasks plan work (2 ∷ 1 ∷ []) (replicate 243 0) (Planned 1 4 4 6)
-  -- Attempt 1, "A planner that gives every task the fastest rate": plan 3 3 for S has load 12 and energy 120. It fits; but plan 2 1 keeps every
-  -- deadline for ever too, with 41, and demand 3's bound stops 120.
+  -- Attempt 1, "A planner that gives every task the fastest rate": plan 3 3 for S has load 12 and energy 120. It fits;
+  -- but plan 2 1 keeps every deadline for ever too, with 41, and demand 3's bound stops 120.
   pub plan-3-3 : (planLoad (problem (S 100)) (3 ∷ 3 ∷ []) ≡ 12) × (reportedEnergy (S 100) (3 ∷ 3 ∷ []) ≡ 120) × Keeps (S 100) (3 ∷ 3 ∷ [])
   pub plan-3-3-stopped : PlanPromise (S 100) (3 ∷ 3 ∷ []) 120 → ⊥
   -- What C is given: 0 and the values, or the refusal's number and second number in one.

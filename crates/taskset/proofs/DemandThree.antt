@@ -1,6 +1,6 @@
--- DEMAND 3. For a set that passes checks 2, 3 and 4, whatever document 01 selects keeps every deadline for ever, its energy is its
--- own over the hyper-period, and no plan that keeps every deadline for ever is cheaper by more than the slack; and no plan fits
--- exactly when no plan keeps every deadline for ever. All of it is judged by the endless walk.
+-- DEMAND 3. For a set that passes checks 2, 3 and 4, whatever document 01 selects keeps every deadline for ever, its
+-- energy is its own over the hyper-period, and no plan that keeps every deadline for ever is cheaper by more than the
+-- slack; and no plan fits exactly when no plan keeps every deadline for ever. All of it is judged by the endless walk.
 -- Assumes nothing.
 use Prim.Native.Nat.{ℕ, _+_, _≤_, _<_}
 use mathlib.Core.Path.{_≡_, refl, sym, subst, _∙_}
@@ -55,8 +55,8 @@ module _ (s : List ℕ) (set : IsSet Ordinary s) where
   pub none-fits-iff-none-keeps : NoneOk (Fitting (problem s)) 0 ↔ NoneKeeps s
   none-fits-iff-none-keeps = ((λ n Q k. n .1 Q (keeps-iff-fits Q .0 k)), (λ n. (refl, (λ P f. n P (keeps-iff-fits P .1 f)))))
 
-  -- The walk of any list of rate numbers says 'kept' exactly when it keeps every deadline for ever, and then its busy ticks are the
-  -- load.
+  -- The walk of any list of rate numbers says 'kept' exactly when it keeps every deadline for ever, and then its busy
+  -- ticks are the load.
   pub walk-decides : (P : List ℕ) → IsKept (walk (walkTasks Ordinary s P) (hyperPeriod Ordinary s)) ↔ KeepsForEver (endlessTasks Ordinary s P)
   walk-decides P = kept-iff-keeps (endlessTasks Ordinary s P) (hyperPeriod Ordinary s) (set .hyper-range .0) (regular Ordinary s set P)
 
@@ -66,8 +66,8 @@ module _ (s : List ℕ) (set : IsSet Ordinary s) where
       let c = kept-counts (walkTasks Ordinary s P) (hyperPeriod Ordinary s) (set .hyper-range .0) (regular Ordinary s set P) busy idle preempted e in
       (omega (arith, c .busy-is-load, walk-load Ordinary s set P), c .rest-is-idle)
 
--- A call whose checks are cs, 2, 3 and 4 among them, and 7 last, refuses with 7 exactly when all before it pass and no plan keeps every
--- deadline for ever.
+-- A call whose checks are cs, 2, 3 and 4 among them, and 7 last, refuses with 7 exactly when all before it pass and no
+-- plan keeps every deadline for ever.
 module _ (s : List ℕ) (cs : List Check) (sets : Accepts cs → IsSet Ordinary s) (others : Without 7 cs) where
   abbrev last : Check
   last = noneCheck (Fitting (problem s))

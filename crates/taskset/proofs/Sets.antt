@@ -1,5 +1,5 @@
--- What a list that passes checks 2, 3 and 4 is: a set, with every fact that its users want; and 'fits' means 'keeps every deadline
--- for ever'.
+-- What a list that passes checks 2, 3 and 4 is: a set, with every fact that its users want; and 'fits' means 'keeps
+-- every deadline for ever'.
 -- Assumes nothing.
 use Prim.Native.Nat.{ℕ, zero, suc, _+_, _-_, _*_, _/_, _≤_, _<_, _∣_}
 use mathlib.Core.Path.{_≡_, sym, _∙_}
@@ -81,7 +81,8 @@ module _ (layout : Layout) (s : List ℕ) where
     pub job-time-positive : (t r : ℕ) → t < taskCount layout s → 1 ≤ r → r ≤ rateCount layout s → 1 ≤ jobTime layout s t r
     job-time-positive t r l a b = ceil-positive _ _ (set .whole .cycles-range t l .0) (set .whole .rate-range r a b .0)
 
-    -- Energies: at most as many jobs as the hyper-period has ticks, of at most 1,000,000 microjoules, for each of at most 32 tasks.
+    -- Energies: at most as many jobs as the hyper-period has ticks, of at most 1,000,000 microjoules, for each of at
+    -- most 32 tasks.
     pub task-energy-small : (t r : ℕ) → t < taskCount layout s → 1 ≤ r → r ≤ rateCount layout s → taskEnergy layout s t r ≤ hyperLimit * 1000000
     task-energy-small t r l a b =
         let jobs : hyperPeriod layout s / period layout s t ≤ hyperLimit = omega (arith, div-le-self (hyperPeriod layout s) (period layout s t), set .hyper-range .1) in

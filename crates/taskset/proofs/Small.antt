@@ -1,4 +1,5 @@
--- Second numbers of refusals are small, however long the lists: so a refusal and its second number fit one 64-bit number.
+-- Second numbers of refusals are small, however long the lists: so a refusal and its second number fit one 64-bit
+-- number.
 -- Assumes nothing.
 use Prim.Native.Nat.{ℕ, _≤_, _<_, _^_}
 use mathlib.Core.Path.{_≡_, refl, sym, subst}

@@ -1,5 +1,5 @@
--- Each call's answer is one: two answers, with what they leave in the lists, that meet the definitions on the same lent lists are
--- equal.
+-- Each call's answer is one: two answers, with what they leave in the lists, that meet the definitions on the same lent
+-- lists are equal.
 -- Assumes nothing.
 use Prim.Native.Nat.{ℕ, _≤_}
 use native.Mathlib.Bridge.{le-by-compare, IsLe}

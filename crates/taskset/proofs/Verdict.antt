@@ -1,4 +1,5 @@
--- Checks 2 and 3, and 4 after them, as functions that compute, and that their verdicts are those that the definitions give.
+-- Checks 2 and 3, and 4 after them, as functions that compute, and that their verdicts are those that the definitions
+-- give.
 -- Assumes nothing.
 use Prim.Native.Nat.{ℕ, suc, _-_, _≤_, _<_}
 use mathlib.Core.Path.{_≡_, refl, sym, _∙_, subst}
@@ -34,8 +35,8 @@ module _ (layout : Layout) (s : List ℕ) where
   unfoldable pub isOver : ℕ → Bool
   isOver t = ltb hyperLimit (running (period layout s) (suc t))
 
-  -- The first bad or left-over word, the first rate that is not above the one before it, the first task whose period takes the
-  -- running multiple past the limit; the end of the stretch where there is none.
+  -- The first bad or left-over word, the first rate that is not above the one before it, the first task whose period
+  -- takes the running multiple past the limit; the end of the stretch where there is none.
   abbrev pub firstBad : ℕ
   firstBad = first isBad 0 (length s)
 

@@ -41,13 +41,14 @@ abbrev pub copyValues : CopyAnswer → List ℕ
 copyValues (Wrote n) = n ∷ []
 copyValues (NotCopied r) = []
 
--- "and what lies after stays": ws was written to the front of the list d, which is d′ now, and the answer's value says how much that is.
+-- "and what lies after stays": ws was written to the front of the list d, which is d′ now, and the answer's value says
+-- how much that is.
 pub record Copied (ws d d′ : List ℕ) (a : CopyAnswer) : Type 0 where
   pub values-are : copyValues a ≡ length ws ∷ []
   pub list-is : d′ ≡ ws ++ drop (length ws) d
 
--- WHAT CHECKS ANSWER. cs are the checks that a call makes of a list, in their order: a refusal is the first that holds; where none holds, the
--- counts are the list's own, and with check 4 among them the hyper-period too.
+-- WHAT CHECKS ANSWER. cs are the checks that a call makes of a list, in their order: a refusal is the first that holds;
+-- where none holds, the counts are the list's own, and with check 4 among them the hyper-period too.
 abbrev pub CountsAfter : List Check → Layout → List ℕ → Shape → Type 0
 CountsAfter cs layout s (Whole rates tasks) = Accepts cs × (rates ≡ rateCount layout s) × (tasks ≡ taskCount layout s)
 CountsAfter cs layout s (NotWhole r) = Refuses cs (number r) (second r)
@@ -57,14 +58,15 @@ SetAfter cs layout s (Good rates tasks hyper) =
     Accepts cs × (rates ≡ rateCount layout s) × (tasks ≡ taskCount layout s) × (hyper ≡ hyperPeriod layout s)
 SetAfter cs layout s (NotGood r) = Refuses cs (number r) (second r)
 
--- THE PLANNER. "The call returns unit, load, L and energy": P is the plan that document 01 selects, the values are its own.
+-- THE PLANNER. "The call returns unit, load, L and energy": P is the plan that document 01 selects, the values are its
+-- own.
 pub record Selected (s P values : List ℕ) : Type 0 where
   pub exponent : ℕ
   pub planned : IsPlanned (problem s) (slack s) exponent P
   pub values-are : values ≡ 2 ^ exponent ∷ planLoad (problem s) P ∷ hyperPeriod Ordinary s ∷ reportedEnergy s P ∷ []
 
--- "On success the first N words of the plan list hold the plan, .. and every other word stays." plan is the list as lent, plan′ as given
--- back: P stands in the first n words.
+-- "On success the first N words of the plan list hold the plan, .. and every other word stays." plan is the list as
+-- lent, plan′ as given back: P stands in the first n words.
 pub record HoldsPlan (n : ℕ) (P plan plan′ : List ℕ) : Type 0 where
   pub front : take n plan′ ≡ P
   pub rest : drop n plan′ ≡ drop n plan

@@ -1,4 +1,5 @@
--- Demand 3 of the order, at the level of word lists. It is judged by the endless walk: `KeepsForEver` of the set's tasks under a plan.
+-- Demand 3 of the order, at the level of word lists. It is judged by the endless walk: `KeepsForEver` of the set's
+-- tasks under a plan.
 use Prim.Native.Nat.{ℕ, _+_, _*_, _≤_}
 use mathlib.Core.Path.{_≡_}
 use mathlib.Core.List.{List}
@@ -15,13 +16,14 @@ use Rattle.taskset.specs.declared.PlannerAnswer.the-variants.{Planned, R
 use Rattle.taskset.specs.declared.WalkAnswer.{WalkAnswer}
 use Rattle.taskset.specs.declared.WalkAnswer.the-variants.{Kept, Missed, Refused as NotWalked}
 
--- "It takes a set and a plan, each number 1 to M": a plan Q, one number for each task, that keeps every deadline for ever.
+-- "It takes a set and a plan, each number 1 to M": a plan Q, one number for each task, that keeps every deadline for
+-- ever.
 pub record Keeps (s Q : List ℕ) : Type 0 where
   pub plan : IsPlan (problem s) Q
   pub for-ever : KeepsForEver (endlessTasks Ordinary s Q)
 
--- Of a plan given with an energy: it keeps every deadline for ever; the energy is its own, "the sum defined above"; and (1000 + slack) ×
--- the energy of every plan that keeps every deadline for ever is at least 1000 × the energy returned.
+-- Of a plan given with an energy: it keeps every deadline for ever; the energy is its own, "the sum defined above"; and
+-- (1000 + slack) × the energy of every plan that keeps every deadline for ever is at least 1000 × the energy returned.
 pub record PlanPromise (s P : List ℕ) (energy : ℕ) : Type 0 where
   pub keeps : Keeps s P
   pub own : energy ≡ reportedEnergy s P
@@ -31,13 +33,15 @@ pub record PlanPromise (s P : List ℕ) (energy : ℕ) : Type 0 where
 abbrev pub NoneKeeps : List ℕ → Type 0
 NoneKeeps s = (Q : List ℕ) → Keeps s Q → ⊥
 
--- What the planner owes with its answer, where plan and work were lent and plan′ is the plan list given back: of a plan its promise; and
--- "Demand 3 allows 7 only where no plan keeps every deadline for ever": a refusal is 7 exactly when checks 2 to 6 pass and none does.
+-- What the planner owes with its answer, where plan and work were lent and plan′ is the plan list given back: of a plan
+-- its promise; and "Demand 3 allows 7 only where no plan keeps every deadline for ever": a refusal is 7 exactly when
+-- checks 2 to 6 pass and none does.
 abbrev pub PlannerOwes : (s plan work plan′ : List ℕ) → PlannerAnswer → Type 0
 PlannerOwes s plan work plan′ (Planned unit load hyper energy) = PlanPromise s (take (taskCount Ordinary s) plan′) energy
 PlannerOwes s plan work plan′ (NotPlanned r) = (number r ≡ 7) ↔ (Accepts (readyChecks s (length plan) (length work)) × NoneKeeps s)
 
--- What the walk owes with its answer: 'kept' if and only if the plan keeps every deadline for ever, and then busy is its load.
+-- What the walk owes with its answer: 'kept' if and only if the plan keeps every deadline for ever, and then busy is
+-- its load.
 abbrev pub WalkOwes : List ℕ → List ℕ → WalkAnswer → Type 0
 WalkOwes s P (Kept busy idle preempted) = Keeps s P × (busy ≡ planLoad (problem s) P)
 WalkOwes s P (Missed tick task) = KeepsForEver (endlessTasks Ordinary s P) → ⊥

@@ -1,5 +1,5 @@
--- What a set and a plan come to (document 01, 'A task set' and 'Which plan'): job times, hyper-period, loads, energies, working
--- words; the set as a problem of selection, and with a plan as the walk's tasks.
+-- What a set and a plan come to (document 01, 'A task set' and 'Which plan'): job times, hyper-period, loads, energies,
+-- working words; the set as a problem of selection, and with a plan as the walk's tasks.
 use Prim.Native.Nat.{ℕ, _*_, _/_}
 use mathlib.Core.List.{List}
 use lib.ListN.{getD}
@@ -34,7 +34,8 @@ module _ (layout : Layout) (s : List ℕ) where
   abbrev pub problemOf : Problem
   problemOf = record { count = taskCount layout s; rates = rateCount layout s; limit = hyperPeriod; load = taskLoad; energy = taskEnergy }
 
-  -- The tasks of the endless walk: each released at 0 and at every multiple of its period, with its job time at the rate that the plan gives it.
+  -- The tasks of the endless walk: each released at 0 and at every multiple of its period, with its job time at the
+  -- rate that the plan gives it.
   abbrev pub endlessTasks : List ℕ → List Task
   endlessTasks P = tasksFrom (λ t. periodic (period layout s t) (jobTime t (getD P t 0))) 0 (taskCount layout s)
 

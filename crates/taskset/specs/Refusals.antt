@@ -1,4 +1,5 @@
--- Why a call declines (document 01, the table of that name): each cause with the second number, and the order of each call's checks.
+-- Why a call declines (document 01, the table of that name): each cause with the second number, and the order of each
+-- call's checks.
 use Prim.Native.Nat.{ℕ, suc, _-_, _≤_, _<_}
 use mathlib.Core.Path.{_≡_}
 use mathlib.Core.Bool.{false}
@@ -64,8 +65,8 @@ IsShort needed lent k = (lent < needed) × (k ≡ needed)
 abbrev pub NoneOk : (List ℕ → Type 0) → ℕ → Type 0
 NoneOk Ok k = (k ≡ 0) × ((P : List ℕ) → Ok P → ⊥)
 
--- 8: "Walk's plan not N words, or a word not 1 to M"; "lowest of these that applies: place of a bad word; its length if short; N if
--- long". m and n are the rate count and the task count.
+-- 8: "Walk's plan not N words, or a word not 1 to M"; "lowest of these that applies: place of a bad word; its length if
+-- short; N if long". m and n are the rate count and the task count.
 abbrev pub PlanFault : ℕ → ℕ → List ℕ → ℕ → Type 0
 PlanFault m n P k =
     ((k < length P) × (between 1 m (getD P k 0) ≡ false)) ⊎

@@ -1,11 +1,11 @@
-// What a task set comes to and what each call answers. Here are the types of the answers, and the table of refusals in code; specs/ defines
-// what document 01 says of each, proofs/ has the theory. What stands where in a set's list is left to the crate layout, the checks in code,
-// tables and texts to the crates above.
+// What a task set comes to and what each call answers. Here are the types of the answers, and the table of refusals in
+// code; specs/ defines what document 01 says of each, proofs/ has the theory. What stands where in a set's list is left
+// to the crate layout, the checks in code, tables and texts to the crates above.
 ghost use mathlib.Core.Path.{_≡_};
 ghost use Rattle.taskset.specs.Refusals.{number, second};
 
-// Why a call declines: a case for each row of document 01's table, numbers 1 to 8 in this order, with what is returned beside
-// the number.
+// Why a call declines: a case for each row of document 01's table, numbers 1 to 8 in this order, with what is returned
+// beside the number.
 pub enum Refusal {
     // The text departs from the form: offset.
     TextDeparts(usize),

@@ -1,4 +1,5 @@
--- The reader of a script is right for the texts of scripts; so what it answers of a whole text is what the definitions say.
+-- The reader of a script is right for the texts of scripts; so what it answers of a whole text is what the definitions
+-- say.
 -- Assumes nothing.
 use Prim.Native.Nat.{ℕ, zero, suc, _+_}
 use mathlib.Core.Path.{_≡_, refl, subst}

@@ -1,4 +1,5 @@
--- What makes a reader right for the texts of a piece; two right readers in a row are right; a right reader of all of a text finds the first bad byte.
+-- What makes a reader right for the texts of a piece; two right readers in a row are right; a right reader of all of a
+-- text finds the first bad byte.
 -- Assumes nothing.
 use Prim.Native.Nat.{ℕ, zero, suc, _+_, _≤_, _<_}
 use mathlib.Core.Path.{_≡_, refl, sym, ap, _∙_, subst}

@@ -1,5 +1,6 @@
--- Reading as a definition: what a reader of each piece, and of all of a text, gives at the front of a list of bytes. What the calls
--- promise does not speak of it: it is the step between the definitions, whose well-formed texts are just those that it accepts, and the code.
+-- Reading as a definition: what a reader of each piece, and of all of a text, gives at the front of a list of bytes.
+-- What the calls promise does not speak of it: it is the step between the definitions, whose well-formed texts are just
+-- those that it accepts, and the code.
 -- Assumes nothing.
 use Prim.Native.Nat.{ℕ, zero, suc, _+_, _-_, _*_, _^_}
 use mathlib.Core.List.{List, [], _∷_}

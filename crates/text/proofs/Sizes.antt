@@ -43,7 +43,8 @@ pub decimal-grows : (a b : ℕ) → a ≤ b → length (decimal a) ≤ length (d
 unfolding decimal
 decimal-grows = digits-grow 20
 
--- No number has more digits than `decimal` gives, and so none more than the largest of 64 bits; no word more than the largest of 32.
+-- No number has more digits than `decimal` gives, and so none more than the largest of 64 bits; no word more than the
+-- largest of 32.
 pub decimal-length : (n : ℕ) → length (decimal n) ≤ 20
 unfolding decimal
 decimal-length = digits-length 20
@@ -113,7 +114,8 @@ pub text-length : (s : Script) (t : List ℕ) → IsTextOf s t → length t < 50
 text-length s t h = omega (arith, ap length (h .text), script-length s (h .script), widest-length)
 
 -- ---- words
--- A script's words are as many as its list's layout has for so many rates and tasks: few enough for the reader's own list.
+-- A script's words are as many as its list's layout has for so many rates and tasks: few enough for the reader's own
+-- list.
 words-of-tasks : (m : ℕ) (ts : List TaskLine) → All (TaskLineOk m) ts → length (joined taskWords ts) ≡ length ts * taskSize Ordinary m
 unfolding extraKinds
 words-of-tasks m [] a = omega arith

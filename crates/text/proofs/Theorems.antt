@@ -22,7 +22,8 @@ use Rattle.text.proofs.Sizes.{text-length}
 use Rattle.text.proofs.Copies.{reads, is-read, is-refused, refuses, one-script, list-text, list-words, reader-unique, writer-unique, read-back}
 
 -- ---- numbers
--- The digits of a number say it, read from the first on: for every number of 64 bits, and so for every one that is read or printed.
+-- The digits of a number say it, read from the first on: for every number of 64 bits, and so for every one that is read
+-- or printed.
 pub decimal-says : (n : ℕ) → n < 10 ^ 20 → said 0 (decimal n) ≡ n
 decimal-says = numerals.decimal-says
 
@@ -104,8 +105,9 @@ example-words = refl
 unfoldable pub alike : ℕ → List ℕ
 alike n = bytes "(slack 1)\n(rates 1 2)\n" ++ joined (λ (k : ℕ). bytes "(task (period 1) (cycles 1) (energy 1 1))\n") (replicate n 0)
 
--- "A ninth rate, a 33rd task or a digit that passes the largest number is refusal 1 at that byte." "Empty text: refusal 1, offset 0." After the
--- largest number only a bracket may follow, after a first digit 0 no other, and a text that ends before its first task ends early.
+-- "A ninth rate, a 33rd task or a digit that passes the largest number is refusal 1 at that byte." "Empty text: refusal
+-- 1, offset 0." After the largest number only a bracket may follow, after a first digit 0 no other, and a text that
+-- ends before its first task ends early.
 pub record Departures : Type 0 where
   ninth-rate : FirstBad WellFormed (bytes "(slack 1)\n(rates 1 2 3 4 5 6 7 8 9)\n") 32
   task-33 : FirstBad WellFormed (alike 33) 1366

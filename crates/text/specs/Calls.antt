@@ -20,7 +20,8 @@ wordsCheck t lent = check 6 (λ k. (s : Script) × IsTextOf s t × IsShort (leng
 abbrev pub readerChecks : List ℕ → ℕ → List Check
 readerChecks t lent = (formCheck t ∷ []) ▹ wordsCheck t lent
 
--- t is the text, d the list as lent, d′ as given back: a success writes the words of the text's script, a refusal nothing.
+-- t is the text, d the list as lent, d′ as given back: a success writes the words of the text's script, a refusal
+-- nothing.
 abbrev pub ReaderGives : (t d d′ : List ℕ) → CopyAnswer → Type 0
 ReaderGives t d d′ (Wrote n) =
     Accepts (readerChecks t (length d)) × ((s : Script) × IsTextOf s t × Copied (words s) d d′ (Wrote n))

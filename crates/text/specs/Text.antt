@@ -1,6 +1,6 @@
--- The bracketed text (document 01, 'The bracketed text'): the one text of a script, which texts are well formed, where another departs, and
--- the words that a script says. A script is what stands in a text, form by form; it is not yet a task set: "Ranges are not judged by the
--- reader."
+-- The bracketed text (document 01, 'The bracketed text'): the one text of a script, which texts are well formed, where
+-- another departs, and the words that a script says. A script is what stands in a text, form by form; it is not yet a
+-- task set: "Ranges are not judged by the reader."
 use Prim.Native.Nat.{ℕ, zero, suc, _+_, _/_, _%_, _^_, _≤_, _<_}
 use Prim.Native.Char.{code}
 use Prim.Native.String as Str
@@ -25,15 +25,16 @@ pub record Script : Type 0 where
   pub rates : List ℕ
   pub tasks : List TaskLine
 
--- THE TEXT OF A SCRIPT. "Forms stand one a line, each line ended by byte 10, one space between items, exactly as in the first example."
+-- THE TEXT OF A SCRIPT. "Forms stand one a line, each line ended by byte 10, one space between items, exactly as in the
+-- first example."
 
 -- The bytes of a string of ASCII characters.
 abbrev pub bytes : String → List ℕ
 bytes Str.[] = []
 bytes (Str._∷_ c s) = code c ∷ bytes s
 
--- "A number is 0 or starts with 1 to 9": the decimal digits of n, highest first, at most k of them; twenty are enough for a number of 64
--- bits, and so for every number that a text or an answer has.
+-- "A number is 0 or starts with 1 to 9": the decimal digits of n, highest first, at most k of them; twenty are enough
+-- for a number of 64 bits, and so for every number that a text or an answer has.
 unfoldable pub digits : ℕ → ℕ → List ℕ
 digits zero n = []
 digits (suc k) n = cond (ltb n 10) ((48 + n) ∷ []) (digits k (n / 10) ++ ((48 + n % 10) ∷ []))
@@ -90,16 +91,17 @@ pub record IsTextOf (s : Script) (t : List ℕ) : Type 0 where
 abbrev pub WellFormed : List ℕ → Type 0
 WellFormed t = (s : Script) × IsTextOf s t
 
--- 1: "offset of the first byte such that no well-formed text begins with the bytes up to and including it; the text's length if it ends
--- early"
+-- 1: "offset of the first byte such that no well-formed text begins with the bytes up to and including it; the text's
+-- length if it ends early"
 pub record FirstBad (Form : List ℕ → Type 0) (t : List ℕ) (o : ℕ) : Type 0 where
   pub within : o ≤ length t
   pub before : (rest : List ℕ) × Form (take o t ++ rest)
   pub departs : o < length t → (rest : List ℕ) → Form (take (suc o) t ++ rest) → ⊥
   pub early : o ≡ length t → Form t → ⊥
 
--- THE WORDS OF A SCRIPT: "the slack G ..; the rate count M ..; M rates ..; the task count N ..; then for each task the period p .., the cycles c .., and M
--- energies": the words of the ordinary list's head, and of what it has between a task's cycles and its energies, stand by themselves.
+-- THE WORDS OF A SCRIPT: "the slack G ..; the rate count M ..; M rates ..; the task count N ..; then for each task the
+-- period p .., the cycles c .., and M energies": the words of the ordinary list's head, and of what it has between a
+-- task's cycles and its energies, stand by themselves.
 abbrev pub headWords : Script → List ℕ
 headWords s = s .slack ∷ []
 

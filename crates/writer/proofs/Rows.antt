@@ -36,7 +36,8 @@ each-at f i (suc n) (suc k) h d =
     let there : suc i + k ≡ i + suc k = omega arith in
     each-at f (suc i) n k (omega arith) d ∙ ap f there
 
--- The words from place a to place e are those that f gives from number i on, where it gives the word at place p + j for number j.
+-- The words from place a to place e are those that f gives from number i on, where it gives the word at place p + j for
+-- number j.
 pub part : (s : List ℕ) (f : ℕ → ℕ) (p : ℕ) → ((j : ℕ) → f j ≡ word s (p + j)) → (i n a e : ℕ)
     → a ≡ p + i → e ≡ p + i + n → e ≤ length s → take (e - a) (drop a s) ≡ each f i n
 part s f p stands i n a e x y h =

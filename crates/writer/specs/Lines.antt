@@ -1,4 +1,5 @@
--- What the functions below the writer's call take and give. Not part of what a reader must believe: the call's own contract names none of it.
+-- What the functions below the writer's call take and give. Not part of what a reader must believe: the call's own
+-- contract names none of it.
 use Prim.Native.Nat.{ℕ, _<_}
 use mathlib.Core.Path.{_≡_}
 use mathlib.Core.List.{List, _++_}
@@ -22,8 +23,8 @@ pub record WithTasks (w : List ℕ) (m n : ℕ) : Type 0 where
   pub list : WithRates w m
   pub tasks : n ≡ taskCount Ordinary w
 
--- The first two lines of a text, each from its own bracket to its own end. (`scriptText` has the bracket of the second at the end of the string
--- before it, as the reader takes it.)
+-- The first two lines of a text, each from its own bracket to its own end. (`scriptText` has the bracket of the second
+-- at the end of the string before it, as the reader takes it.)
 unfoldable pub slackText : ℕ → List ℕ
 slackText slack = bytes "(slack " ++ (decimal slack ++ bytes ")\n")
 

@@ -1,6 +1,6 @@
-// The writer of the bracketed text: checks 2 and 3, then the bytes needed are counted, and only where the buffer has them is it
-// written to. Each form has a writer, which is lent the rest of the buffer that is not yet written, and beside it a counter, which is the
-// writer without the buffer: the same parts in the same order.
+// The writer of the bracketed text: checks 2 and 3, then the bytes needed are counted, and only where the buffer has
+// them is it written to. Each form has a writer, which is lent the rest of the buffer that is not yet written, and
+// beside it a counter, which is the writer without the buffer: the same parts in the same order.
 ghost use mathlib.Core.Path.{_≡_};
 ghost use Prim.Native.Nat.{_+_, _^_, _≤_, _<_};
 ghost use lib.ListN.{length};
@@ -14,7 +14,8 @@ use taskset::CopyAnswer;
 use taskset::Refusal;
 use taskset::Shape;
 
-// The words of a list that passes check 2: its rates, and of the task at place t its period, its cycles and its energies.
+// The words of a list that passes check 2: its rates, and of the task at place t its period, its cycles and its
+// energies.
 fn rates_of(w: &[u32], m: usize) -> &[u32]
     requires { ⌜ WithRates (now w) m ⌝ }
     ensures { λ r. ⌜ now r ≡ scriptOf (now (w .entry)) .rates ⌝ }

@@ -1,4 +1,5 @@
--- The numbers of a list. The invariant: the numbers so far are in place, and with those that are left, read at the place in hand, they give the whole answer.
+-- The numbers of a list. The invariant: the numbers so far are in place, and with those that are left, read at the
+-- place in hand, they give the whole answer.
 -- Assumes nothing.
 use Prim.Native.Nat.{_+_, _-_, _≤_}
 use mathlib.Core.Path.{_≡_, refl, sym, ap, _∙_}

@@ -1,4 +1,5 @@
--- The tasks. The invariant: the tasks so far are in place, and with those that are left, read at the place in hand, they give the whole answer.
+-- The tasks. The invariant: the tasks so far are in place, and with those that are left, read at the place in hand,
+-- they give the whole answer.
 -- Assumes nothing.
 use Prim.Native.Nat.{_-_, _≤_}
 use mathlib.Core.Path.{_≡_, sym, _∙_}

@@ -1,5 +1,5 @@
--- The options of one task, rate by rate. The invariant: the arrays hold those of the tasks before, and of this task those of the rates
--- before the one in hand.
+-- The options of one task, rate by rate. The invariant: the arrays hold those of the tasks before, and of this task
+-- those of the rates before the one in hand.
 -- Assumes nothing.
 use Prim.Native.Nat.{_+_, _-_, _≤_, _<_}
 use native.Mathlib.Omega.{arith}

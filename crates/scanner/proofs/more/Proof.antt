@@ -1,4 +1,5 @@
--- The digits after the first. The invariant: the digits from the place in hand on, after the value so far, give the whole answer.
+-- The digits after the first. The invariant: the digits from the place in hand on, after the value so far, give the
+-- whole answer.
 -- Assumes nothing.
 use Prim.Native.Nat.{_-_, _<_, _^_}
 use mathlib.Core.Path.{_≡_, refl, sym, _∙_}

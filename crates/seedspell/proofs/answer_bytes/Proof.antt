@@ -1,4 +1,5 @@
--- `answer_bytes` meets its contract: what the call wrote stands at the front of the output, which has room for every answer.
+-- `answer_bytes` meets its contract: what the call wrote stands at the front of the output, which has room for every
+-- answer.
 -- Assumes nothing.
 use native.Mathlib.Omega.{arith}
 use Prim.Native.Nat.{ℕ}

@@ -1,4 +1,5 @@
--- `input::read_more` meets its contract: what stands before the part that is lent stays, and a result above 0 counts bytes of that part.
+-- `input::read_more` meets its contract: what stands before the part that is lent stays, and a result above 0 counts
+-- bytes of that part.
 -- Assumes nothing.
 use Prim.Native.Nat.{ℕ, _-_}
 use native.Mathlib.Omega.{arith}

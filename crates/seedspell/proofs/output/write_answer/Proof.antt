@@ -1,5 +1,5 @@
--- `output::write_answer` meets its contract. The invariant: the bytes that were taken are within the answer. The measure is the bytes that are left
--- and the retries that are left, together.
+-- `output::write_answer` meets its contract. The invariant: the bytes that were taken are within the answer. The
+-- measure is the bytes that are left and the retries that are left, together.
 -- Assumes nothing.
 use Prim.Native.Nat.{_+_, _-_, _≤_}
 use native.Mathlib.Omega.{arith}
