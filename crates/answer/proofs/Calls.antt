@@ -59,14 +59,16 @@ module _ {s P : List ℕ} {unit load hyper energy : ℕ} (given : PlannedSet s P
       let checks = plannerChecks s planLent workLent in
       let words = wordChecks Ordinary s in
       accepts-next (words ▹ hyperCheck Ordinary s) (planCheck Ordinary s P)
-      (accepts-next words (hyperCheck Ordinary s) (passed 2 checks refl (given .accepts), (passed 3 checks refl (given .accepts), tt)) (passed 4 checks refl (given .accepts)))
+      (accepts-next words (hyperCheck Ordinary s)
+      (passed 2 checks refl (given .accepts), (passed 3 checks refl (given .accepts), tt)) (passed 4 checks refl (given .accepts)))
       (sound-plan s P (is-plan s (given .accepts) P unit load hyper energy (given .selected)))
 
   pub not-refused : (r : Refusal) → Walked s P (NotWalked r) → ⊥
   not-refused r w = not-both (walkChecks s P) (number r) (second r) accepted (w .answers)
 
 -- ---- a set
-pub set-refused : (s d d′ : List ℕ) (n : ℕ) (r : Refusal) → Refuses (plannerChecks s planLent workLent) (number r) (second r)
+pub set-refused : (s d d′ : List ℕ) (n : ℕ) (r : Refusal)
+    → Refuses (plannerChecks s planLent workLent) (number r) (second r)
     → Put (refusedLine (number r) (second r)) d d′ n → PutSet s d d′ n
 set-refused s d d′ n r h put = (refusedLine (number r) (second r), steps.refused (number r) (second r) h refl, put)
 
@@ -92,10 +94,12 @@ more-room s p w p′ w′ m n l a b h =
 
 -- The plan list and the working list as the call lent them.
 module _ (s plan work plan′ work′ : List ℕ) (lp : length plan ≡ planLent) (lw : length work ≡ workLent) where
-  pub call-refused : (r : Refusal) → PlannerCall s plan work plan′ work′ (NotPlanned r) → Refuses (plannerChecks s planLent workLent) (number r) (second r)
+  pub call-refused : (r : Refusal) → PlannerCall s plan work plan′ work′ (NotPlanned r)
+      → Refuses (plannerChecks s planLent workLent) (number r) (second r)
   call-refused r c = rw (lp, lw) at (c .gives .0)
 
-  pub call-planned : (n u l h e : ℕ) → n ≡ taskCount Ordinary s → PlannerCall s plan work plan′ work′ (Planned u l h e) → PlannedSet s (take n plan′) u l h e
+  pub call-planned : (n u l h e : ℕ) → n ≡ taskCount Ordinary s → PlannerCall s plan work plan′ work′ (Planned u l h e)
+      → PlannedSet s (take n plan′) u l h e
   call-planned n u l h e count c =
       let g = c .gives .1 in
       let is : take n plan′ ≡ g .0 = ap (λ (k : ℕ). take k plan′) count ∙ g .2 .front in
@@ -107,7 +111,8 @@ module _ (t set set′ : List ℕ) (lent : length set ≡ setLent) where
   pub read-fits : (n : ℕ) → ReaderGives t set set′ (Wrote n) → n ≤ setLent
   read-fits n g = omega (arith, count-is (words (g .1 .0)) set set′ n (g .1 .2), words-length (g .1 .0) (g .1 .1 .script))
 
-  pub read-set : (n : ℕ) (d d′ : List ℕ) (k : ℕ) → ReaderGives t set set′ (Wrote n) → PutSet (take n set′) d d′ k → PutAnswer t d d′ k
+  pub read-set : (n : ℕ) (d d′ : List ℕ) (k : ℕ) → ReaderGives t set set′ (Wrote n) → PutSet (take n set′) d d′ k
+      → PutAnswer t d d′ k
   read-set n d d′ k g p =
       let s = g .1 .0 in
       let is : take n set′ ≡ words s = front-is (words s) set set′ n (g .1 .2) in
@@ -147,7 +152,8 @@ module _ (t d : List ℕ) where
     pub too-short : length d < n → Responds t d d (NotCopied (TooShort n))
     too-short h =
         let e = answer .2 .size in
-        responds d (NotCopied (TooShort n)) (answer .0, answer .1, refuses-next [] (roomCheck (length (answer .0)) (length d)) n tt (omega (arith, e), e), refl)
+        responds d (NotCopied (TooShort n))
+        (answer .0, answer .1, refuses-next [] (roomCheck (length (answer .0)) (length d)) n tt (omega (arith, e), e), refl)
 
     pub wrote : (d′ : List ℕ) (k : ℕ) → n ≤ length d → Put (take n text′) d d′ k → Responds t d d′ (Wrote k)
     unfolding placed

@@ -29,7 +29,8 @@ pub record Counts (layout : Layout) (s : List ℕ) (h c : ℕ) : Type 0 where
   pub place : c ≡ taskCountPlace layout (rateCount layout s)
   pub tasks : word s c ≡ taskCount layout s
 
-pub counts-read : (layout : Layout) (s : List ℕ) {h c : ℕ} → h ≡ headSize layout → c ≡ taskCountPlace layout (word s h) → Counts layout s h c
+pub counts-read : (layout : Layout) (s : List ℕ) {h c : ℕ} → h ≡ headSize layout → c ≡ taskCountPlace layout (word s h)
+    → Counts layout s h c
 counts-read layout s e d =
     let m = ap (word s) e in
     let p = d ∙ ap (taskCountPlace layout) m in
@@ -45,7 +46,8 @@ module _ (layout : Layout) (s : List ℕ) (b : ℕ) (found : Found (OutOfRange l
   bad-word h = inl (refl, record { here = inl (h, found .hit h); before = λ j l f. before-found j l (omega arith) f })
 
   module _ (none : length s ≤ b) where
-    pub missing-word : length s < wordCount layout s → CountsAfter (wordChecks layout s) layout s (NotWhole (BadWord (length s)))
+    pub missing-word : length s < wordCount layout s
+        → CountsAfter (wordChecks layout s) layout s (NotWhole (BadWord (length s)))
     missing-word h = inl (refl, record { here = inr (refl, h); before = λ j l f. before-found j (omega arith) l f })
 
     judged : (q : ℕ) → q < length s → allows s q (kindAt layout s q) ≡ true
@@ -58,7 +60,8 @@ module _ (layout : Layout) (s : List ℕ) (b : ℕ) (found : Found (OutOfRange l
     pub rates-range : headSize layout < length s → (2 ≤ rateCount layout s) × (rateCount layout s ≤ mostRates)
     rates-range = rates-in layout s judged
 
-    pub tasks-range : taskCountPlace layout (rateCount layout s) < length s → (1 ≤ taskCount layout s) × (taskCount layout s ≤ mostTasks)
+    pub tasks-range : taskCountPlace layout (rateCount layout s) < length s
+        → (1 ≤ taskCount layout s) × (taskCount layout s ≤ mostTasks)
     tasks-range = tasks-in layout s judged
 
     module _ (enough : wordCount layout s ≤ length s) where
@@ -67,14 +70,17 @@ module _ (layout : Layout) (s : List ℕ) (b : ℕ) (found : Found (OutOfRange l
           ⊎-elim (λ w. before-found q (omega (arith, w .0)) (w .0) (h .here)) (λ w. absurd (omega arith)) (h .here)
 
       -- ---- check 3
-      module _ (f : ℕ) (fall : Found (Falls s) (ratePlace layout 2) (taskCountPlace layout (rateCount layout s)) f) where
+      module _ (f : ℕ)
+          (fall : Found (Falls s) (ratePlace layout 2) (taskCountPlace layout (rateCount layout s)) f) where
         falls-before : (j : ℕ) → j < f → RateFault layout s j → ⊥
         falls-before j l r = fall .none j (r .0) l (r .2)
 
-        pub not-above : f < taskCountPlace layout (rateCount layout s) → CountsAfter (wordChecks layout s) layout s (NotWhole (NotAbove f))
+        pub not-above : f < taskCountPlace layout (rateCount layout s)
+            → CountsAfter (wordChecks layout s) layout s (NotWhole (NotAbove f))
         not-above h = inr (words-pass, inl (refl, record { here = (fall .from, omega arith, fall .hit h); before = falls-before }))
 
-        pub is-shape : taskCountPlace layout (rateCount layout s) ≤ f → CountsAfter (wordChecks layout s) layout s (Whole (rateCount layout s) (taskCount layout s))
+        pub is-shape : taskCountPlace layout (rateCount layout s) ≤ f
+            → CountsAfter (wordChecks layout s) layout s (Whole (rateCount layout s) (taskCount layout s))
         is-shape h = ((words-pass, ((λ q r. falls-before q (omega (arith, r .here .1)) (r .here)), tt)), refl, refl)
 
 -- ---- check 4
@@ -114,6 +120,7 @@ module _ (layout : Layout) (s : List ℕ) (m n : ℕ) where
 
 -- ---- check 4 after others
 module _ (cs : List Check) (layout : Layout) (s : List ℕ) where
-  pub after : Accepts cs → (a : Checked) → SetAfter (hyperCheck layout s ∷ []) layout s a → SetAfter (cs ▹ hyperCheck layout s) layout s a
+  pub after : Accepts cs → (a : Checked) → SetAfter (hyperCheck layout s ∷ []) layout s a
+      → SetAfter (cs ▹ hyperCheck layout s) layout s a
   after pass (Good m n v) h = (accepts-join cs (hyperCheck layout s ∷ []) pass (h .0), h .1, h .2, h .3)
   after pass (NotGood r) h = refuses-back cs (hyperCheck layout s ∷ []) (number r) (second r) pass h

@@ -29,7 +29,8 @@ module _ (tasks rates : ℕ) (few : tasks ≤ 32) where
 
   pub fastest-same : (f : ℕ → ℕ → ℕ) → total f tasks (replicate 32 rates) ≡ total f tasks (replicate tasks rates)
   fastest-same f =
-      total-same f f tasks (replicate 32 rates) (replicate tasks rates) (λ t l. ap (f t) (every t l ∙ sym (getD-replicate tasks t rates 0 l)))
+      total-same f f tasks (replicate 32 rates) (replicate tasks rates)
+      (λ t l. ap (f t) (every t l ∙ sym (getD-replicate tasks t rates 0 l)))
 
   pub fastest-ready : (options : List ℕ) → rates ≤ 8 → Small options → SumReady tasks options (replicate 32 rates)
   fastest-ready options h small = record {
@@ -47,5 +48,6 @@ module _ {tasks : ℕ} {unit : Power} {energies cost : List ℕ} (g : RoundReady
   pub unit-low : unit .value ≤ 2 ^ 63
   unit-low = rw (g .power) (pow-le-pow-right (omega arith) (g .low))
 
-  pub cost-is : (k : ℕ) → (getD energies k 0 + (unit .value - 1)) / 2 ^ (unit .exponent) ≡ costOf energies (unit .exponent) k
+  pub cost-is : (k : ℕ)
+      → (getD energies k 0 + (unit .value - 1)) / 2 ^ (unit .exponent) ≡ costOf energies (unit .exponent) k
   cost-is k = rw (g .power) refl

@@ -29,9 +29,12 @@ use Rattle.choice.specs.Units.{frameOf, cutOf, costOf, UnitReady, UnitTa
 use Rattle.choice.proofs.Adding.{sum-low}
 
 -- ---- one unit's table
-module _ {f : Frame} {unit : Power} {energies load cost₀ work₀ : List ℕ} (g : UnitReady f unit energies load cost₀ work₀) where
-  pub unit-tabled : {cost work : List ℕ} {k : ℕ} → Written (costOf energies (unit .exponent)) 0 (f .tasks * 16) cost₀ cost
-      → Tabled f (f .tasks) cost load work₀ work → Found (Defined work (f .tasks * f .columns) (f .cap)) 0 (f .columns) k
+module _ {f : Frame} {unit : Power} {energies load cost₀ work₀ : List ℕ}
+    (g : UnitReady f unit energies load cost₀ work₀) where
+  pub unit-tabled : {cost work : List ℕ} {k : ℕ}
+      → Written (costOf energies (unit .exponent)) 0 (f .tasks * 16) cost₀ cost
+      → Tabled f (f .tasks) cost load work₀ work
+      → Found (Defined work (f .tasks * f .columns) (f .cap)) 0 (f .columns) k
       → UnitTabled f (unit .exponent) energies load cost₀ work₀ cost work k
   unit-tabled {cost} {work} {k} c t s = record {
     cost-size = c .same;
@@ -61,14 +64,16 @@ module _ (q : Request) (loads energies load cost : List ℕ) (exponent : ℕ) (f
   same-costs : (t r : ℕ) → t < q .tasks → 1 ≤ r → r ≤ q .rates → optionAt cost t r ≡ roundedTask this (2 ^ exponent) t r
   same-costs t r l x y = costs (t * 16 + r) (omega arith)
 
-  same-loads : (t r : ℕ) → t < q .tasks → 1 ≤ r → r ≤ q .rates → min (suc (q .limit)) (optionAt load t r) ≡ min (suc (q .limit)) (optionAt loads t r)
+  same-loads : (t r : ℕ) → t < q .tasks → 1 ≤ r → r ≤ q .rates
+      → min (suc (q .limit)) (optionAt load t r) ≡ min (suc (q .limit)) (optionAt loads t r)
   same-loads t r l x y = omega (arith, cuts (t * 16 + r) (omega arith))
 
   cell-is : (e : ℕ) → cell this (2 ^ exponent) (q .tasks) e ≡ last-row e
   cell-is e =
       rw (add-one (q .limit))
       (cell-entry this (2 ^ exponent) (q .tasks) e ∙
-      sym (entry-agrees (optionAt cost) (optionAt load) (roundedTask this (2 ^ exponent)) (optionAt loads) (q .rates) (suc (q .limit)) (q .tasks)
+      sym (entry-agrees (optionAt cost) (optionAt load) (roundedTask this (2 ^ exponent)) (optionAt loads) (q .rates)
+      (suc (q .limit)) (q .tasks)
       same-costs same-loads (q .tasks) e (omega arith)))
 
   module _ (k : ℕ) (some : last-row k < q .limit + 1) (before : (e : ℕ) → e < k → q .limit + 1 ≤ last-row e) where
@@ -83,12 +88,14 @@ module _ (q : Request) (loads energies load cost : List ℕ) (exponent : ℕ) (f
     least-is = column-least this (2 ^ exponent) k low over
 
     -- The way back from there is the chosen plan.
-    pub chosen-is : (P : List ℕ) → length P ≡ q .tasks → Way (optionAt cost) (optionAt load) (q .rates) (q .limit + 1) (q .tasks) k P
+    pub chosen-is : (P : List ℕ) → length P ≡ q .tasks
+        → Way (optionAt cost) (optionAt load) (q .rates) (q .limit + 1) (q .tasks) k P
         → IsChosenOf (Fitting this) this (2 ^ exponent) P
     chosen-is P size way =
         way-back-chosen this (2 ^ exponent) k P low over size
         (way-back-way this (2 ^ exponent) (q .tasks) k P
-        (way-agrees (optionAt cost) (optionAt load) (roundedTask this (2 ^ exponent)) (optionAt loads) (q .rates) (suc (q .limit)) (q .tasks)
+        (way-agrees (optionAt cost) (optionAt load) (roundedTask this (2 ^ exponent)) (optionAt loads) (q .rates)
+        (suc (q .limit)) (q .tasks)
         same-costs same-loads (q .tasks) k P (omega arith)
         (subst (λ (C : ℕ). Way (optionAt cost) (optionAt load) (q .rates) C (q .tasks) k P) (add-one (q .limit)) way))) .0
 
@@ -104,12 +111,14 @@ module _ (q : Request) (loads energies load cost : List ℕ) (exponent : ℕ) (f
       (lt-or-le k columns)
 
 -- ---- the units tried
-pub narrow-words : (tasks slack columns : ℕ) → columns ≤ lastColumn tasks slack + 1 → (tasks + 1) * columns ≤ workWords tasks slack
+pub narrow-words : (tasks slack columns : ℕ) → columns ≤ lastColumn tasks slack + 1
+    → (tasks + 1) * columns ≤ workWords tasks slack
 narrow-words tasks slack columns h = mul-le-mul-left (tasks + 1) h
 
 -- What holds before a unit is tried with so many columns, where 2 ^ first is the first unit; work₀ is the working list
 -- as lent.
-pub record Trying (q : Request) (loads energies work₀ : List ℕ) (first : ℕ) (cost work : List ℕ) (unit : Power) (columns : ℕ) : Type 0 where
+pub record Trying (q : Request) (loads energies work₀ : List ℕ) (first : ℕ) (cost work : List ℕ) (unit : Power)
+    (columns : ℕ) : Type 0 where
   pub is-first : LeastPower (planEnergy (arrays q loads energies) (fastest (arrays q loads energies))) first
   pub first-low : first ≤ 63
   pub power : unit .value ≡ 2 ^ (unit .exponent)
@@ -122,13 +131,16 @@ pub record Trying (q : Request) (loads energies work₀ : List ℕ) (first : ℕ
   pub work-size : length work ≡ length work₀
   pub above : (j : ℕ) → workWords (q .tasks) (q .slack) ≤ j → getD work j 0 ≡ getD work₀ j 0
 
-module _ {q : Request} {loads energies load₀ cost₀ work₀ : List ℕ} (g : SearchReady q loads energies load₀ cost₀ work₀) where
+module _ {q : Request} {loads energies load₀ cost₀ work₀ : List ℕ}
+    (g : SearchReady q loads energies load₀ cost₀ work₀) where
   abbrev p : Problem
   p = arrays q loads energies
 
   -- x is the energy with every task at the highest rate, and the unit the smallest power of two not below it.
-  pub trying-start : (x : ℕ) (unit : Power) → x ≡ total (optionAt energies) (q .tasks) (replicate (q .tasks) (q .rates)) → LeastPower x (unit .exponent)
-      → unit .value ≡ 2 ^ (unit .exponent) → Trying q loads energies work₀ (unit .exponent) cost₀ work₀ unit (q .tasks + 1)
+  pub trying-start : (x : ℕ) (unit : Power) → x ≡ total (optionAt energies) (q .tasks) (replicate (q .tasks) (q .rates))
+      → LeastPower x (unit .exponent)
+      → unit .value ≡ 2 ^ (unit .exponent)
+      → Trying q loads energies work₀ (unit .exponent) cost₀ work₀ unit (q .tasks + 1)
   unfolding fastest
   trying-start x unit e least power =
       let is : LeastPower (planEnergy p (fastest p)) (unit .exponent) = rw (← e) least in
@@ -147,7 +159,8 @@ module _ {q : Request} {loads energies load₀ cost₀ work₀ : List ℕ} (g : 
       }
 
   -- A unit is in hand.
-  module _ {first columns : ℕ} {unit : Power} {cost₁ work₁ : List ℕ} (w : Trying q loads energies work₀ first cost₁ work₁ unit columns) where
+  module _ {first columns : ℕ} {unit : Power} {cost₁ work₁ : List ℕ}
+      (w : Trying q loads energies work₀ first cost₁ work₁ unit columns) where
     columns-fit : (q .tasks + 1) * columns ≤ workWords (q .tasks) (q .slack)
     columns-fit = narrow-words (q .tasks) (q .slack) columns (w .narrow)
 
@@ -174,7 +187,8 @@ module _ {q : Request} {loads energies load₀ cost₀ work₀ : List ℕ} (g : 
       }
 
     module _ {load : List ℕ} (c : Written (cutOf loads (q .limit + 1)) 0 (q .tasks * 16) load₀ load)
-        {cost work : List ℕ} {k : ℕ} (u : UnitTabled (frameOf q (q .limit + 1) columns) (unit .exponent) energies load cost₁ work₁ cost work k) where
+        {cost work : List ℕ} {k : ℕ}
+        (u : UnitTabled (frameOf q (q .limit + 1) columns) (unit .exponent) energies load cost₁ work₁ cost work k) where
       abbrev last-entry : ℕ → ℕ
       last-entry = entryOf (frameOf q (q .limit + 1) columns) cost load (q .tasks)
 

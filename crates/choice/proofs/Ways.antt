@@ -100,7 +100,8 @@ module _ {f : Frame} {column : ℕ} {cost load d plan₀ : List ℕ} (g : WayRea
               → Follow f cost load (i - 1) (e - k) P → Follow f cost load (f .tasks) column P
           leads P s y =
               let here : getD P (i - 1) 0 ≡ r =
-              s (i - 1) (omega arith) (omega (arith, w .tasks)) ∙ getD-set-same plan (i - 1) r 0 (omega (arith, w .same, w .tasks, g .room)) in
+              s (i - 1) (omega arith) (omega (arith, w .tasks)) ∙ getD-set-same plan (i - 1) r 0
+              (omega (arith, w .same, w .tasks, g .room)) in
               let c : optionAt cost (i - 1) (getD P (i - 1) 0) ≡ k = ap (optionAt cost (i - 1)) here ∙ sym q in
               let step : Follow f cost load (i - 1 + 1) e P =
               way-step (optionAt cost) (optionAt load) (f .rates) (f .cap) (i - 1) e P (here ∙ is)
@@ -109,7 +110,8 @@ module _ {f : Frame} {column : ℕ} {cost load d plan₀ : List ℕ} (g : WayRea
               (subst (λ (x : ℕ). Follow f cost load x e P) (sym one-more) step)
 
   -- With no task left the plan list is the way back.
-  pub way-whole : {plan : List ℕ} {e i start : ℕ} → OnWay f column cost load plan₀ plan e i start → i ≡ 0 → WayTaken f column cost load plan₀ plan
+  pub way-whole : {plan : List ℕ} {e i start : ℕ} → OnWay f column cost load plan₀ plan e i start → i ≡ 0
+      → WayTaken f column cost load plan₀ plan
   way-whole {plan} {e} {i} {start} w z = record {
     same = w .same;
     way =

@@ -61,7 +61,8 @@ put-next f m t r d e p = record {
 pub both-none : (layout : Layout) (s : List ℕ) (m : ℕ) → LaidBoth layout s m 0 1 (replicate 512 0) (replicate 512 0)
 both-none layout s m = record { loads = put-none (taskLoad layout s) m; energies = put-none (taskEnergy layout s) m }
 
-pub both-next : (layout : Layout) (s : List ℕ) (m t r : ℕ) (ls es : List ℕ) → r ≡ m + 1 → LaidBoth layout s m t r ls es → LaidBoth layout s m (t + 1) 1 ls es
+pub both-next : (layout : Layout) (s : List ℕ) (m t r : ℕ) (ls es : List ℕ) → r ≡ m + 1 → LaidBoth layout s m t r ls es
+    → LaidBoth layout s m (t + 1) 1 ls es
 both-next layout s m t r ls es e b = record {
   loads = put-next (taskLoad layout s) m t r ls e (b .loads);
   energies = put-next (taskEnergy layout s) m t r es e (b .energies);
@@ -94,12 +95,17 @@ module _ {layout : Layout} {m l t : ℕ} {s : List ℕ} (g : TaskGiven layout m 
       load-fits x-is =
           let f = set-is .whole .rate-range r from rate-number .0 in
           let c = set-is .whole .cycles-range t (g .of-task .task) .1 in
-          omega (arith, mul-le-mul {n₁ = l / p} {m₁ = x} {n₂ = hyperLimit} {m₂ = 4000000000} jobs-few (omega (arith, x-is, job-time-fits _ _ f c)))
+          omega (
+            arith,
+            mul-le-mul {n₁ = l / p} {m₁ = x} {n₂ = hyperLimit} {m₂ = 4000000000} jobs-few
+                (omega (arith, x-is, job-time-fits _ _ f c)),
+          )
 
       pub energy-fits : y ≡ energy layout s t r → l / p * y ≤ hyperLimit * 1000000
       energy-fits y-is = rw (g .hyper, p-is, y-is) (task-energy-small layout s set-is t r (g .of-task .task) from rate-number)
 
-      pub both-more : (ls es : List ℕ) → x ≡ jobTime layout s t r → y ≡ energy layout s t r → LaidBoth layout s m t r ls es
+      pub both-more : (ls es : List ℕ) → x ≡ jobTime layout s t r → y ≡ energy layout s t r
+          → LaidBoth layout s m t r ls es
           → LaidBoth layout s m t (r + 1) (set ls (t * 16 + r) (l / p * x)) (set es (t * 16 + r) (l / p * y))
       both-more ls es x-is y-is b = record {
         loads =

@@ -36,17 +36,23 @@ use Rattle.planner.specs.Answers.{RateNumbers, PlannerCall}
 use Rattle.options.specs.Options.{LaidBoth, TasksGiven}
 
 -- What meets document 01's definition keeps what demand 3 asks of it.
-called : (s plan work plan′ work′ : List ℕ) (a : PlannerAnswer) → PlannerGives s plan work plan′ work′ a → RateNumbers s plan′ a → PlannerCall s plan work plan′ work′ a
+called : (s plan work plan′ work′ : List ℕ) (a : PlannerAnswer) → PlannerGives s plan work plan′ work′ a
+    → RateNumbers s plan′ a → PlannerCall s plan work plan′ work′ a
 called s plan work plan′ work′ a g n = record { gives = g; numbers = n; owes = answer-owes s plan work plan′ work′ a g }
 
 -- A refusal leaves the lists as they were.
-refused : (s plan work : List ℕ) (r : Refusal) → Refuses (plannerChecks s (length plan) (length work)) (number r) (second r) → PlannerCall s plan work plan work (NotPlanned r)
+refused : (s plan work : List ℕ) (r : Refusal)
+    → Refuses (plannerChecks s (length plan) (length work)) (number r) (second r)
+    → PlannerCall s plan work plan work (NotPlanned r)
 refused s plan work r h = called s plan work plan work (NotPlanned r) (h, refl, refl) tt
 
 -- A refusal by checks 2 to 6 is the call's.
-pub ready-refused : (s plan work : List ℕ) (r : Refusal) → SetAfter (readyChecks s (length plan) (length work)) Ordinary s (NotGood r) → PlannerCall s plan work plan work (NotPlanned r)
+pub ready-refused : (s plan work : List ℕ) (r : Refusal)
+    → SetAfter (readyChecks s (length plan) (length work)) Ordinary s (NotGood r)
+    → PlannerCall s plan work plan work (NotPlanned r)
 ready-refused s plan work r h =
-    refused s plan work r (refuses-before (readyChecks s (length plan) (length work)) (noneCheck (Fitting (problem s))) (number r) (second r) h)
+    refused s plan work r
+    (refuses-before (readyChecks s (length plan) (length work)) (noneCheck (Fitting (problem s))) (number r) (second r) h)
 
 -- Where a list is not too short, it is long enough.
 long-enough : (needed lent : ℕ) → ((k : ℕ) → IsShort needed lent k → ⊥) → needed ≤ lent
@@ -154,7 +160,8 @@ module _ {s plan work : List ℕ} {m n l : ℕ} (prepared : Prepared s plan work
               }
 
           -- What was chosen is what document 01 selects.
-          module _ {plan′ work′ : List ℕ} {c : Choice} (chose : Chose (request g) loads energies plan work plan′ work′ c) where
+          module _ {plan′ work′ : List ℕ} {c : Choice}
+              (chose : Chose (request g) loads energies plan work plan′ work′ c) where
             plan-is : IsPlan chosenFrom (take n plan′)
             plan-is = chose .planned .chosen .ok .plan
 
@@ -163,7 +170,8 @@ module _ {s plan work : List ℕ} {m n l : ℕ} (prepared : Prepared s plan work
               exponent = chose .exponent;
               planned =
                   rw (← g-is)
-                  (planned-same chosenFrom (problem s) same (omega (arith, rates-range .0)) g (chose .exponent) (take n plan′) (chose .planned));
+                  (planned-same chosenFrom (problem s) same (omega (arith, rates-range .0)) g (chose .exponent)
+                  (take n plan′) (chose .planned));
               values-are =
                   cc (
                     chose .unit-is,
@@ -187,4 +195,6 @@ module _ {s plan work : List ℕ} {m n l : ℕ} (prepared : Prepared s plan work
                 record { from-1 = low; to-m = high; place = omega arith }
 
             pub chosen-given : PlannerCall s plan work plan′ work′ (Planned (c .unit) (c .load) l (c .energy))
-            chosen-given = called s plan work plan′ work′ (Planned (c .unit) (c .load) l (c .energy)) (accepts, (take n plan′, selected, holds), cleared) numbers
+            chosen-given =
+                called s plan work plan′ work′ (Planned (c .unit) (c .load) l (c .energy))
+                (accepts, (take n plan′, selected, holds), cleared) numbers

@@ -35,12 +35,14 @@ module _ {f : Frame} {start e i : ℕ} {cost load d : List ℕ} (g : RateReady f
 
     -- A rate that does not make the entry is not the one.
     pub rate-pass : (r : ℕ) → r ≤ rateOf f cost load i e
-        → (optionAt cost i r ≤ e → getD d (start + (e - optionAt cost i r)) 0 + optionAt load i r ≡ v → ⊥) → r + 1 ≤ rateOf f cost load i e
+        → (optionAt cost i r ≤ e → getD d (start + (e - optionAt cost i r)) 0 + optionAt load i r ≡ v → ⊥)
+        → r + 1 ≤ rateOf f cost load i e
     rate-pass r l unmade =
         ⊎-elim
         (λ (q : r ≡ rateOf f cost load i e).
         let s : Sound (optionAt cost) (optionAt load) (f .rates) (f .cap) i e r = rw q sound in
-        absurd (unmade (s .allowed) (ap (λ (x : ℕ). x + optionAt load i r) (prev (e - optionAt cost i r) (omega arith)) ∙ s .sum ∙ sym makes)))
+        absurd
+        (unmade (s .allowed) (ap (λ (x : ℕ). x + optionAt load i r) (prev (e - optionAt cost i r) (omega arith)) ∙ s .sum ∙ sym makes)))
         (λ (q : r < rateOf f cost load i e). omega arith)
         (eq-or-lt-of-le l)
 

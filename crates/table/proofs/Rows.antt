@@ -66,19 +66,22 @@ module _ {f : Frame} {start i : ℕ} {cost load d₀ : List ℕ} (g : RowReady f
             );
       }
         where
-          read : (p : ℕ) → here + k ≤ p → p < end → getD d′ (p - (f .columns + k)) 0 ≡ entryOf f cost load i (p - (here + k))
+          read : (p : ℕ) → here + k ≤ p → p < end
+              → getD d′ (p - (f .columns + k)) 0 ≡ entryOf f cost load i (p - (here + k))
           read p y z =
               t .below (p - (f .columns + k)) (omega arith) ∙ ap (λ (x : ℕ). getD d x 0) (omega arith) ∙
               row-prev (p - (here + k)) (omega arith)
 
       pub row-turn : {k : ℕ} {d″ : List ℕ} → 1 ≤ r → k ≡ optionAt cost i r
-          → Written (relaxed (f .columns + k) (optionAt load i r) d′) (here + k) end d′ d″ → RowTo f i cost load (r + 1) here end d d″
+          → Written (relaxed (f .columns + k) (optionAt load i r) d′) (here + k) end d′ d″
+          → RowTo f i cost load (r + 1) here end d d″
       row-turn {k} {d″} l q u = record {
         same = u .same ∙ t .same;
         here = λ p x y.
             ⊎-elim
             (λ (h : p < here + k).
-            u .below p h ∙ t .here p x y ∙ sym (least-skip (optionAt cost) (optionAt load) (f .rates) (f .cap) i (p - here) r (omega arith)))
+            u .below p h ∙ t .here p x y ∙ sym
+            (least-skip (optionAt cost) (optionAt load) (f .rates) (f .cap) i (p - here) r (omega arith)))
             (λ (h : here + k ≤ p).
             u .here p h y ∙ ap₂ min (t .here p x y) (offered p h y) ∙
             sym (least-step (optionAt cost) (optionAt load) (f .rates) (f .cap) i (p - here) r l (omega arith)))
@@ -111,7 +114,8 @@ next-row i columns = rw (add-one i) (suc-mul i columns)
 place-before : (columns k i e : ℕ) → k ≤ i → e < columns → k * columns + e < i * columns + columns
 place-before columns k i e h l = omega (arith, mul-le-mul-right columns h)
 
-pub row-within : (columns i tasks words : ℕ) → i < tasks → (tasks + 1) * columns ≤ words → i * columns + columns + columns ≤ words
+pub row-within : (columns i tasks words : ℕ) → i < tasks → (tasks + 1) * columns ≤ words
+    → i * columns + columns + columns ≤ words
 row-within columns i tasks words h l =
     omega (arith, mul-le-mul-right {m = i + 1} {n = tasks} columns (omega arith), next-row i columns, next-row tasks columns)
 
@@ -149,7 +153,8 @@ module _ {f : Frame} {cost load : List ℕ} where
           ap (λ (y : ℕ). getD d′ (y * f .columns + e) 0) (eq k h s) ∙ new e x ∙ ap (λ (y : ℕ). entryOf f cost load y e) (sym (eq k h s)))
           (lt-or-le k (i + 1));
       above = λ p h.
-          r .above p (omega (arith, next-row i (f .columns), next-row (i + 1) (f .columns))) ∙ w .above p (omega (arith, next-row (i + 1) (f .columns)));
+          r .above p (omega (arith, next-row i (f .columns), next-row (i + 1) (f .columns))) ∙ w .above p
+          (omega (arith, next-row (i + 1) (f .columns)));
     }
       where
         eq : (k : ℕ) → k ≤ i + 1 → i + 1 ≤ k → k ≡ i + 1
@@ -157,11 +162,13 @@ module _ {f : Frame} {cost load : List ℕ} where
 
         new : RowAt f ((i + 1) * f .columns) (i + 1) cost load d′
         new e x =
-            ap (λ (y : ℕ). getD d′ y 0) (omega (arith, next-row i (f .columns))) ∙ r .here (start + f .columns + e) (omega arith) (omega arith) ∙
+            ap (λ (y : ℕ). getD d′ y 0) (omega (arith, next-row i (f .columns))) ∙ r .here (start + f .columns + e)
+            (omega arith) (omega arith) ∙
             ap (entryOf f cost load (i + 1)) (omega arith)
 
   -- What lies above the table is as it was before the first row was written.
-  pub table-end : {i : ℕ} {d₀ d d′ : List ℕ} → i ≡ f .tasks → Written (λ p. 0) 0 (f .columns) d₀ d → Tabled f i cost load d d′
+  pub table-end : {i : ℕ} {d₀ d d′ : List ℕ} → i ≡ f .tasks → Written (λ p. 0) 0 (f .columns) d₀ d
+      → Tabled f i cost load d d′
       → Tabled f (f .tasks) cost load d₀ d′
   table-end q w r = record {
     same = r .same ∙ w .same;

@@ -92,7 +92,8 @@ module _ {k : ℕ → Task} {n end t late next : ℕ} {s : State} (v : AtTick k 
   }
 
 -- A task's turn: `next` is then the lesser of what it was and that task's next release.
-pub turn-over : {k : ℕ → Task} {n t i late next next′ : ℕ} {s s′ : State} → AtTask k n t i late next s → i < n → Part k n t (i + 1) (s′ .left) (s′ .due) →
+pub turn-over : {k : ℕ → Task} {n t i late next next′ : ℕ} {s s′ : State} → AtTask k n t i late next s → i < n
+    → Part k n t (i + 1) (s′ .left) (s′ .due) →
     Counted k n t s′ → Early n (s′ .left) (s′ .due) → ((j : ℕ) → j < i → getD (s′ .due) j 0 ≡ getD (s .due) j 0) → s′ .known ≡ 0 →
     next′ ≡ min next (getD (s′ .due) i 0) → AtTask k n t (i + 1) late next′ s′
 turn-over {i = i} v h part counts early same none e = record {
@@ -118,7 +119,8 @@ module _ {k : ℕ → Task} {n t i late next : ℕ} {s : State} (v : AtTask k n 
     preempted-room = omega (arith, preempted-fits (v .counts));
   }
 
-  pub next-tick : {end late₀ next₀ : ℕ} {s₀ r : State} → AtTick k n end t late₀ next₀ s₀ → i ≡ n → (t ≡ end → ⊥) → Ticked n s r → AtTick k n end (t + 1) late next r
+  pub next-tick : {end late₀ next₀ : ℕ} {s₀ r : State} → AtTick k n end t late₀ next₀ s₀ → i ≡ n → (t ≡ end → ⊥)
+      → Ticked n s r → AtTick k n end (t + 1) late next r
   next-tick {end} u e ne r =
       let ks = tasksFrom k 0 n in
       let a = part-end e (v .part) in

@@ -43,14 +43,16 @@ coming-later k t d c ne =
     (eq-or-lt-of-le (c .reached))
 
 -- ---- a release
-release-full : (t : ℕ) (j : Job) (e : ℕ) → 0 < e → released t j e ≡ record { task = j .task; left = e; due = t + j .task .period }
+release-full : (t : ℕ) (j : Job) (e : ℕ) → 0 < e
+    → released t j e ≡ record { task = j .task; left = e; due = t + j .task .period }
 release-full t j zero h = absurd (omega arith)
 release-full t j (suc e) h = refl
 
 abbrev pub jobAt : (ℕ → Task) → List ℕ → List ℕ → ℕ → Job
 jobAt k l d i = record { task = k i; left = getD l i 0; due = getD d i 0 }
 
-jobs-snoc : (k : ℕ → Task) (l d : List ℕ) (i m : ℕ) → jobsFrom k l d i (suc m) ≡ jobsFrom k l d i m ++ (jobAt k l d (i + m) ∷ [])
+jobs-snoc : (k : ℕ → Task) (l d : List ℕ) (i m : ℕ)
+    → jobsFrom k l d i (suc m) ≡ jobsFrom k l d i m ++ (jobAt k l d (i + m) ∷ [])
 jobs-snoc k l d i zero = ap (λ (x : ℕ). jobAt k l d x ∷ []) (sym (add-zero i))
 jobs-snoc k l d i (suc m) =
     ap (λ (r : List Job). jobAt k l d i ∷ r)
@@ -91,7 +93,9 @@ pending ks (suc t) = cond (ltb (ran ks t) (length ks) && ltb 0 (leftAt (before k
 
 preempted-few : (ks : List Task) (t : ℕ) → preemptedAt ks t ≤ 1
 preempted-few ks zero = omega arith
-preempted-few ks (suc t) = count-few (ltb (ran ks (suc t)) (length ks) && (not (eqb (ran ks (suc t)) (ran ks t)) && ltb 0 (leftAt (before ks (suc t)) (ran ks t))))
+preempted-few ks (suc t) =
+    count-few
+    (ltb (ran ks (suc t)) (length ks) && (not (eqb (ran ks (suc t)) (ran ks t)) && ltb 0 (leftAt (before ks (suc t)) (ran ks t))))
 
 -- the definition's preemption, by what is pending
 cut-cases : (n a b : ℕ) (y z : Bool) → ltb b n ≡ y → (y ≡ false → z ≡ false) →
@@ -110,10 +114,18 @@ pub record Counted (k : ℕ → Task) (n t : ℕ) (s : State) : Type 0 where
 
 module _ {k : ℕ → Task} {n t : ℕ} {s : State} (c : Counted k n t s) where
   pub busy-fits : s .busy ≤ t
-  busy-fits = omega (arith, c .busy, over-few (busyAt (tasksFrom k 0 n)) (λ u. count-few (ltb (ran (tasksFrom k 0 n) u) (length (tasksFrom k 0 n)))) 0 t)
+  busy-fits =
+      omega
+      (arith, c .busy, over-few (busyAt (tasksFrom k 0 n)) (λ u. count-few (ltb (ran (tasksFrom k 0 n) u) (length (tasksFrom k 0 n)))) 0 t)
 
   pub idle-fits : s .idle ≤ t
-  idle-fits = omega (arith, c .idle, over-few (idleAt (tasksFrom k 0 n)) (λ u. count-few (not (ltb (ran (tasksFrom k 0 n) u) (length (tasksFrom k 0 n))))) 0 t)
+  idle-fits =
+      omega (
+        arith,
+        c .idle,
+        over-few (idleAt (tasksFrom k 0 n))
+            (λ u. count-few (not (ltb (ran (tasksFrom k 0 n) u) (length (tasksFrom k 0 n))))) 0 t,
+      )
 
   pub preempted-fits : s .preempted ≤ t
   preempted-fits = omega (arith, c .preempted, over-few (preemptedAt (tasksFrom k 0 n)) (preempted-few (tasksFrom k 0 n)) 0 t)
@@ -174,7 +186,8 @@ module _ {k : ℕ → Task} {n t i : ℕ} {l d : List ℕ} (h : i < n) (s : Part
       })
 
   -- a release at place i, of a task that is done
-  pub part-take : i < length l → i < length d → Steady (k i) → getD d i 0 ≡ t → getD l i 0 ≤ 0 → Part k n t (i + 1) (set l i (k i .time)) (set d i (t + k i .period))
+  pub part-take : i < length l → i < length d → Steady (k i) → getD d i 0 ≡ t → getD l i 0 ≤ 0
+      → Part k n t (i + 1) (set l i (k i .time)) (set d i (t + k i .period))
   part-take hl hd st q z =
       let v = k i .time in
       let w = t + k i .period in
@@ -195,16 +208,19 @@ module _ {k : ℕ → Task} {n t i : ℕ} {l d : List ℕ} (h : i < n) (s : Part
       })
 
   -- a release at place i, of a task with work left
-  pub part-miss : Steady (k i) → getD d i 0 ≡ t → 0 < getD l i 0 → (misses (tasksFrom k 0 n) t ≡ true) × (lateTask t (before (tasksFrom k 0 n) t) ≡ i + 1)
+  pub part-miss : Steady (k i) → getD d i 0 ≡ t → 0 < getD l i 0
+      → (misses (tasksFrom k 0 n) t ≡ true) × (lateTask t (before (tasksFrom k 0 n) t) ≡ i + 1)
   part-miss st eq z =
       let q : n - i ≡ suc (n - suc i) = omega arith in
       let full : k i .arrives t ≡ k i .time = ap (k i .arrives) (sym eq) ∙ s .ahead i (omega arith) h .there in
       let some = st .some in
-      let test : (ltb 0 (k i .arrives t) && ltb 0 (getD l i 0)) ≡ true = rw (lt-ltb 0 (k i .arrives t) (omega arith), lt-ltb 0 (getD l i 0) z) refl in
+      let test : (ltb 0 (k i .arrives t) && ltb 0 (getD l i 0)) ≡ true = rw
+      (lt-ltb 0 (k i .arrives t) (omega arith), lt-ltb 0 (getD l i 0) z) refl in
       (sym (s .late) ∙ rw (q, test) refl, sym (s .first) ∙ rw (q, test) refl)
 
 -- no task releases at this tick
-pub part-skip : {k : ℕ → Task} {n t i : ℕ} {l d : List ℕ} (m : ℕ) → i + m ≡ n → ((j : ℕ) → j < n → getD d j 0 ≡ t → ⊥) → Part k n t i l d → Part k n t n l d
+pub part-skip : {k : ℕ → Task} {n t i : ℕ} {l d : List ℕ} (m : ℕ) → i + m ≡ n → ((j : ℕ) → j < n → getD d j 0 ≡ t → ⊥)
+    → Part k n t i l d → Part k n t n l d
 part-skip {k} {n} {t} {i} {l} {d} zero z h s = let q : i ≡ n = omega arith in subst (λ (x : ℕ). Part k n t x l d) q s
 part-skip (suc m) z h s = part-skip m (omega arith) h (part-pass (omega arith) s (h _ (omega arith)))
 
@@ -222,7 +238,8 @@ part-end {k} {n} {t} {i} {l} {d} q s =
       coming = λ j x. s .passed j (omega arith);
     }
 
-preempted-is : (k : ℕ → Task) (n t : ℕ) (b last : ℕ) → ran (tasksFrom k 0 n) t ≡ b → last ≡ pending (tasksFrom k 0 n) t → preemptedAt (tasksFrom k 0 n) t ≡ cuts n b last
+preempted-is : (k : ℕ → Task) (n t : ℕ) (b last : ℕ) → ran (tasksFrom k 0 n) t ≡ b → last ≡ pending (tasksFrom k 0 n) t
+    → preemptedAt (tasksFrom k 0 n) t ≡ cuts n b last
 unfolding cuts
 preempted-is k n zero b last e p =
     let z = length-tasks k 0 n in
@@ -235,7 +252,8 @@ preempted-is k n (suc t) b last e p =
     (cut-cases n (ran ks (suc t)) (ran ks t) (ltb (ran ks t) n) (ltb 0 (leftAt (before ks (suc t)) (ran ks t))) refl
     (λ f. le-ltb 0 (leftAt (before ks (suc t)) (ran ks t)) (let g = ltb-false (ran ks t) n f in omega (arith, left-past (before ks (suc t)) (ran ks t) (omega arith)))))
 
-stays-is : (k : ℕ → Task) (l d : List ℕ) (n b : ℕ) → stays n l b ≡ cond (ltb b n && ltb 0 (leftAt (jobsFrom k l d 0 n) b)) b n
+stays-is : (k : ℕ → Task) (l d : List ℕ) (n b : ℕ)
+    → stays n l b ≡ cond (ltb b n && ltb 0 (leftAt (jobsFrom k l d 0 n) b)) b n
 unfolding stays
 stays-is k l d n b =
     ⊎-elim
@@ -244,7 +262,8 @@ stays-is k l d n b =
     (bool-cases (ltb b n))
 
 -- a tick after the releases
-pub held-next : {k : ℕ → Task} {n t : ℕ} {s r : State} → n ≤ length (s .left) → AfterReleases k n t (s .left) (s .due) → Counted k n t s → Ticked n s r → Held k n (t + 1) r
+pub held-next : {k : ℕ → Task} {n t : ℕ} {s r : State} → n ≤ length (s .left) → AfterReleases k n t (s .left) (s .due)
+    → Counted k n t s → Ticked n s r → Held k n (t + 1) r
 held-next {k} {n} {t} {s} {r} h a c w =
     let ks = tasksFrom k 0 n in
     let b = picked (s .left) (s .due) n in
@@ -268,7 +287,8 @@ held-next {k} {n} {t} {s} {r} h a c w =
     })
 
 -- ---- the whole walk, from tick t with m to go
-pub walkFrom-miss : (ks : List Task) (t m : ℕ) → misses ks t ≡ true → walkFrom ks t m ≡ missed t (lateTask t (before ks t))
+pub walkFrom-miss : (ks : List Task) (t m : ℕ) → misses ks t ≡ true
+    → walkFrom ks t m ≡ missed t (lateTask t (before ks t))
 walkFrom-miss ks t zero e = rw e refl
 walkFrom-miss ks t (suc m) e = rw e refl
 
@@ -280,16 +300,19 @@ pub walkFrom-kept : (ks : List Task) (t : ℕ) → misses ks t ≡ false →
 walkFrom-kept ks t e = rw e refl
 
 -- ---- before tick 0
-fresh-jobs : (k : ℕ → Task) (l d : List ℕ) (i n : ℕ) → ((j : ℕ) → j < i + n → (getD l j 0 ≡ 0) × (getD d j 0 ≡ 0)) → jobsFrom k l d i n ≡ map fresh (tasksFrom k i n)
+fresh-jobs : (k : ℕ → Task) (l d : List ℕ) (i n : ℕ) → ((j : ℕ) → j < i + n → (getD l j 0 ≡ 0) × (getD d j 0 ≡ 0))
+    → jobsFrom k l d i n ≡ map fresh (tasksFrom k i n)
 fresh-jobs k l d i zero h = refl
 fresh-jobs k l d i (suc n) h =
     let q = h i (omega arith) in
     rw (q .0, q .1) (ap (λ (r : List Job). fresh (k i) ∷ r) (fresh-jobs k l d (suc i) n (λ j x. h j (omega arith))))
 
-pub held-start : {k : ℕ → Task} {n : ℕ} {s : State} → n ≤ 32 → ((j : ℕ) → k j .arrives 0 ≡ k j .time) → Begun n s → Held k n 0 s
+pub held-start : {k : ℕ → Task} {n : ℕ} {s : State} → n ≤ 32 → ((j : ℕ) → k j .arrives 0 ≡ k j .time) → Begun n s
+    → Held k n 0 s
 held-start {k} {n} {s} few full b =
     let none : (j : ℕ) → j < n → _≡_ {A = ℕ} (getD (replicate 32 0) j 0) 0 = λ j x. getD-replicate 32 j 0 0 (omega arith) in record {
-      jobs = rw (b .left, b .due) (fresh-jobs k (replicate 32 0) (replicate 32 0) 0 n (λ j x. (none j (omega arith), none j (omega arith))));
+      jobs =
+          rw (b .left, b .due) (fresh-jobs k (replicate 32 0) (replicate 32 0) 0 n (λ j x. (none j (omega arith), none j (omega arith))));
       coming = λ j x. rw (b .due, none j x) (record { reached = omega arith; quiet = λ u y z. absurd (omega arith); there = full j });
       counts = record { busy = b .busy; idle = b .idle; preempted = b .preempted; last = b .last ∙ sym (length-tasks k 0 n) };
     }

@@ -63,7 +63,8 @@ unfoldable pub scanned : List ℕ → List ℕ → ℕ → ℕ → ℕ → ℕ �
 scanned left due n b d i = scan b d i (jobsFrom blank left due i (n - i))
 
 -- where all deadlines are before M and none is sooner, all jobs are finished
-idle-pick : (l d : List ℕ) (M i n : ℕ) → ((j : ℕ) → i ≤ j → j < i + n → getD d j 0 < M) → sooner M (jobsFrom blank l d i n) ≡ false → pick (jobsFrom blank l d i n) ≡ n
+idle-pick : (l d : List ℕ) (M i n : ℕ) → ((j : ℕ) → i ≤ j → j < i + n → getD d j 0 < M)
+    → sooner M (jobsFrom blank l d i n) ≡ false → pick (jobsFrom blank l d i n) ≡ n
 idle-pick l d M i zero h e = refl
 idle-pick l d M i (suc n) h e =
     let o = or-false (ltb 0 (getD l i 0) && ltb (getD d i 0) M) (sooner M (jobsFrom blank l d (suc i) n)) e in

@@ -33,7 +33,8 @@ picked-is k l d n = pick-same blank k l l d 0 n (λ j. refl)
 
 -- ---- arrays that agree on a stretch hold the same jobs there
 pub jobs-same : (k : ℕ → Task) (l d l′ d′ : List ℕ) (i n : ℕ) →
-    ((j : ℕ) → i ≤ j → j < i + n → (getD l j 0 ≡ getD l′ j 0) × (getD d j 0 ≡ getD d′ j 0)) → jobsFrom k l d i n ≡ jobsFrom k l′ d′ i n
+    ((j : ℕ) → i ≤ j → j < i + n → (getD l j 0 ≡ getD l′ j 0) × (getD d j 0 ≡ getD d′ j 0))
+    → jobsFrom k l d i n ≡ jobsFrom k l′ d′ i n
 jobs-same k l d l′ d′ i zero h = refl
 jobs-same k l d l′ d′ i (suc n) h =
     let q = h i (omega arith) (omega arith) in
@@ -55,7 +56,11 @@ jobs-work k l d b i zero h q = absurd (omega arith)
 jobs-work k l d zero i (suc n) h q =
     rw (add-zero i)
     (let e = getD-set-same l i (pred (getD l i 0)) 0 (omega arith) in
-    rw (e, jobs-same k (set l i (pred (getD l i 0))) d l d (suc i) n (λ j a c. (getD-set-other l i j (pred (getD l i 0)) 0 (λ z. absurd (omega arith)), refl))) refl)
+    rw (
+      e,
+      jobs-same k (set l i (pred (getD l i 0))) d l d (suc i) n
+          (λ j a c. (getD-set-other l i j (pred (getD l i 0)) 0 (λ z. absurd (omega arith)), refl)),
+    ) refl)
 jobs-work k l d (suc b) i (suc n) h q =
     let e : i + suc b ≡ suc i + b = omega arith in
     rw e
@@ -67,7 +72,8 @@ work-past [] b h = refl
 work-past (j ∷ js) zero h = absurd (omega arith)
 work-past (j ∷ js) (suc b) h = ap (λ (r : List Job). j ∷ r) (work-past js b (omega arith))
 
-pub worked-run : (k : ℕ → Task) (l d : List ℕ) (n : ℕ) → n ≤ length l → jobsFrom k (worked n l (picked l d n)) d 0 n ≡ run (jobsFrom k l d 0 n)
+pub worked-run : (k : ℕ → Task) (l d : List ℕ) (n : ℕ) → n ≤ length l
+    → jobsFrom k (worked n l (picked l d n)) d 0 n ≡ run (jobsFrom k l d 0 n)
 unfolding worked
 worked-run k l d n h =
     rw (picked-is k l d n)

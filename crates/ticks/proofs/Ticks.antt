@@ -45,7 +45,8 @@ ticked-idle n s e = record {
   sure = λ h. sym e;
 }
 
-module _ (n : ℕ) (s : State) (b : ℕ) (e : picked (s .left) (s .due) n ≡ b) (h : b < n) (room : b < length (s .left)) where
+module _ (n : ℕ) (s : State) (b : ℕ) (e : picked (s .left) (s .due) n ≡ b) (h : b < n)
+    (room : b < length (s .left)) where
   -- The ticks left after the tick.
   abbrev rest : ℕ
   rest = getD (s .left) b 0 - 1
@@ -53,7 +54,8 @@ module _ (n : ℕ) (s : State) (b : ℕ) (e : picked (s .left) (s .due) n ≡ b)
   abbrev after : List ℕ
   after = set (s .left) b rest
 
-  ticked-busy : (last known : ℕ) → last ≡ stays n after b → known ≡ surely n after b → (0 < known → last ≡ picked after (s .due) n) →
+  ticked-busy : (last known : ℕ) → last ≡ stays n after b → known ≡ surely n after b
+      → (0 < known → last ≡ picked after (s .due) n) →
       Ticked n s (record { left = after; due = s .due; busy = s .busy + 1; idle = s .idle; preempted = s .preempted + cuts n b (s .last); last = last; known = known })
   ticked-busy last known z y u = record {
     left = rw e (ap (set (s .left) b) (omega arith) ∙ sym (worked-some n (s .left) b h));
@@ -83,7 +85,8 @@ module _ (n : ℕ) (s : State) (b : ℕ) (e : picked (s .left) (s .due) n ≡ b)
       (λ x. sym e ∙ sym (picked-again (s .left) (s .due) n b rest room (omega arith) some))
 
 -- The arrays stay early.
-pub early-set : (n : ℕ) (l d : List ℕ) (i v w : ℕ) → i < 32 → w < 4294967295 → Early n l d → Early n (set l i v) (set d i w)
+pub early-set : (n : ℕ) (l d : List ℕ) (i v w : ℕ) → i < 32 → w < 4294967295 → Early n l d
+    → Early n (set l i v) (set d i w)
 early-set n l d i v w h q s = record {
   few = s .few;
   lefts = length-set l i v ∙ s .lefts;

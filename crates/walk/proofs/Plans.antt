@@ -62,5 +62,6 @@ pub holds-more : (f : ℕ → ℕ) (t v : ℕ) (r : List ℕ) → t < 32 → v �
 holds-more f t v r l e h = record {
   size = length-set r t v ∙ h .size;
   at = rw (add-one t)
-      (below-more (λ j q. rw (getD-set-other r t j v 0 (λ z. absurd (omega arith))) (h .at j q)) (rw (getD-set-same r t v 0 (omega (arith, h .size))) e));
+      (below-more (λ j q. rw (getD-set-other r t j v 0 (λ z. absurd (omega arith))) (h .at j q))
+      (rw (getD-set-same r t v 0 (omega (arith, h .size))) e));
 }

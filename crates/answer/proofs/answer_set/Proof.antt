@@ -38,7 +38,8 @@ planned-set p = set-of (checked p .before .before)
 
 -- What checks 2 to 6 gave.
 ready : (c : tie.After-rates) → let s = set-of (c .before .before) in
-    SetAfter (readyChecks s planLent workLent) Ordinary s (Good (c .rates .given .0 .0) (c .rates .given .0 .1 .0) (c .rates .given .0 .1 .1 .0))
+    SetAfter (readyChecks s planLent workLent) Ordinary s
+    (Good (c .rates .given .0 .0) (c .rates .given .0 .1 .0) (c .rates .given .0 .1 .1 .0))
 ready c =
     let x = c .before .before in
     more-room (set-of x) _ _ planLent workLent _ _ _ (omega arith) (omega arith)
@@ -46,16 +47,19 @@ ready c =
 
 -- What the planner gave.
 abbrev Call : tie.After-plan-checked → PlannerAnswer → Type 0
-Call p = PlannerCall (planned-set p) (replicate planLent 0) (replicate workLent 0) (p .plan-checked .last .1 .0) (p .plan-checked .last .1 .1 .0)
+Call p =
+    PlannerCall (planned-set p) (replicate planLent 0) (replicate workLent 0) (p .plan-checked .last .1 .0) (p .plan-checked .last .1 .1 .0)
 
 plan-of : (c : tie.After-unit) → let p = called (c .before .before) in
     PlannedSet (planned-set p) (take (checked p .rates .given .0 .1 .0) (p .plan-checked .last .1 .0))
     (c .unit .given .0 .0) (c .unit .given .0 .1 .0) (c .unit .given .0 .1 .1 .0) (c .unit .given .0 .1 .1 .1 .0)
 plan-of c =
     let p = called (c .before .before) in
-    call-planned (planned-set p) _ _ _ _ refl refl _ _ _ _ _ (ready (checked p) .2) (subst (Call p) (c .unit .given .1) (p .plan-checked .ensures))
+    call-planned (planned-set p) _ _ _ _ refl refl _ _ _ _ _ (ready (checked p) .2)
+    (subst (Call p) (c .unit .given .1) (p .plan-checked .ensures))
 
-fits : (c : tie.After-unit) → let p = called (c .before .before) in checked p .rates .given .0 .1 .0 ≤ length (p .plan-checked .last .1 .0)
+fits : (c : tie.After-unit)
+    → let p = called (c .before .before) in checked p .rates .given .0 .1 .0 ≤ length (p .plan-checked .last .1 .0)
 fits c =
     let p = called (c .before .before) in
     omega (arith, ready (checked p) .2, tasks-few (planned-set p) (plan-of c .accepts), p .plan-checked .kept .1 .0)
@@ -108,7 +112,8 @@ returns c =
     let r = c .before .before .before in
     let s = set-of (r .before .before) in
     set-refused s _ _ _ (r .r .given .0 .0)
-    (ready-refused s (r .r .given .0 .0) (subst (SetAfter (readyChecks s planLent workLent) Ordinary s) (r .r .given .1) (r .before .before .ready .ensures)))
+    (ready-refused s (r .r .given .0 .0)
+    (subst (SetAfter (readyChecks s planLent workLent) Ordinary s) (r .r .given .1) (r .before .before .ready .ensures)))
     (c .put-refused .ensures)
 
 returns-2 : tie.Need-returns-2

@@ -27,12 +27,15 @@ called v = v .before .before .before .before
 
 -- What the checks gave, and what the planner gives.
 abbrev Ready : tie.After-ready → Checked → Type 0
-Ready y = let a = start y .args in SetAfter (readyChecks (a .set .now) (length (a .plan .now)) (length (a .work .now))) Ordinary (a .set .now)
+Ready y =
+    let a = start y .args in
+    SetAfter (readyChecks (a .set .now) (length (a .plan .now)) (length (a .work .now))) Ordinary (a .set .now)
 
 refused : (k : tie.After-checked) → Ready (k .before .before) (NotGood (k .checked .given .0 .0))
 refused k = subst (Ready (k .before .before)) (k .checked .given .1) (k .before .before .ready .ensures)
 
-good : (k : tie.After-checked2) → Ready (k .before .before) (Good (k .checked2 .given .0 .0) (k .checked2 .given .0 .1 .0) (k .checked2 .given .0 .1 .1 .0))
+good : (k : tie.After-checked2)
+    → Ready (k .before .before) (Good (k .checked2 .given .0 .0) (k .checked2 .given .0 .1 .0) (k .checked2 .given .0 .1 .1 .0))
 good k = subst (Ready (k .before .before)) (k .checked2 .given .1) (k .before .before .ready .ensures)
 
 abbrev Call : tie.After-plan-checked → PlannerAnswer → Type 0
@@ -93,7 +96,8 @@ returns-3 c =
     let m = c .before .before in
     let q = called (m .before .before) in
     let h = subst (Call q) (m .answer .given .1) (q .plan-checked .ensures) in
-    answer-refused _ _ _ _ _ _ (h .gives .1) (h .gives .2) (m .answer .given .0 .0) _ (c .code-of3 .ensures) (good (checked q) .0) (q .before .before .before .if1 .left) h
+    answer-refused _ _ _ _ _ _ (h .gives .1) (h .gives .2) (m .answer .given .0 .0) _ (c .code-of3 .ensures)
+    (good (checked q) .0) (q .before .before .before .if1 .left) h
 
 same-length-3 : tie.Need-same-length-3
 same-length-3 c = search needs

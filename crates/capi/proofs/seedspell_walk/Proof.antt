@@ -29,7 +29,8 @@ Ready r = let a = start r .args in SetAfter (walkChecks (a .set .now) (a .plan .
 refused : (k : tie.After-checked) → Ready (k .before .before) (NotGood (k .checked .given .0 .0))
 refused k = subst (Ready (k .before .before)) (k .checked .given .1) (k .before .before .ready .ensures)
 
-good : (k : tie.After-checked2) → Ready (k .before .before) (Good (k .checked2 .given .0 .0) (k .checked2 .given .0 .1 .0) (k .checked2 .given .0 .1 .1 .0))
+good : (k : tie.After-checked2)
+    → Ready (k .before .before) (Good (k .checked2 .given .0 .0) (k .checked2 .given .0 .1 .0) (k .checked2 .given .0 .1 .1 .0))
 good k = subst (Ready (k .before .before)) (k .checked2 .given .1) (k .before .before .ready .ensures)
 
 abbrev Call : tie.After-walk-checked → WalkAnswer → Type 0
@@ -67,7 +68,8 @@ enum-known-answer c = search needs
 code-of-requires-3 : tie.Need-code-of-requires-3
 code-of-requires-3 c κs =
     let f = c .before .answer .given .0 .0 in
-    walk-second-small _ (start (checked (c .before .before .before) .before .before) .args .plan .now) (number f) (second f) (none (c .before) .answers)
+    walk-second-small _ (start (checked (c .before .before .before) .before .before) .args .plan .now) (number f)
+    (second f) (none (c .before) .answers)
 
 enum-known-answer-2 : tie.Need-enum-known-answer-2
 enum-known-answer-2 c = search needs
@@ -87,7 +89,9 @@ returns-2 c = ready-refused _ _ _ (c .before .before .checked .given .0 .0) _ (c
 returns-3 : tie.Need-returns-3
 returns-3 c =
     let m = c .before .before in
-    absurd (walk-refused _ _ (start (checked (m .before .before) .before .before) .args .results .now) (m .answer .given .0 .0) (good (checked (m .before .before)) .0) (none m))
+    absurd
+    (walk-refused _ _ (start (checked (m .before .before) .before .before) .args .results .now) (m .answer .given .0 .0)
+    (good (checked (m .before .before)) .0) (none m))
 
 same-length : tie.Need-same-length
 same-length c = search needs
@@ -97,7 +101,8 @@ kept-results c =
     let v = c .before .before in
     let m = v .before .before .before in
     let w = m .before .before in
-    entry-kept _ _ _ (w .before .if1 .left) _ _ _ _ (subst (Call w) (m .answer2 .given .1) (w .walk-checked .ensures)) (v .put-values .ensures .bytes)
+    entry-kept _ _ _ (w .before .if1 .left) _ _ _ _ (subst (Call w) (m .answer2 .given .1) (w .walk-checked .ensures))
+    (v .put-values .ensures .bytes)
 
 same-length-2 : tie.Need-same-length-2
 same-length-2 c = search needs
@@ -107,7 +112,8 @@ missed-results c =
     let v = c .before .before in
     let m = v .before .before .before in
     let w = m .before .before in
-    entry-missed _ _ _ (w .before .if1 .left) _ _ _ (subst (Call w) (m .answer3 .given .1) (w .walk-checked .ensures)) (v .put-values2 .ensures .bytes)
+    entry-missed _ _ _ (w .before .if1 .left) _ _ _ (subst (Call w) (m .answer3 .given .1) (w .walk-checked .ensures))
+    (v .put-values2 .ensures .bytes)
 
 pub seedspell-walk-spec : {M : Type 1} → statement M
 seedspell-walk-spec =

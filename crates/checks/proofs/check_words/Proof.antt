@@ -33,23 +33,27 @@ counts : (x : tie.After-task-count-place) →
 counts x = counts-read _ _ (x .before .before .before .head-size .ensures) (x .task-count-place .ensures)
 
 -- Both are in their ranges, where the list is long enough to have them.
-rates : (e : tie.Else3) → let b = searched (e .before) in (2 ≤ rateCount (layout b) (list b)) × (rateCount (layout b) (list b) ≤ mostRates)
+rates : (e : tie.Else3)
+    → let b = searched (e .before) in (2 ≤ rateCount (layout b) (list b)) × (rateCount (layout b) (list b) ≤ mostRates)
 rates e = let b = searched (e .before) in
     rates-range _ _ _ (b .first-bad .ensures) (omega arith) (omega (arith, counts (e .before) .place))
 
-tasks : (e : tie.Else3) → let b = searched (e .before) in (1 ≤ taskCount (layout b) (list b)) × (taskCount (layout b) (list b) ≤ mostTasks)
+tasks : (e : tie.Else3)
+    → let b = searched (e .before) in (1 ≤ taskCount (layout b) (list b)) × (taskCount (layout b) (list b) ≤ mostTasks)
 tasks e = let b = searched (e .before) in
     tasks-range _ _ _ (b .first-bad .ensures) (omega arith) (omega (arith, counts (e .before) .place))
 
 -- The place after the last task's words is how many words the list must have.
-end-is : (p : tie.After-period-place) → let b = searched (counted p) in p .period-place .result ≡ wordCount (layout b) (list b)
+end-is : (p : tie.After-period-place)
+    → let b = searched (counted p) in p .period-place .result ≡ wordCount (layout b) (list b)
 end-is p =
     let f = counts (counted p) in
     let e = p .period-place .ensures in
     cc
 
 -- What the second search finds, in a list that has all its words.
-enough : (g : tie.After-first-fall) → let b = searched (counted (g .before .before)) in wordCount (layout b) (list b) ≤ length (list b)
+enough : (g : tie.After-first-fall)
+    → let b = searched (counted (g .before .before)) in wordCount (layout b) (list b) ≤ length (list b)
 enough g = omega (arith, end-is (g .before .before))
 
 fall : (g : tie.After-first-fall) → let b = searched (counted (g .before .before)) in
@@ -66,7 +70,8 @@ head-size-requires : tie.Need-head-size-requires
 head-size-requires c κs = search needs
 
 returns-2 : tie.Need-returns-2
-returns-2 c = missing-word _ _ _ (c .before .before .before .first-bad .ensures) (omega arith) (omega (arith, c .before .head-size .ensures))
+returns-2 c =
+    missing-word _ _ _ (c .before .before .before .first-bad .ensures) (omega arith) (omega (arith, c .before .head-size .ensures))
 
 mul-m : tie.Need-mul-m
 mul-m c = search needs
@@ -109,13 +114,15 @@ first-fall-requires c κs =
 returns-5 : tie.Need-returns-5
 returns-5 c =
     let x = counted (c .before .before .before) in
-    not-above _ _ _ (searched x .first-bad .ensures) (omega arith) (enough (c .before)) _ (fall (c .before)) (omega (arith, counts x .place))
+    not-above _ _ _ (searched x .first-bad .ensures) (omega arith) (enough (c .before)) _ (fall (c .before))
+    (omega (arith, counts x .place))
 
 returns-6 : tie.Need-returns-6
 returns-6 c =
     let x = counted (c .before .before .before) in
     let f = counts x in
-    rw (f .rates, f .tasks) (is-shape _ _ _ (searched x .first-bad .ensures) (omega arith) (enough (c .before)) _ (fall (c .before)) (omega arith))
+    rw (f .rates, f .tasks)
+    (is-shape _ _ _ (searched x .first-bad .ensures) (omega arith) (enough (c .before)) _ (fall (c .before)) (omega arith))
 
 pub check-words-spec : {M : Type 1} → statement M
 check-words-spec =

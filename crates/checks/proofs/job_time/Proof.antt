@@ -10,8 +10,11 @@ use Rattle.checks.proofs.job_time.Tie as tie
 ranges : (c : tie.After-rate-of) → (1 ≤ c .rate-of .result) × (c .before .cycles-of .result ≤ 4000000000)
 ranges c =
     let start = c .before .before .before in
-    let l = located (start .pre .0) in
-    (omega (arith, c .rate-of .ensures, l .rate-range (start .args .r) (start .pre .1) (start .pre .2)), omega (arith, c .before .cycles-of .ensures))
+    let l = located (start .pre .0) in (
+      omega (arith, c .rate-of .ensures, l .rate-range (start .args .r) (start .pre .1) (start .pre .2)),
+      omega
+          (arith, c .before .cycles-of .ensures),
+    )
 
 cycles-of-requires : tie.Need-cycles-of-requires
 cycles-of-requires c κs = search needs

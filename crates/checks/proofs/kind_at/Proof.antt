@@ -15,14 +15,16 @@ abbrev start : tie.After-task-count-place → tie.Start
 start x = x .before .before .before .before .before .before
 
 counts : (x : tie.After-task-count-place) →
-    Counts (start x .args .layout) (start x .args .s .now) (x .before .before .before .before .head-size .result) (x .task-count-place .result)
+    Counts (start x .args .layout) (start x .args .s .now) (x .before .before .before .before .head-size .result)
+    (x .task-count-place .result)
 counts x = counts-read _ _ (x .before .before .before .before .head-size .ensures) (x .task-count-place .ensures)
 
 -- The size of a task's words, and the place among all tasks' words.
 abbrev counted : tie.After-task-size → tie.After-task-count-place
 counted z = z .before .before .before .before
 
-size : (z : tie.After-task-size) → let a = start (counted z) .args in z .task-size .result ≡ taskSize (a .layout) (rateCount (a .layout) (a .s .now))
+size : (z : tie.After-task-size)
+    → let a = start (counted z) .args in z .task-size .result ≡ taskSize (a .layout) (rateCount (a .layout) (a .s .now))
 size z = z .task-size .ensures ∙ ap (taskSize (start (counted z) .args .layout)) (counts (counted z) .rates)
 
 abbrev rest : tie.After-task-size → ℕ
@@ -74,7 +76,9 @@ sub-k : tie.Need-sub-k
 sub-k c = search needs
 
 task-size-requires : tie.Need-task-size-requires
-task-size-requires c κs = let x = c .before .before .before in omega (arith, x .before .shared-slice-known2 .given (x .before .before .before .before .head-size .result))
+task-size-requires c κs =
+    let x = c .before .before .before in
+    omega (arith, x .before .shared-slice-known2 .given (x .before .before .before .before .head-size .result))
 
 div-if5 : tie.Need-div-if5
 div-if5 c = search needs

@@ -20,7 +20,8 @@ to-last f = f .before .before .before .before
 abbrev start : tie.After-find-unit → tie.Start
 start f = to-last f .before .before .before
 
-summed : (w : tie.After-way-back) (options : List ℕ) → Small options → SumReady (start (found w) .args .q .tasks) options (w .way-back .last .0)
+summed : (w : tie.After-way-back) (options : List ℕ) → Small options
+    → SumReady (start (found w) .args .q .tasks) options (w .way-back .last .0)
 summed w = sum-ready (start (found w) .pre) (found w .find-unit .ensures) (w .way-back .ensures)
 
 last-column-requires : tie.Need-last-column-requires
@@ -36,13 +37,19 @@ add-none : tie.Need-add-none
 add-none c = search needs
 
 way-back-requires : tie.Need-way-back-requires
-way-back-requires c κs = let f = c .before .before .before .before .before .before .before in way-ready (start f .pre) (f .find-unit .ensures)
+way-back-requires c κs =
+    let f = c .before .before .before .before .before .before .before in
+    way-ready (start f .pre) (f .find-unit .ensures)
 
 sum-requires : tie.Need-sum-requires
-sum-requires c κs = let w = c .before .before .before in summed w (start (found w) .args .loads .now) (start (found w) .pre .loads-fit)
+sum-requires c κs =
+    let w = c .before .before .before in
+    summed w (start (found w) .args .loads .now) (start (found w) .pre .loads-fit)
 
 sum-requires-2 : tie.Need-sum-requires-2
-sum-requires-2 c κs = let w = c .before .before .before .before .before in summed w (start (found w) .args .energies .now) (start (found w) .pre .energies-fit)
+sum-requires-2 c κs =
+    let w = c .before .before .before .before .before in
+    summed w (start (found w) .args .energies .now) (start (found w) .pre .energies-fit)
 
 clear-requires : tie.Need-clear-requires
 clear-requires c κs =
@@ -67,7 +74,8 @@ returns c =
     let s = c .before .before .before .before in
     let w = s .before .before .before .before .before .before in
     let f = found w in
-    chose (start f .pre) (f .find-unit .ensures) (w .way-back .ensures) (s .before .before .sum .ensures) (s .sum2 .ensures) (to-last f .last-column .ensures) (c .before .before .clear .ensures)
+    chose (start f .pre) (f .find-unit .ensures) (w .way-back .ensures) (s .before .before .sum .ensures)
+    (s .sum2 .ensures) (to-last f .last-column .ensures) (c .before .before .clear .ensures)
 
 pub choose-spec : {M : Type 1} → statement M
 choose-spec =

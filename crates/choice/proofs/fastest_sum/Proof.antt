@@ -11,7 +11,9 @@ slice-aggregate-sum : tie.Need-slice-aggregate-sum
 slice-aggregate-sum c = search needs
 
 sum-requires : tie.Need-sum-requires
-sum-requires c κs = let s = c .before in fastest-ready (s .args .tasks) (s .args .rates) (s .pre .0) (s .args .options .now) (s .pre .1) (s .pre .2)
+sum-requires c κs =
+    let s = c .before in
+    fastest-ready (s .args .tasks) (s .args .rates) (s .pre .0) (s .args .options .now) (s .pre .1) (s .pre .2)
 
 returns : tie.Need-returns
 returns c = let s = c .before .before in c .sum .ensures ∙ fastest-same (s .args .tasks) (s .args .rates) (s .pre .0) _

@@ -10,7 +10,8 @@ use Rattle.choice.proofs.find_unit.Statement.{statement}
 use Rattle.choice.proofs.find_unit.Tie as tie
 
 abbrev Inv-loop : tie.InvT-loop
-Inv-loop loads energies q load cost₀ work₀ tasks cap unit₀ columns₀ cost work unit columns = Trying q loads energies work₀ (unit₀ .exponent) cost work unit columns
+Inv-loop loads energies q load cost₀ work₀ tasks cap unit₀ columns₀ cost work unit columns =
+    Trying q loads energies work₀ (unit₀ .exponent) cost work unit columns
 
 abbrev μ-loop : tie.MeasureT-loop
 μ-loop loads energies q load cost₀ work₀ tasks cap unit₀ columns₀ cost work unit columns = unit .exponent
@@ -38,7 +39,9 @@ fastest-sum-requires : tie.Need-fastest-sum-requires Inv-loop μ-loop
 fastest-sum-requires c κs = search needs
 
 least-power-requires : tie.Need-least-power-requires Inv-loop μ-loop
-least-power-requires c κs = let s = c .before .before .before .before .before in rw (c .fastest-sum .ensures) (sum-low (s .args .energies .now) _ _ (s .pre .energies-fit) (s .pre .asked .tasks))
+least-power-requires c κs =
+    let s = c .before .before .before .before .before in
+    rw (c .fastest-sum .ensures) (sum-low (s .args .energies .now) _ _ (s .pre .energies-fit) (s .pre .asked .tasks))
 
 add-columns : tie.Need-add-columns Inv-loop μ-loop
 add-columns c = search needs
@@ -46,16 +49,25 @@ add-columns c = search needs
 loop-holds : tie.Need-loop-holds Inv-loop μ-loop
 loop-holds c =
     let f = c .before in
-    trying-start (f .before .before .before .before .before .pre) _ _ (f .fastest-sum .ensures) (c .least-power .ensures .0) (c .least-power .ensures .1)
+    trying-start (f .before .before .before .before .before .pre) _ _ (f .fastest-sum .ensures)
+    (c .least-power .ensures .0) (c .least-power .ensures .1)
 
 least-energy-requires : tie.Need-least-energy-requires Inv-loop μ-loop
-least-energy-requires c κs = let l = c .before .before .before in unit-ready (start l .pre) (l .loop .inv) (to-cut l .cut .ensures) (omega (arith, start l .pre .asked .small))
+least-energy-requires c κs =
+    let l = c .before .before .before in
+    unit-ready (start l .pre) (l .loop .inv) (to-cut l .cut .ensures) (omega (arith, start l .pre .asked .small))
 
 same-length : tie.Need-same-length Inv-loop μ-loop
-same-length c = let u = tried (c .before) in u .least-energy .ensures .work-size ∙ at-loop u .loop .inv .work-size
+same-length c =
+    let u = tried (c .before) in
+    let l = at-loop u in
+    u .least-energy .ensures .work-size ∙ l .loop .inv .work-size
 
 returns : tie.Need-returns Inv-loop μ-loop
-returns c = let u = tried (c .before) in unit-used (start (at-loop u) .pre) (at-loop u .loop .inv) (to-cut (at-loop u) .cut .ensures) (u .least-energy .ensures) (inl (c .if1 .taken))
+returns c =
+    let u = tried (c .before) in
+    let l = at-loop u in
+    unit-used (start l .pre) (l .loop .inv) (to-cut l .cut .ensures) (u .least-energy .ensures) (inl (c .if1 .taken))
 
 mul-if2 : tie.Need-mul-if2 Inv-loop μ-loop
 mul-if2 c = search needs
@@ -64,28 +76,46 @@ cast-if2 : tie.Need-cast-if2 Inv-loop μ-loop
 cast-if2 c = search needs
 
 mul-if2-2 : tie.Need-mul-if2-2 Inv-loop μ-loop
-mul-if2-2 c = let u = tried (c .before .before) in omega (arith, product-small (start (at-loop u) .pre) (at-loop u .loop .inv) (to-cut (at-loop u) .cut .ensures) (u .least-energy .ensures))
+mul-if2-2 c =
+    let u = tried (c .before .before) in
+    let l = at-loop u in
+    omega (arith, product-small (start l .pre) (l .loop .inv) (to-cut l .cut .ensures) (u .least-energy .ensures))
 
 same-length-2 : tie.Need-same-length-2 Inv-loop μ-loop
-same-length-2 c = let u = tried (c .before .before .before) in u .least-energy .ensures .work-size ∙ at-loop u .loop .inv .work-size
+same-length-2 c =
+    let u = tried (c .before .before .before) in
+    let l = at-loop u in
+    u .least-energy .ensures .work-size ∙ l .loop .inv .work-size
 
 returns-2 : tie.Need-returns-2 Inv-loop μ-loop
-returns-2 c = let u = tried (c .before .before .before) in unit-used (start (at-loop u) .pre) (at-loop u .loop .inv) (to-cut (at-loop u) .cut .ensures) (u .least-energy .ensures) (inr (omega (arith, c .if2 .taken)))
+returns-2 c =
+    let u = tried (c .before .before .before) in
+    let l = at-loop u in
+    unit-used (start l .pre) (l .loop .inv) (to-cut l .cut .ensures) (u .least-energy .ensures) (inr (omega (arith, c .if2 .taken)))
 
 sub-exponent : tie.Need-sub-exponent Inv-loop μ-loop
 sub-exponent c = search needs
 
 mul-columns : tie.Need-mul-columns Inv-loop μ-loop
-mul-columns c = let u = tried (c .before .before .before .before .before) in omega (arith, least-small (start (at-loop u) .pre) (at-loop u .loop .inv) (to-cut (at-loop u) .cut .ensures) (u .least-energy .ensures))
+mul-columns c =
+    let u = tried (c .before .before .before .before .before) in
+    let l = at-loop u in
+    omega (arith, least-small (start l .pre) (l .loop .inv) (to-cut l .cut .ensures) (u .least-energy .ensures))
 
 add-columns-2 : tie.Need-add-columns-2 Inv-loop μ-loop
-add-columns-2 c = let u = tried (c .before .before .before .before .before) in omega (arith, least-small (start (at-loop u) .pre) (at-loop u .loop .inv) (to-cut (at-loop u) .cut .ensures) (u .least-energy .ensures))
+add-columns-2 c =
+    let u = tried (c .before .before .before .before .before) in
+    let l = at-loop u in
+    omega (arith, least-small (start l .pre) (l .loop .inv) (to-cut l .cut .ensures) (u .least-energy .ensures))
 
 loop-less : tie.Need-loop-less Inv-loop μ-loop
 loop-less c = search needs
 
 loop-again : tie.Need-loop-again Inv-loop μ-loop
-loop-again c = let u = tried (c .before .before .before .before .before) in trying-turn (start (at-loop u) .pre) (at-loop u .loop .inv) (to-cut (at-loop u) .cut .ensures) (u .least-energy .ensures) (omega arith) (omega arith)
+loop-again c =
+    let u = tried (c .before .before .before .before .before) in
+    let l = at-loop u in
+    trying-turn (start l .pre) (l .loop .inv) (to-cut l .cut .ensures) (u .least-energy .ensures) (omega arith) (omega arith)
 
 pub find-unit-spec : {M : Type 1} → statement M
 find-unit-spec =

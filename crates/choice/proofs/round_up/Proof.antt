@@ -35,7 +35,9 @@ element-copy-out-cost : tie.Need-element-copy-out-cost Inv-loop μ-loop
 element-copy-out-cost c = search needs
 
 add-cost : tie.Need-add-cost Inv-loop μ-loop
-add-cost c = let g = start (c .before) .pre in omega (arith, unit-low g, unit-positive g, g .small (c .before .before .loop .k))
+add-cost c =
+    let g = start (c .before) .pre in
+    omega (arith, unit-low g, unit-positive g, g .small (c .before .before .loop .k))
 
 cast-cost : tie.Need-cast-cost Inv-loop μ-loop
 cast-cost c = omega (arith, start (c .before) .pre .low)
@@ -56,7 +58,8 @@ loop-less : tie.Need-loop-less Inv-loop μ-loop
 loop-less c = search needs
 
 loop-again : tie.Need-loop-again Inv-loop μ-loop
-loop-again c = (omega arith, written-more (c .before .before .loop .inv .1) _ (cost-is (start (c .before) .pre) _) (omega arith) (omega arith))
+loop-again c =
+    (omega arith, written-more (c .before .before .loop .inv .1) _ (cost-is (start (c .before) .pre) _) (omega arith) (omega arith))
 
 returns : tie.Need-returns Inv-loop μ-loop
 returns c = written-to _ (omega arith) (c .before .loop .inv .1)

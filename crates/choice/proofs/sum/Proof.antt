@@ -17,7 +17,8 @@ abbrev μ-loop : tie.MeasureT-loop
 μ-loop options tasks plan s₀ t₀ s t = tasks - t
 
 -- The plan's word in hand.
-rate-number : (c : tie.After-shared-slice-known Inv-loop μ-loop) → getD (c .before .before .before .args .plan .now) (c .before .before .loop .t) 0 ≤ 8
+rate-number : (c : tie.After-shared-slice-known Inv-loop μ-loop)
+    → getD (c .before .before .before .args .plan .now) (c .before .before .loop .t) 0 ≤ 8
 rate-number c = c .before .before .before .pre .numbers (c .before .before .loop .t) (omega arith)
 
 loop-holds : tie.Need-loop-holds Inv-loop μ-loop
@@ -48,7 +49,13 @@ add-s-2 : tie.Need-add-s-2 Inv-loop μ-loop
 add-s-2 c =
     let i = c .before .before .before in
     let g = i .before .pre in
-    omega (arith, i .loop .inv .1, sum-low (i .before .args .options .now) (i .before .args .plan .now) (i .loop .t) (g .small) (omega (arith, g .few, i .loop .inv .0)), g .small (i .loop .t * 16 + getD (i .before .args .plan .now) (i .loop .t) 0))
+    omega (
+      arith,
+      i .loop .inv .1,
+      sum-low (i .before .args .options .now) (i .before .args .plan .now) (i .loop .t)
+          (g .small) (omega (arith, g .few, i .loop .inv .0)),
+      g .small (i .loop .t * 16 + getD (i .before .args .plan .now) (i .loop .t) 0),
+    )
 
 add-t : tie.Need-add-t Inv-loop μ-loop
 add-t c = search needs
@@ -62,7 +69,9 @@ loop-again c =
     (omega arith, sum-turn (optionAt (i .before .args .options .now)) (i .loop .t) (i .before .args .plan .now) (i .loop .inv .1))
 
 returns : tie.Need-returns Inv-loop μ-loop
-returns c = let i = c .before in i .loop .inv .1 ∙ ap (λ (x : ℕ). total (optionAt (i .before .args .options .now)) x (i .before .args .plan .now)) (omega arith)
+returns c =
+    let i = c .before in
+    i .loop .inv .1 ∙ ap (λ (x : ℕ). total (optionAt (i .before .args .options .now)) x (i .before .args .plan .now)) (omega arith)
 
 pub sum-spec : {M : Type 1} → statement M
 sum-spec =

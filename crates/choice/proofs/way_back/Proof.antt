@@ -10,7 +10,8 @@ use Rattle.choice.proofs.way_back.Statement.{statement}
 use Rattle.choice.proofs.way_back.Tie as tie
 
 abbrev Inv-loop : tie.InvT-loop
-Inv-loop plan₀ d f column cost load tasks columns left₀ task₀ start₀ plan left task start = OnWay f column cost load plan₀ plan left task start
+Inv-loop plan₀ d f column cost load tasks columns left₀ task₀ start₀ plan left task start =
+    OnWay f column cost load plan₀ plan left task start
 
 abbrev μ-loop : tie.MeasureT-loop
 μ-loop plan₀ d f column cost load tasks columns left₀ task₀ start₀ plan left task start = task
@@ -20,10 +21,14 @@ start c = c .before .before .before .before
 
 -- The rate's number and the task's place are small.
 small : (c : tie.After-rate-at Inv-loop μ-loop) → (c .rate-at .result ≤ 8) × (c .before .before .loop .task ≤ 32)
-small c = let i = c .before in way-small (start i .pre) (i .before .loop .inv) (i .loop-test .taken) (c .rate-at .ensures)
+small c =
+    let i = c .before in
+    way-small (start i .pre) (i .before .loop .inv) (i .loop-test .taken) (c .rate-at .ensures)
 
 mul-start : tie.Need-mul-start Inv-loop μ-loop
-mul-start c = let s = c .before .before in omega (arith, s .pre .holds .words, next-row (s .args .f .tasks) (s .args .f .columns), s .good .1 .0 .0)
+mul-start c =
+    let s = c .before .before in
+    omega (arith, s .pre .holds .words, next-row (s .args .f .tasks) (s .args .f .columns), s .good .1 .0 .0)
 
 loop-holds : tie.Need-loop-holds Inv-loop μ-loop
 loop-holds c = way-start (c .before .before .pre)
@@ -59,13 +64,17 @@ element-copy-out-left : tie.Need-element-copy-out-left Inv-loop μ-loop
 element-copy-out-left c = omega (arith, small c)
 
 sub-left : tie.Need-sub-left Inv-loop μ-loop
-sub-left c = let i = c .before .before in way-sound (start i .pre) (i .before .loop .inv) (i .loop-test .taken) (c .before .rate-at .ensures) .allowed
+sub-left c =
+    let i = c .before .before in
+    way-sound (start i .pre) (i .before .loop .inv) (i .loop-test .taken) (c .before .rate-at .ensures) .allowed
 
 loop-less : tie.Need-loop-less Inv-loop μ-loop
 loop-less c = search needs
 
 loop-again : tie.Need-loop-again Inv-loop μ-loop
-loop-again c = let i = c .before .before in way-turn (start i .pre) (i .before .loop .inv) (i .loop-test .taken) (c .before .rate-at .ensures) refl
+loop-again c =
+    let i = c .before .before in
+    way-turn (start i .pre) (i .before .loop .inv) (i .loop-test .taken) (c .before .rate-at .ensures) refl
 
 same-length : tie.Need-same-length Inv-loop μ-loop
 same-length c = c .before .loop .inv .same

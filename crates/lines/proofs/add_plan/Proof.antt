@@ -29,7 +29,8 @@ plan-line c =
     let four = five .before .before .before .before .before in
     let three = third four in
     let two = second three in
-    then (first two .add-field .ensures) (then (two .add-field2 .ensures) (then (three .add-field3 .ensures) (then (four .add-field4 .ensures) (five .add-bytes .ensures))))
+    then (first two .add-field .ensures)
+    (then (two .add-field2 .ensures) (then (three .add-field3 .ensures) (then (four .add-field4 .ensures) (five .add-bytes .ensures))))
 
 slice-aggregate-add-field : tie.Need-slice-aggregate-add-field
 slice-aggregate-add-field c = search needs

@@ -23,7 +23,8 @@ at-loop c = c .before .before .before
 abbrev start : tie.At-loop Inv-loop μ-loop → tie.Start Inv-loop μ-loop
 start a = a .before .before .before
 
-few : (c : tie.After-energy-of Inv-loop μ-loop) → let s = start (at-loop c) .args in (s .t < mostTasks) × (s .m ≤ mostRates)
+few : (c : tie.After-energy-of Inv-loop μ-loop)
+    → let s = start (at-loop c) .args in (s .t < mostTasks) × (s .m ≤ mostRates)
 few c = let g = start (at-loop c) .pre .0 in (task-few g, rates-few g)
 
 period-of-requires : tie.Need-period-of-requires Inv-loop μ-loop
@@ -52,7 +53,11 @@ cast-loads c = search needs
 mul-loads : tie.Need-mul-loads Inv-loop μ-loop
 mul-loads c =
     let a = at-loop c in
-    omega (arith, load-fits (start a .pre .0) _ (a .before .period-of .ensures) (a .loop .r) _ 0 (a .loop .inv .0) (omega arith) (c .before .job-time .ensures))
+    omega (
+      arith,
+      load-fits (start a .pre .0) _ (a .before .period-of .ensures) (a .loop .r) _ 0 (a .loop .inv .0)
+          (omega arith) (c .before .job-time .ensures),
+    )
 
 mul-loads-2 : tie.Need-mul-loads-2 Inv-loop μ-loop
 mul-loads-2 c = omega (arith, few c)
@@ -72,7 +77,11 @@ cast-energies c = search needs
 mul-energies : tie.Need-mul-energies Inv-loop μ-loop
 mul-energies c =
     let a = at-loop c in
-    omega (arith, energy-fits (start a .pre .0) _ (a .before .period-of .ensures) (a .loop .r) 0 _ (a .loop .inv .0) (omega arith) (c .energy-of .ensures))
+    omega (
+      arith,
+      energy-fits (start a .pre .0) _ (a .before .period-of .ensures) (a .loop .r) 0 _ (a .loop .inv .0)
+          (omega arith) (c .energy-of .ensures),
+    )
 
 mul-energies-2 : tie.Need-mul-energies-2 Inv-loop μ-loop
 mul-energies-2 c = omega (arith, few c)
@@ -97,7 +106,8 @@ loop-again c =
     let a = at-loop c in (
       omega arith,
       omega arith,
-      both-more (start a .pre .0) _ (a .before .period-of .ensures) (a .loop .r) _ _ (a .loop .inv .0) (omega arith) _ _ (c .before .job-time .ensures) (c .energy-of .ensures) (a .loop .inv .2),
+      both-more (start a .pre .0) _ (a .before .period-of .ensures) (a .loop .r) _ _ (a .loop .inv .0) (omega arith) _ _
+          (c .before .job-time .ensures) (c .energy-of .ensures) (a .loop .inv .2),
     )
 
 returns : tie.Need-returns Inv-loop μ-loop

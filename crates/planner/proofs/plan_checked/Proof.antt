@@ -17,17 +17,22 @@ put f = f .before .before
 abbrev start : tie.After-put-tasks → tie.Start
 start p = p .before .before .before .before .before .before
 
-prepared : (s : tie.Start) → Prepared (s .args .set .now) (s .args .plan .now) (s .args .work .now) (s .args .rates) (s .args .tasks) (s .args .hyper)
+prepared : (s : tie.Start)
+    → Prepared (s .args .set .now) (s .args .plan .now) (s .args .work .now) (s .args .rates) (s .args .tasks) (s .args .hyper)
 prepared s = record { after = s .pre }
 
 put-tasks-requires : tie.Need-put-tasks-requires
-put-tasks-requires c κs = let s = c .before .before .before .before .before in (tasks-given (prepared s), both-none Ordinary (s .args .set .now) (s .args .rates))
+put-tasks-requires c κs =
+    let s = c .before .before .before .before .before in
+    (tasks-given (prepared s), both-none Ordinary (s .args .set .now) (s .args .rates))
 
 fastest-sum-requires : tie.Need-fastest-sum-requires
 fastest-sum-requires c κs = let p = c .before in sum-given (prepared (start p)) (p .put-tasks .ensures)
 
 returns : tie.Need-returns
-returns c = let f = c .before in none-fits (prepared (start (put f))) (put f .put-tasks .ensures) (f .fastest-sum .ensures) (c .if1 .taken)
+returns c =
+    let f = c .before in
+    none-fits (prepared (start (put f))) (put f .put-tasks .ensures) (f .fastest-sum .ensures) (c .if1 .taken)
 
 cast-limit : tie.Need-cast-limit
 cast-limit c = omega (arith, hyper-fits (prepared (start (put (c .before)))))
@@ -39,7 +44,8 @@ choose-requires : tie.Need-choose-requires
 choose-requires c κs =
     let s = c .before .before .before .before in
     let f = summed s in
-    choice-ready (prepared (start (put f))) (put f .put-tasks .ensures) (f .fastest-sum .ensures) (s .before .if1 .left) (s .slack-of .ensures)
+    choice-ready (prepared (start (put f))) (put f .put-tasks .ensures) (f .fastest-sum .ensures) (s .before .if1 .left)
+    (s .slack-of .ensures)
 
 same-length : tie.Need-same-length
 same-length c = c .before .before .before .before .choose .ensures .plan-size
@@ -52,7 +58,8 @@ chosen-plan c =
     let e = c .before .before .before .before in
     let s = e .before .before .before .before .before in
     let f = summed s in
-    chosen-given (prepared (start (put f))) (put f .put-tasks .ensures) (f .fastest-sum .ensures) (s .before .if1 .left) (s .slack-of .ensures) (e .choose .ensures)
+    chosen-given (prepared (start (put f))) (put f .put-tasks .ensures) (f .fastest-sum .ensures) (s .before .if1 .left)
+    (s .slack-of .ensures) (e .choose .ensures)
 
 pub plan-checked-spec : {M : Type 1} → statement M
 plan-checked-spec =

@@ -18,13 +18,15 @@ start g = g .before .before .before .before
 abbrev good : tie.After-work-needed → tie.After-checked2
 good w = w .before .before .before
 
-passed : (g : tie.After-checked2) → SetPassed (start g .args .set .now) (g .checked2 .given .0 .0) (g .checked2 .given .0 .1 .0) (g .checked2 .given .0 .1 .1 .0)
+passed : (g : tie.After-checked2)
+    → SetPassed (start g .args .set .now) (g .checked2 .given .0 .0) (g .checked2 .given .0 .1 .0) (g .checked2 .given .0 .1 .1 .0)
 passed g =
     let s = start g .args .set .now in
     record { after = subst (SetAfter (wordChecks Ordinary s ▹ hyperCheck Ordinary s) Ordinary s) (g .checked2 .given .1) (g .before .before .check-set .ensures) }
 
 -- The working words needed, by the slack that was read.
-needed : (w : tie.After-work-needed) → w .work-needed .result ≡ workWords (good w .checked2 .given .0 .1 .0) (slack (start (good w) .args .set .now))
+needed : (w : tie.After-work-needed)
+    → w .work-needed .result ≡ workWords (good w .checked2 .given .0 .1 .0) (slack (start (good w) .args .set .now))
 needed w = w .work-needed .ensures ∙ ap (workWords (good w .checked2 .given .0 .1 .0)) (w .before .slack-of .ensures)
 
 check-set-requires : tie.Need-check-set-requires
@@ -37,13 +39,18 @@ enum-known-checked-2 : tie.Need-enum-known-checked-2
 enum-known-checked-2 c = search needs
 
 slack-of-requires : tie.Need-slack-of-requires
-slack-of-requires c κs = let a = start (c .before) .args in some-words _ (a .plan-len) (a .work-len) (passed (c .before))
+slack-of-requires c κs =
+    let a = start (c .before) .args in
+    some-words _ (a .plan-len) (a .work-len) (passed (c .before))
 
 work-needed-requires : tie.Need-work-needed-requires
 work-needed-requires c κs =
     let g = c .before .before in
-    let a = start g .args in
-    (tasks-few _ (a .plan-len) (a .work-len) (passed g), rw (c .slack-of .ensures) (slack-range _ (a .plan-len) (a .work-len) (passed g) .0))
+    let a = start g .args in (
+      tasks-few _ (a .plan-len) (a .work-len) (passed g),
+      rw (c .slack-of .ensures)
+          (slack-range _ (a .plan-len) (a .work-len) (passed g) .0),
+    )
 
 short-work : tie.Need-returns
 short-work c =
@@ -63,7 +70,8 @@ refused c =
     let a = r .before .before .before .before .args in
     let s = a .set .now in
     set-refused _ (a .plan-len) (a .work-len) (r .checked .given .0 .0)
-    (subst (SetAfter (wordChecks Ordinary s ▹ hyperCheck Ordinary s) Ordinary s) (r .checked .given .1) (r .before .before .check-set .ensures))
+    (subst (SetAfter (wordChecks Ordinary s ▹ hyperCheck Ordinary s) Ordinary s) (r .checked .given .1)
+    (r .before .before .check-set .ensures))
 
 all-passed : tie.Need-returns-4
 all-passed c =

@@ -77,7 +77,8 @@ add-if3-3 c = record { fits = sum-fits (start (at-loop (c .before .before .befor
 returns : tie.Need-returns Inv-loop μ-loop
 returns c =
     let a = at-loop (c .before .before .before .before) in
-    rate-hit (start a .pre) refl (a .loop .number) (omega arith) (omega arith) (a .loop .inv .1) (c .before .before .before .if2 .taken) (c .if3 .taken)
+    rate-hit (start a .pre) refl (a .loop .number) (omega arith) (omega arith) (a .loop .inv .1)
+    (c .before .before .before .if2 .taken) (c .if3 .taken)
 
 add-number : tie.Need-add-number Inv-loop μ-loop
 add-number c = search needs

@@ -93,7 +93,9 @@ same-length : tie.Need-same-length Inv-loop μ-loop
 same-length c = let a = c .before .before in a .loop .inv .0 .same ∙ to-fill a .fill .ensures .same
 
 returns : tie.Need-returns Inv-loop μ-loop
-returns c = let a = c .before .before in row-end (start a .pre) (to-fill a .fill .ensures) (a .loop .r) (a .loop .inv .0) (omega arith)
+returns c =
+    let a = c .before .before in
+    row-end (start a .pre) (to-fill a .fill .ensures) (a .loop .r) (a .loop .inv .0) (omega arith)
 
 pub row-spec : {M : Type 1} → statement M
 row-spec =

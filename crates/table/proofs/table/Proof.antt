@@ -11,7 +11,8 @@ use Rattle.table.proofs.table.Statement.{statement}
 use Rattle.table.proofs.table.Tie as tie
 
 abbrev Inv-loop : tie.InvT-loop
-Inv-loop d₀ f cost load tasks columns start₀ task₀ d start task = (task ≤ f .tasks) × (start ≡ task * f .columns) × Tabled f task cost load d₀ d
+Inv-loop d₀ f cost load tasks columns start₀ task₀ d start task =
+    (task ≤ f .tasks) × (start ≡ task * f .columns) × Tabled f task cost load d₀ d
 
 abbrev μ-loop : tie.MeasureT-loop
 μ-loop d₀ f cost load tasks columns start₀ task₀ d start task = f .tasks - task
@@ -24,7 +25,9 @@ abbrev from : tie.At-loop Inv-loop μ-loop → tie.Start Inv-loop μ-loop
 from a = a .before .before .before .before .before .before
 
 fill-requires : tie.Need-fill-requires Inv-loop μ-loop
-fill-requires c κs = let g = c .before .before in (omega arith, omega (arith, g .pre .words, next-row (g .args .f .tasks) (g .args .f .columns)))
+fill-requires c κs =
+    let g = c .before .before in
+    (omega arith, omega (arith, g .pre .words, next-row (g .args .f .tasks) (g .args .f .columns)))
 
 loop-holds : tie.Need-loop-holds Inv-loop μ-loop
 loop-holds c = (omega arith, sym (zero-mul _), table-start (c .before .before .fill .ensures))
@@ -38,7 +41,13 @@ add-start : tie.Need-add-start Inv-loop μ-loop
 add-start c =
     let a = at-loop c in
     let s = from a in
-    omega (arith, a .loop .inv .1, row-within (s .args .f .columns) (a .loop .task) (s .args .f .tasks) _ (omega arith) (s .pre .words), s .good .0 .0)
+    omega (
+      arith,
+      a .loop .inv .1,
+      row-within (s .args .f .columns) (a .loop .task) (s .args .f .tasks) _ (omega arith)
+          (s .pre .words),
+      s .good .0 .0,
+    )
 
 add-task : tie.Need-add-task Inv-loop μ-loop
 add-task c = search needs

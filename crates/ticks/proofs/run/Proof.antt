@@ -100,7 +100,9 @@ element-copy-out-s-2 : tie.Need-element-copy-out-s-2 Inv-loop μ-loop Inv-ticks 
 element-copy-out-s-2 c = search needs
 
 add-s : tie.Need-add-s Inv-loop μ-loop Inv-ticks μ-ticks
-add-s c = let l = c .before .before .before .before .before .before .before .before in omega (arith, deadline l (c .before .before .before .before .before .before .before .loop-test .taken))
+add-s c =
+    let l = c .before .before .before .before .before .before .before .before in
+    omega (arith, deadline l (c .before .before .before .before .before .before .before .loop-test .taken))
 
 mul-s-4 : tie.Need-mul-s-4 Inv-loop μ-loop Inv-ticks μ-ticks
 mul-s-4 c = search needs
@@ -131,7 +133,8 @@ loop-again c =
     let lt = c .before .before .before .before .before .loop-test .taken in
     ⊎-elim
     (λ w. rw (w .5) (turn-over v lt
-    (part-take lt (v .part) (omega (arith, v .early)) (omega (arith, v .early)) (steady (start (tick l) .pre) i lt) (w .0 .taken) (omega (arith, w .2 .left)))
+    (part-take lt (v .part) (omega (arith, v .early)) (omega (arith, v .early)) (steady (start (tick l) .pre) i lt)
+    (w .0 .taken) (omega (arith, w .2 .left)))
     (counted-on (v .counts) _ _ _) (early-set _ _ _ i _ _ (omega (arith, v .early)) (deadline l lt) (v .early))
     (λ j x. getD-set-other (l .loop .s .due) i j _ 0 (λ e. absurd (omega arith))) (v .unknown lt) (rw (w .5) at (c .lesser .ensures))))
     (λ w. rw (w .1) (turn-over v lt (part-pass lt (v .part) (w .0 .left)) (v .counts) (v .early) (λ j x. refl) (v .unknown lt) (rw (w .1) at (c .lesser .ensures))))
@@ -149,7 +152,8 @@ ticks-less c = search needs
 ticks-again : tie.Need-ticks-again Inv-loop μ-loop Inv-ticks μ-ticks
 ticks-again c =
     let l = c .before .before .before in
-    next-tick (l .loop .inv) (tick l .ticks .inv) (omega (arith, l .loop .inv .inside, c .before .before .loop-test .left)) (c .before .if4 .left) (c .tick .ensures)
+    next-tick (l .loop .inv) (tick l .ticks .inv)
+    (omega (arith, l .loop .inv .inside, c .before .before .loop-test .left)) (c .before .if4 .left) (c .tick .ensures)
 
 cast-t38 : tie.Need-cast-t38 Inv-loop μ-loop Inv-ticks μ-ticks
 cast-t38 c = omega (arith, small (c .before .before))
@@ -164,7 +168,8 @@ missed-answer c =
     (λ w.
     let i = w .2 .i in
     let m = part-miss (w .3 .taken) (w .2 .inv .part) (steady (start q .pre) i (w .3 .taken)) (w .6 .taken) (w .8 .taken) in
-    sym (v .rest) ∙ walkFrom-miss _ (q .ticks .t) (start q .args .end - q .ticks .t) (m .0) ∙ ap (missed (q .ticks .t)) (m .1 ∙ sym (w .10)))
+    sym (v .rest) ∙ walkFrom-miss _ (q .ticks .t) (start q .args .end - q .ticks .t) (m .0) ∙ ap (missed (q .ticks .t))
+    (m .1 ∙ sym (w .10)))
     (λ w. absurd (omega (arith, w .2 .inv .on-time)))
     y)
     (c .before .ticks-test .came)

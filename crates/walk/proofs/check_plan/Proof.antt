@@ -48,7 +48,8 @@ loop-less : tie.Need-loop-less Inv-loop μ-loop
 loop-less c = omega arith
 
 loop-again : tie.Need-loop-again Inv-loop μ-loop
-loop-again c = passed-more (at (c .before) .loop .inv) (omega arith) (omega arith) (sym (c .before .is-between .ensures) ∙ not-false _ (c .if2 .left))
+loop-again c =
+    passed-more (at (c .before) .loop .inv) (omega arith) (omega arith) (sym (c .before .is-between .ensures) ∙ not-false _ (c .if2 .left))
 
 short-answer : tie.Need-returns-3 Inv-loop μ-loop
 short-answer c = too-short (c .before .before .loop .inv) (omega arith) (c .if3 .taken)

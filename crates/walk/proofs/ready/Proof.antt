@@ -27,7 +27,8 @@ plan k = k .before .before .before .args .plan .now
 abbrev Said : tie.After-check-set → Checked → Type 0
 Said k = SetAfter (wordChecks Ordinary (set k) ▹ hyperCheck Ordinary (set k)) Ordinary (set k)
 
-good : (w : tie.After-check-plan) → let g = w .before .before .checked2 .given in Said (first w) (Good (g .0 .0) (g .0 .1 .0) (g .0 .1 .1 .0))
+good : (w : tie.After-check-plan)
+    → let g = w .before .before .checked2 .given in Said (first w) (Good (g .0 .0) (g .0 .1 .0) (g .0 .1 .1 .0))
 good w = subst (Said (first w)) (w .before .before .checked2 .given .1) (first w .check-set .ensures)
 
 check-set-requires : tie.Need-check-set-requires
@@ -57,7 +58,8 @@ plan-answer : tie.Need-returns-2
 plan-answer c =
     let w = c .before .before .before in
     let k = first w in
-    plan-refused (set k) (plan k) _ _ _ (good w) (c .before .sound .given .0 .0) (subst (PlanAnswers _ _ (plan k)) (c .before .sound .given .1) (w .check-plan .ensures))
+    plan-refused (set k) (plan k) _ _ _ (good w) (c .before .sound .given .0 .0)
+    (subst (PlanAnswers _ _ (plan k)) (c .before .sound .given .1) (w .check-plan .ensures))
 
 sound-answer : tie.Need-returns-3
 sound-answer c =

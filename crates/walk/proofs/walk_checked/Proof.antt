@@ -31,7 +31,8 @@ run-requires c κs =
 returns : tie.Need-returns
 returns c =
     let p = c .before .before .before .before in
-    says-walked _ _ _ _ _ (start p .pre) _ _ (p .periods .ensures) (c .before .before .before .times .ensures) (c .run .result) (c .run .ensures)
+    says-walked _ _ _ _ _ (start p .pre) _ _ (p .periods .ensures) (c .before .before .before .times .ensures)
+    (c .run .result) (c .run .ensures)
 
 pub walk-checked-spec : {M : Type 1} → statement M
 walk-checked-spec = tie.close (tie.spec periods-requires times-requires cast-run run-requires returns)

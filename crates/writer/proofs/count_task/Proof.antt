@@ -19,7 +19,9 @@ abbrev line : tie.After-energies-of → TaskLine
 line c = taskLine (c .before .before .period-of .result) (c .before .cycles-of .result) (now (c .energies-of .result))
 
 same : (c : tie.After-energies-of) → taskText (line c) ≡ taskText (lineOf (now (start c .args .w)) (start c .args .t))
-same c = line-same (now (start c .args .w)) (start c .args .t) (c .before .before .period-of .ensures) (c .before .cycles-of .ensures) (c .energies-of .ensures)
+same c =
+    line-same (now (start c .args .w)) (start c .args .t) (c .before .before .period-of .ensures)
+    (c .before .cycles-of .ensures) (c .energies-of .ensures)
 
 fits : (c : tie.After-energies-of) → length (taskText (line c)) < 2 ^ 64
 fits c = omega (arith, ap length (same c), start c .pre .1)
@@ -77,7 +79,8 @@ count-bytes-requires-2 : tie.Need-count-bytes-requires-2
 count-bytes-requires-2 c κs = omega (arith, simp length-append at (fits (taken (first (second (c .before .before))))))
 
 returns : tie.Need-returns
-returns c = simp length-append (omega (arith, simp length-append at (ap length (same (taken (first (second (c .before .before .before))))))))
+returns c =
+    simp length-append (omega (arith, simp length-append at (ap length (same (taken (first (second (c .before .before .before))))))))
 
 pub count-task-spec : {M : Type 1} → statement M
 count-task-spec =

@@ -20,7 +20,9 @@ abbrev line : tie.After-energies-of → TaskLine
 line c = taskLine (c .before .before .period-of .result) (c .before .cycles-of .result) (now (c .energies-of .result))
 
 same : (c : tie.After-energies-of) → taskText (line c) ≡ taskText (lineOf (now (start c .args .w)) (start c .args .t))
-same c = line-same (now (start c .args .w)) (start c .args .t) (c .before .before .period-of .ensures) (c .before .cycles-of .ensures) (c .energies-of .ensures)
+same c =
+    line-same (now (start c .args .w)) (start c .args .t) (c .before .before .period-of .ensures)
+    (c .before .cycles-of .ensures) (c .energies-of .ensures)
 
 fits : (c : tie.After-energies-of) → length (taskText (line c)) ≤ length (now (start c .args .buf))
 fits c = omega (arith, ap length (same c), start c .pre .1)
@@ -90,7 +92,9 @@ returns c =
     let three = third four in
     let two = second three in
     rw (← same (taken (first two)))
-    (front (then (first two .add-field .ensures) (then (two .add-field2 .ensures) (then (three .add-bytes .ensures) (then (four .add-numbers .ensures) (five .add-bytes2 .ensures))))))
+    (front
+    (then (first two .add-field .ensures)
+    (then (two .add-field2 .ensures) (then (three .add-bytes .ensures) (then (four .add-numbers .ensures) (five .add-bytes2 .ensures))))))
 
 pub put-task-spec : {M : Type 1} → statement M
 put-task-spec =

@@ -46,7 +46,8 @@ preempts-requires c κs = search needs
 add-self-3 : tie.Need-add-self-3
 add-self-3 c =
     let p = c .before .before in
-    omega (arith, c .preempts .ensures, cuts-few (start p .args .n) (p .place .result) (start p .args .t1 .last), start p .pre .preempted-room)
+    omega
+    (arith, c .preempts .ensures, cuts-few (start p .args .n) (p .place .result) (start p .args .t1 .last), start p .pre .preempted-room)
 
 mul-rest : tie.Need-mul-rest
 mul-rest c = search needs
@@ -70,13 +71,15 @@ last-tick : tie.Need-returns-2
 last-tick c =
     let r = c .before in
     let a = start (placed r) .args in
-    rw (r .before .preempts .ensures) (ticked-last (a .n) (a .t1) _ (sym (placed r .place .ensures)) (r .before .before .if1 .left) (room r) (c .if2 .taken))
+    rw (r .before .preempts .ensures)
+    (ticked-last (a .n) (a .t1) _ (sym (placed r .place .ensures)) (r .before .before .if1 .left) (room r) (c .if2 .taken))
 
 busy-tick : tie.Need-returns-3
 busy-tick c =
     let r = c .before in
     let a = start (placed r) .args in
-    rw (r .before .preempts .ensures) (ticked-on (a .n) (a .t1) _ (sym (placed r .place .ensures)) (r .before .before .if1 .left) (room r) (c .if2 .left))
+    rw (r .before .preempts .ensures)
+    (ticked-on (a .n) (a .t1) _ (sym (placed r .place .ensures)) (r .before .before .if1 .left) (room r) (c .if2 .left))
 
 pub tick-spec : {M : Type 1} → statement M
 tick-spec =
