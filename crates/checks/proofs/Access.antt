@@ -1,4 +1,4 @@
--- What the accessors rest on: the words of a set's task are in the list, and in their ranges.
+-- What the accessors rest on: the words of a task are in the list, and in their ranges.
 -- Assumes nothing.
 use Prim.Native.Nat.{ℕ, _+_, _*_, _≤_, _<_}
 use mathlib.Core.Path.{_≡_, refl, sym, subst}
@@ -27,7 +27,7 @@ pub record Located (layout : Layout) (m t : ℕ) (s : List ℕ) : Type 0 where
 
 pub located : {layout : Layout} {m t : ℕ} {s : List ℕ} → OfTask layout m t s → Located layout m t s
 located {layout} {m} {t} {s} o =
-    let w = o .set .whole in
+    let w = o .whole in
     let last = in-list layout s w t 1 (o .task) (omega arith) in
     subst (λ (x : ℕ). Located layout x t s) (sym (o .counted))
     (record {

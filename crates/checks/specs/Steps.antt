@@ -9,7 +9,7 @@ use Rattle.numbers.specs.Search.{Found}
 use Rattle.layout.specs.Words.{mostRates, mostTasks, longestPeriod, word, rateCount, taskCount, periodPlace, period}
 use Rattle.layout.specs.declared.Layout.{Layout}
 use Rattle.taskset.specs.Quantities.{hyperLimit}
-use Rattle.taskset.proofs.Sets.{IsSet}
+use Rattle.layout.proofs.Whole.{IsWhole}
 
 -- The word at q is not above the one before; the running multiple passes the limit at task t.
 abbrev pub Falls : List ℕ → ℕ → Type 0
@@ -34,8 +34,8 @@ pub record Followed (layout : Layout) (n : ℕ) (s : List ℕ) (t v : ℕ) : Typ
   pub least : 1 ≤ v
   pub most : v ≤ hyperLimit
 
--- The task at place t of a set of m rates.
+-- The task at place t of a list that passes check 2 and has m rates.
 pub record OfTask (layout : Layout) (m t : ℕ) (s : List ℕ) : Type 0 where
-  pub set : IsSet layout s
+  pub whole : IsWhole layout s
   pub counted : m ≡ rateCount layout s
   pub task : t < taskCount layout s

@@ -183,7 +183,7 @@ pub fn period_of(s: &[u32], layout: Layout, m: usize, t: usize) -> u32
 }
 
 // The cycles of one job of the task at place t.
-fn cycles_of(s: &[u32], layout: Layout, m: usize, t: usize) -> u32
+pub fn cycles_of(s: &[u32], layout: Layout, m: usize, t: usize) -> u32
     requires { ⌜ OfTask layout m t (now s) ⌝ }
     ensures { λ r. ⌜ r ≡ cycles layout (now (s .entry)) t ⌝ }
 {

@@ -70,7 +70,7 @@ both-next layout s m t r ls es e b = record {
 
 module _ {layout : Layout} {m l t : ℕ} {s : List ℕ} (g : TaskGiven layout m l t s) where
   set-is : IsSet layout s
-  set-is = g .of-task .set
+  set-is = g .set
 
   pub task-few : t < mostTasks
   task-few = omega (arith, g .of-task .task, set-is .whole .tasks-range .1)

@@ -6,6 +6,7 @@ use mathlib.Core.List.{List}
 use lib.ListN.{length, getD}
 use Rattle.layout.specs.declared.Layout.{Layout}
 use Rattle.taskset.specs.Quantities.{hyperPeriod, taskLoad, taskEnergy}
+use Rattle.taskset.proofs.Sets.{IsSet}
 use Rattle.checks.specs.Steps.{OfTask}
 use Rattle.table.specs.Rows.{optionAt}
 
@@ -24,6 +25,7 @@ pub record LaidBoth (layout : Layout) (s : List ℕ) (m t r : ℕ) (ls es : List
 
 -- What a task's options ask: the task is one of a set of m rates, and l is the set's hyper-period.
 pub record TaskGiven (layout : Layout) (m l t : ℕ) (s : List ℕ) : Type 0 where
+  pub set : IsSet layout s
   pub of-task : OfTask layout m t s
   pub hyper : l ≡ hyperPeriod layout s
 

@@ -89,7 +89,8 @@ module _ {s plan work : List ℕ} {m n l : ℕ} (prepared : Prepared s plan work
   tasks-given = record {
     few = few;
     each = λ t h. record {
-      of-task = record { set = set; counted = good .1; task = omega (arith, good .2) };
+      set = set;
+      of-task = record { whole = set .whole; counted = good .1; task = omega (arith, good .2) };
       hyper = good .3;
     };
   }

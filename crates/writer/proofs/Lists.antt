@@ -12,7 +12,8 @@ use Rattle.layout.proofs.Whole.{in-list}
 use Rattle.text.specs.Text.{TaskLine, Script, joined, taskText, scriptText, each, lineOf, scriptOf}
 use Rattle.text.proofs.Sizes.{text-length}
 use Rattle.text.proofs.RoundTrip.{each-length, script-of-list}
-use Rattle.writer.specs.Lines.{WithRates, WithTask, WithTasks, slackText, ratesText}
+use Rattle.checks.specs.Steps.{OfTask}
+use Rattle.writer.specs.Lines.{WithRates, WithTasks, slackText, ratesText}
 use Rattle.writer.proofs.Rows.{one-more, one-room, each-at, part}
 
 -- ---- the words of a list that passes check 2
@@ -31,18 +32,18 @@ module _ {w : List ℕ} {m : ℕ} (has : WithRates w m) where
   rates-are a e x y =
       part w (rate Ordinary w) (headSize Ordinary) (λ j. refl) 1 m a e x y (omega (arith, rates-inside)) ∙ ap (each (rate Ordinary w) 1) (has .rates)
 
-module _ {w : List ℕ} {m t : ℕ} (has : WithTask w m t) where
+module _ {w : List ℕ} {m t : ℕ} (has : OfTask Ordinary m t w) where
   pub task-few : (m ≤ mostRates) × (t ≤ mostTasks)
-  task-few = (rates-few (has .list), omega (arith, has .task, has .list .whole .tasks-range .1))
+  task-few = (rates-few (record { whole = has .whole; rates = has .counted }), omega (arith, has .task, has .whole .tasks-range .1))
 
   pub task-inside : energyPlace Ordinary m t 1 + m ≤ length w
   task-inside =
-      rw (has .list .rates)
-      (omega (arith, in-list Ordinary w (has .list .whole) t (taskSize Ordinary (rateCount Ordinary w) - 1) (has .task) (omega arith)))
+      rw (has .counted)
+      (omega (arith, in-list Ordinary w (has .whole) t (taskSize Ordinary (rateCount Ordinary w) - 1) (has .task) (omega arith)))
 
   pub energies-are : (a e : ℕ) → a ≡ energyPlace Ordinary m t 1 → e ≡ a + m → take (e - a) (drop a w) ≡ lineOf w t .energies
   energies-are a e x y =
-      let r = has .list .rates in
+      let r = has .counted in
       let z : a ≡ energyPlace Ordinary (rateCount Ordinary w) t 0 + 1 = x ∙ ap (λ (k : ℕ). energyPlace Ordinary k t 1) r ∙ omega arith in
       part w (energy Ordinary w t) (energyPlace Ordinary (rateCount Ordinary w) t 0) (λ j. ap (word w) (omega arith)) 1 (rateCount Ordinary w)
       a e z (omega (arith, r)) (omega (arith, task-inside))
@@ -62,8 +63,8 @@ module _ {w : List ℕ} {m n : ℕ} (has : WithTasks w m n) where
   tasks-count = omega (arith, each-length (lineOf w) 0 (taskCount Ordinary w), has .tasks)
 
   module _ (t : ℕ) (h : t < n) where
-    pub task-of : WithTask w m t
-    task-of = record { list = has .list; task = omega (arith, has .tasks) }
+    pub task-of : OfTask Ordinary m t w
+    task-of = record { whole = has .list .whole; counted = has .list .rates; task = omega (arith, has .tasks) }
 
     line-is : getD (scriptOf w .tasks) t (lineOf w t) ≡ lineOf w t
     unfolding scriptOf

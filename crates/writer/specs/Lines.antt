@@ -1,6 +1,6 @@
 -- What the functions below the writer's call take and give. Not part of what a reader must believe: the call's own
 -- contract names none of it.
-use Prim.Native.Nat.{ℕ, _<_}
+use Prim.Native.Nat.{ℕ}
 use mathlib.Core.Path.{_≡_}
 use mathlib.Core.List.{List, _++_}
 use Rattle.layout.specs.Words.{rateCount, taskCount}
@@ -12,11 +12,6 @@ use Rattle.text.specs.Text.{bytes, decimal, joined, spaced}
 pub record WithRates (w : List ℕ) (m : ℕ) : Type 0 where
   pub whole : IsWhole Ordinary w
   pub rates : m ≡ rateCount Ordinary w
-
--- The task at place t of such a list.
-pub record WithTask (w : List ℕ) (m t : ℕ) : Type 0 where
-  pub list : WithRates w m
-  pub task : t < taskCount Ordinary w
 
 -- Its task count.
 pub record WithTasks (w : List ℕ) (m n : ℕ) : Type 0 where

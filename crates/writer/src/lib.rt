@@ -8,7 +8,9 @@ ghost use Rattle.layout.specs.Words.{slackPlace};
 ghost use Rattle.text.specs.Text.{joined, spaced, taskText, scriptText, lineOf, scriptOf};
 ghost use Rattle.text.specs.Calls.{WriterGives};
 ghost use Rattle.printer.specs.Puts.{Put, Added};
-ghost use Rattle.writer.specs.Lines.{WithRates, WithTask, WithTasks, slackText, ratesText};
+ghost use Rattle.layout.specs.declared.Layout.the-variants.{Ordinary};
+ghost use Rattle.checks.specs.Steps.{OfTask};
+ghost use Rattle.writer.specs.Lines.{WithRates, WithTasks, slackText, ratesText};
 use layout::Layout;
 use taskset::CopyAnswer;
 use taskset::Refusal;
@@ -25,24 +27,8 @@ fn rates_of(w: &[u32], m: usize) -> &[u32]
     &w[first..end]
 }
 
-fn period_of(w: &[u32], m: usize, t: usize) -> u32
-    requires { ⌜ WithTask (now w) m t ⌝ }
-    ensures { λ r. ⌜ r ≡ lineOf (now (w .entry)) t .period ⌝ }
-{
-    let at = layout::period_place(Layout::Ordinary, m, t);
-    w[at]
-}
-
-fn cycles_of(w: &[u32], m: usize, t: usize) -> u32
-    requires { ⌜ WithTask (now w) m t ⌝ }
-    ensures { λ r. ⌜ r ≡ lineOf (now (w .entry)) t .cycles ⌝ }
-{
-    let at = layout::cycles_place(Layout::Ordinary, m, t);
-    w[at]
-}
-
 fn energies_of(w: &[u32], m: usize, t: usize) -> &[u32]
-    requires { ⌜ WithTask (now w) m t ⌝ }
+    requires { ⌜ OfTask Ordinary m t (now w) ⌝ }
     ensures { λ r. ⌜ now r ≡ lineOf (now (w .entry)) t .energies ⌝ }
 {
     let first = layout::energy_place(Layout::Ordinary, m, t, 1);
@@ -134,11 +120,11 @@ fn count_rates(w: &[u32], m: usize) -> usize
 
 // The line of the task at place t.
 fn put_task(buf: &mut [u8], w: &[u32], m: usize, t: usize) -> usize
-    requires { ⌜ WithTask (now w) m t × (length (taskText (lineOf (now w) t)) ≤ length (now buf)) ⌝ }
+    requires { ⌜ OfTask Ordinary m t (now w) × (length (taskText (lineOf (now w) t)) ≤ length (now buf)) ⌝ }
     ensures { λ r. ⌜ Put (taskText (lineOf (now (w .entry)) t)) (now (buf .entry)) (now (buf .exit)) r ⌝ }
 {
-    let period = period_of(w, m, t) as u64;
-    let cycles = cycles_of(w, m, t) as u64;
+    let period = checks::period_of(w, Layout::Ordinary, m, t) as u64;
+    let cycles = checks::cycles_of(w, Layout::Ordinary, m, t) as u64;
     let energies = energies_of(w, m, t);
     let a = printer::add_field(buf, 0, b"(task (period ", period);
     let b = printer::add_field(buf, a, b") (cycles ", cycles);
@@ -148,11 +134,11 @@ fn put_task(buf: &mut [u8], w: &[u32], m: usize, t: usize) -> usize
 }
 
 fn count_task(w: &[u32], m: usize, t: usize) -> usize
-    requires { ⌜ WithTask (now w) m t × (length (taskText (lineOf (now w) t)) < 2 ^ 64) ⌝ }
+    requires { ⌜ OfTask Ordinary m t (now w) × (length (taskText (lineOf (now w) t)) < 2 ^ 64) ⌝ }
     ensures { λ r. ⌜ r ≡ length (taskText (lineOf (now (w .entry)) t)) ⌝ }
 {
-    let period = period_of(w, m, t) as u64;
-    let cycles = cycles_of(w, m, t) as u64;
+    let period = checks::period_of(w, Layout::Ordinary, m, t) as u64;
+    let cycles = checks::cycles_of(w, Layout::Ordinary, m, t) as u64;
     let energies = energies_of(w, m, t);
     let a = printer::count_field(0, b"(task (period ", period);
     let b = printer::count_field(a, b") (cycles ", cycles);

@@ -23,7 +23,7 @@ loop-holds c = (omega arith, holds-none _ _ refl)
 period-of-requires : tie.Need-period-of-requires Inv-loop μ-loop
 period-of-requires c κs =
     let g = c .before .before .before .pre in
-    record { set = g .set; counted = g .rates; task = omega (arith, g .tasks) }
+    record { whole = g .set .whole; counted = g .rates; task = omega (arith, g .tasks) }
 
 mul-p : tie.Need-mul-p Inv-loop μ-loop
 mul-p c = search needs

@@ -33,7 +33,7 @@ job-time-requires c κs =
     let start = b .before .before .before in
     let g = start .pre .0 in
     let q = start .pre .1 in (
-      record { set = g .set; counted = g .rates; task = omega (arith, g .tasks) },
+      record { whole = g .set .whole; counted = g .rates; task = omega (arith, g .tasks) },
       q .above (b .loop .t) (omega arith),
       q .below (b .loop .t) (omega arith),
     )
