@@ -1,4 +1,3 @@
 pub mod Stores
 pub mod Lists
 pub mod Words
-pub mod Cuts

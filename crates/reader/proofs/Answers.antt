@@ -19,7 +19,7 @@ use Rattle.text.proofs.Grammar.{script-piece}
 use Rattle.text.proofs.Copies.{is-read, is-refused, one-script}
 use Rattle.text.proofs.Writing.{placed, written}
 use Rattle.forms.specs.Forms.{wordCount}
-use Rattle.forms.proofs.Cuts.{later-zero}
+use Rattle.scanner.proofs.Places.{later-zero}
 
 text-is : (t : List ℕ) → readText t ≡ ended (length t) (readAt readScript t 0)
 unfolding readText readAt

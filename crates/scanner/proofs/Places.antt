@@ -4,7 +4,7 @@ use Prim.Native.Nat.{ℕ, _+_, _*_, _^_, _≤_, _<_}
 use mathlib.Core.Path.{_≡_, refl, sym, ap, _∙_}
 use mathlib.Core.List.{List, _∷_}
 use native.Mathlib.Omega.{arith}
-use native.Mathlib.Nat.{add-zero}
+use native.Mathlib.Nat.{add-zero, zero-add}
 use native.Mathlib.Numerals.{add-one}
 use lib.ListN.{length, getD, drop, drop-of-length-le}
 use lib.Seq.{drop-cons, drop-drop}
@@ -16,6 +16,10 @@ use Rattle.scanner.specs.declared.Read.{Read}
 use Rattle.scanner.specs.declared.Read.the-variants.{Got, Bad}
 use Rattle.scanner.specs.declared.Class.the-variants.{Digit}
 use Rattle.text.proofs.Numerals.{more-digit, more-large, first-digit, more-stop, no-number}
+
+pub later-zero : {A : Type 0} (x : Res A) → later 0 x ≡ x
+later-zero (got a n) = rw zero-add
+later-zero (bad o) = rw zero-add
 
 later-next : {A : Type 0} (i : ℕ) (x : Res A) → later i (next x) ≡ later (i + 1) x
 later-next i (got a n) = ap (got a) (omega arith)

@@ -86,9 +86,10 @@ two = record { least = omega arith; most = omega arith; each = (omega arith, (om
 
 rates-piece : Piece (λ (x : List ℕ × List TaskLine). bytes ")\n(rates" ++ (joined spaced (x .0) ++ (bytes ")\n" ++ joined taskText (x .1))))
     (λ x. Between Word 2 8 (x .0) × Between (TaskLineOk (length (x .0))) 1 32 (x .1)) (λ r. starts 40 r ≡ false)
-    (seq both (skip (bytes ")\n(rates") (numbers 2 6)) (λ rs. skip (bytes ")\n") (readTasks (length rs))))
+    (seq both (skip (bytes ")\n(") (skip (bytes "rates") (numbers 2 6))) (λ rs. skip (bytes ")\n") (readTasks (length rs))))
 rates-piece =
-    seq-piece both _ _ (skip-piece (bytes ")\n(rates") (0 ∷ 0 ∷ [], two) (numbers-piece 2 6))
+    seq-piece both _ _
+    (skip-piece (bytes ")\n(") (0 ∷ 0 ∷ [], two) (skip-piece (bytes "rates") (0 ∷ 0 ∷ [], two) (numbers-piece 2 6)))
     (λ rs d. skip-piece (bytes ")\n") (some-tasks (length rs)) (tasks-piece (length rs)))
     (λ a b. refl) (λ a b d e. (d, e)) (λ x d. (x .0, x .1, d .0, d .1, refl)) (λ rs _. some-tasks (length rs)) (λ a b r _ _ _. (refl, refl))
 

@@ -114,7 +114,7 @@ readTasks m = many (readTask m) 40 1 31
 abbrev pub readScript : List ℕ → Res Script
 readScript =
     seq mkScript (field (bytes "(slack "))
-    (λ _. seq both (skip (bytes ")\n(rates") (numbers 2 6))
+    (λ _. seq both (skip (bytes ")\n(") (skip (bytes "rates") (numbers 2 6)))
     (λ rs. skip (bytes ")\n") (readTasks (length rs))))
 
 -- all of a text: nothing may follow

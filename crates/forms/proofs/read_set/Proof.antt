@@ -16,7 +16,6 @@ use Rattle.text.proofs.Sizes.{words-size}
 use Rattle.scanner.specs.Steps.{ofRead, noValue}
 use Rattle.scanner.proofs.Places.{map-id, onward, seq-at, Took, took, lost}
 use Rattle.forms.specs.Forms.{allWords, wordCount}
-use Rattle.forms.proofs.Cuts.{first-departs, first-there}
 use Rattle.forms.proofs.Lists.{departs}
 use Rattle.forms.proofs.Words.{set-words}
 use borrow.Author.Needs.{needs}
@@ -62,17 +61,17 @@ next : (o : tie.After-next) → let g = slack-of o in
     readAt (literal (bytes ")\n(")) (now (start g .args .s)) (g .slack .given .0 .1 .0) ≡ got tt (o .next .given .0 .1 .0)
 next o = took noValue (readAt (literal _) _ _) (o .before .before .literal .ensures) (o .next .given .1) .is
 
-named : (r : tie.After-name) → let g = slack-of (next-of r) in
-    readAt (literal (bytes ")\n(rates")) (now (start g .args .s)) (g .slack .given .0 .1 .0) ≡ got tt (r .name .given .0 .1 .0)
-named r =
-    first-there (bytes ")\n(") (bytes "rates") _ _ (next (next-of r))
-    (took noValue (readAt (literal _) _ _) (r .before .before .literal2 .ensures) (r .name .given .1) .is)
+named : (r : tie.After-name) → let o = next-of r in
+    readAt (literal (bytes "rates")) (now (start (slack-of o) .args .s)) (o .next .given .0 .1 .0) ≡ got tt (r .name .given .0 .1 .0)
+named r = took noValue (readAt (literal _) _ _) (r .before .before .literal2 .ensures) (r .name .given .1) .is
 
 -- What is left to read behind the name of the second line.
 to-rates : (r : tie.After-name) → let t = now (first r .args .s) in
     readAt readScript t 0 ≡ mapRes (mkScript (slack-of (next-of r) .slack .given .0 .0))
     (onward both (λ rs. skip (bytes ")\n") (readTasks (length rs))) t (readAt (numbers 2 6) t (r .name .given .0 .1 .0)))
-to-rates r = rw (seq-at, slack (slack-of (next-of r)), seq-at, seq-at, named r, map-id)
+to-rates r =
+    let o = next-of r in
+    rw (seq-at, slack (slack-of o), seq-at, seq-at, next o, seq-at, named r, map-id, map-id)
 
 rates : (m : tie.After-rates) → let r = name-of m in
     Took length (readAt (numbers 2 6) (now (first r .args .s)) (r .name .given .0 .1 .0)) (m .rates .given .0 .0) (m .rates .given .0 .1 .0)
@@ -158,7 +157,7 @@ enum-told-2 c = search needs
 returns-2 : tie.Need-returns-2
 returns-2 c =
     let g = c .before .before .before .before .before in
-    let e = first-departs (bytes ")\n(") (bytes "rates") _ _ (lost noValue (readAt (literal _) _ _) (c .before .before .literal .ensures) (c .enum-told2 .given .1)) in
+    let e = lost noValue (readAt (literal _) _ _) (c .before .before .literal .ensures) (c .enum-told2 .given .1) in
     departs (rw (seq-at, slack g, seq-at, seq-at, e)) (c .enum-told2 .given .1)
 
 slice-aggregate-literal-2 : tie.Need-slice-aggregate-literal-2
@@ -176,8 +175,8 @@ enum-told-3 c = search needs
 returns-3 : tie.Need-returns-3
 returns-3 c =
     let o = c .before .before .before .before .before in
-    let e = first-there (bytes ")\n(") (bytes "rates") _ _ (next o) (lost noValue (readAt (literal _) _ _) (c .before .before .literal2 .ensures) (c .enum-told3 .given .1)) in
-    departs (rw (seq-at, slack (slack-of o), seq-at, seq-at, e)) (c .enum-told3 .given .1)
+    let e = lost noValue (readAt (literal _) _ _) (c .before .before .literal2 .ensures) (c .enum-told3 .given .1) in
+    departs (rw (seq-at, slack (slack-of o), seq-at, seq-at, next o, seq-at, e)) (c .enum-told3 .given .1)
 
 add-numbers : tie.Need-add-numbers
 add-numbers c = omega (arith, head-few Ordinary, head-call (c .before .before) .head-size .ensures)
