@@ -36,7 +36,7 @@ written=$(size "$archive" | awk 'NR > 1 { bytes += $2 + $3 } END { print bytes +
 # docs/CALLS.md has each refusal's name beside its number.
 names=0
 while read -r name number; do
-    grep -q "^| $number | \`$name\` |" docs/CALLS.md || fail "docs/CALLS.md does not name refusal $number $name"
+    grep -q "^\*\*$number \`$name\`\*\*: " docs/CALLS.md || fail "docs/CALLS.md does not name refusal $number $name"
     names=$((names + 1))
 done < <(sed -n 's/^#define SEEDSPELL_REFUSED_\([A-Z_]*\) \([0-9]*\) .*/\1 \2/p' include/seedspell.h)
 [ "$names" -eq 8 ] || fail "the header has $names names of refusals"
