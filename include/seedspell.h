@@ -5,8 +5,8 @@
  *
  * OF EVERY CALL
  *
- * - A list is a pointer and its length: the number of words (uint32_t) or bytes (uint8_t) that are lent. No call reads or
- *   writes outside them.
+ * - A list is a pointer and its length: the number of words (uint32_t) or bytes (uint8_t) that are lent. No call reads
+ *   or writes outside them.
  * - A pointer is not null and is aligned to its words, also where the length is 0.
  * - Lists lent together do not overlap, unless both are only read; and nothing else changes them during the call.
  * - A call returns 0, or a refusal: its number x 2^32 + its second number (SEEDSPELL_REFUSAL, SEEDSPELL_SECOND).
@@ -17,14 +17,15 @@
  *
  * NUMBERS AND PLACES
  *
- * Rate numbers and task numbers count from 1: rate number 1 is the lowest rate, task number 1 the first task. Places in a list
- * count from 0, as C counts: in a table of the M rates of a set, rate number r stands at entry r - 1, and entry M is past its
- * end. In a plan, the rate number of task number k stands at entry k - 1.
+ * Rate numbers and task numbers count from 1: rate number 1 is the lowest rate, task number 1 the first task. Places in
+ * a list count from 0, as C counts: in a table of the M rates of a set, rate number r stands at entry r - 1, and entry
+ * M is past its end. In a plan, the rate number of task number k stands at entry k - 1.
  *
- * A SET is 3 + M + N x (2 + M) words: the slack in thousandths, 1 to 1,000; the number of rates M, 2 to 8; the M rates in
- * cycles a tick, each 1 to 1,000,000 and above the one before it; the number of tasks N, 1 to 32; then for each task its period
- * in ticks, 1 to 10,000,000, the cycles of one job, 1 to 4,000,000,000, and M energies in microjoules per job, at rate numbers
- * 1, 2, .. M, each 1 to 1,000,000. The hyper-period, the least common multiple of the periods, is at most 10,000,000.
+ * A SET is 3 + M + N x (2 + M) words: the slack in thousandths, 1 to 1,000; the number of rates M, 2 to 8; the M rates
+ * in cycles a tick, each 1 to 1,000,000 and above the one before it; the number of tasks N, 1 to 32; then for each task
+ * its period in ticks, 1 to 10,000,000, the cycles of one job, 1 to 4,000,000,000, and M energies in microjoules per
+ * job, at rate numbers 1, 2, .. M, each 1 to 1,000,000. The hyper-period, the least common multiple of the periods, is
+ * at most 10,000,000.
  */
 #ifndef SEEDSPELL_H
 #define SEEDSPELL_H
@@ -63,8 +64,8 @@ extern "C" {
 /* Bytes of results that a call leaves: four values of eight bytes each, lowest byte first. */
 #define SEEDSPELL_RESULT_BYTES 32
 
-/* The walk: every tick from 0 to the hyper-period, all tasks released at 0, the earliest deadline first and of equal deadlines
- * the lower task number.
+/* The walk: every tick from 0 to the hyper-period, all tasks released at 0, the earliest deadline first and of equal
+ * deadlines the lower task number.
  *
  * set, set_len          the set
  * plan, plan_len        a rate number, 1 to M, for each of the N tasks: exactly N words. Of a longer list that the
@@ -72,15 +73,17 @@ extern "C" {
  * results, results_len  receives the results, at least 32 bytes
  *
  * Returns 0 and leaves in the first 32 bytes of results
- *   1, busy ticks, idle ticks, preemptions       if every deadline is kept: then the plan keeps every deadline for ever, and
- *                                               the busy ticks are its load;
- *   0, tick, task number, 0                     if a deadline is missed, at that tick, by that task, the lowest numbered of
- *                                               those that miss theirs then: the plan does not keep every deadline for ever;
+ *   1, busy ticks, idle ticks, preemptions      if every deadline is kept: then the plan keeps every deadline for
+ *                                               ever, and the busy ticks are its load;
+ *   0, tick, task number, 0                     if a deadline is missed, at that tick, by that task, the lowest
+ *                                               numbered of those that miss theirs then: the plan does not keep
+ *                                               every deadline for ever;
  * or refuses: 2, 3, 4, 8, and then 6 with 32, in this order. */
-uint64_t seedspell_walk(const uint32_t *set, size_t set_len, const uint32_t *plan, size_t plan_len, uint8_t *results, size_t results_len);
+uint64_t seedspell_walk(const uint32_t *set, size_t set_len, const uint32_t *plan, size_t plan_len,
+                        uint8_t *results, size_t results_len);
 
-/* The planner: a rate for each task, so that every deadline is kept for ever, at an energy over the hyper-period that is within
- * the slack of the least possible.
+/* The planner: a rate for each task, so that every deadline is kept for ever, at an energy over the hyper-period that
+ * is within the slack of the least possible.
  *
  * set, set_len          the set
  * plan, plan_len        receives the plan, at least N words: 32 are enough for every set
@@ -89,18 +92,21 @@ uint64_t seedspell_walk(const uint32_t *set, size_t set_len, const uint32_t *pla
  *                       for W, lend one word: a set that passes checks 2, 3 and 4 is then refused with 5 and W
  * results, results_len  receives the results, at least 32 bytes
  *
- * Returns 0 and leaves in the first N words of plan a rate number, 1 to M, for each task; 0 in the first W working words; and in
- * the first 32 bytes of results
- *   unit, load, L, energy                       the unit of energy that the plan was chosen with, a power of two; the plan's load,
- *                                               at most L; the hyper-period L; the plan's energy over the hyper-period in
- *                                               microjoules. The plan keeps every deadline for ever, and (1,000 + slack) x the
- *                                               energy of any other that does is at least 1,000 x this one;
- * or refuses: 2, 3, 4, 5 with W, 6 with N for the plan list, 6 with 32 for the results, and then 7, in this order. 7 is returned
- * if and only if none of the others applies and no plan keeps every deadline for ever. On a refusal nothing is changed.
+ * Returns 0 and leaves in the first N words of plan a rate number, 1 to M, for each task; 0 in the first W working
+ * words; and in the first 32 bytes of results
+ *   unit, load, L, energy                       the unit of energy that the plan was chosen with, a power of two; the
+ *                                               plan's load, at most L; the hyper-period L; the plan's energy over
+ *                                               the hyper-period in microjoules. The plan keeps every deadline for
+ *                                               ever, and (1,000 + slack) x the energy of any other that does is at
+ *                                               least 1,000 x this one;
+ * or refuses: 2, 3, 4, 5 with W, 6 with N for the plan list, 6 with 32 for the results, and then 7, in this order. 7 is
+ * returned if and only if none of the others applies and no plan keeps every deadline for ever. On a refusal nothing is
+ * changed.
  *
- * Whoever turns a rate number into a clock setting uses table entry number - 1, since rate numbers count from 1 and C's tables
- * from 0: a table of M settings has entries 0 to M - 1. */
-uint64_t seedspell_plan(const uint32_t *set, size_t set_len, uint32_t *plan, size_t plan_len, uint32_t *work, size_t work_len, uint8_t *results, size_t results_len);
+ * Whoever turns a rate number into a clock setting uses table entry number - 1, since rate numbers count from 1 and C's
+ * tables from 0: a table of M settings has entries 0 to M - 1. */
+uint64_t seedspell_plan(const uint32_t *set, size_t set_len, uint32_t *plan, size_t plan_len,
+                        uint32_t *work, size_t work_len, uint8_t *results, size_t results_len);
 
 #ifdef __cplusplus
 }

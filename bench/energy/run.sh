@@ -1,8 +1,9 @@
 #!/usr/bin/env bash
-# Energies of the planner's plans beside the least possible, and its time beside a solver's: bash bench/energy/run.sh [SETS [SEED]]
-# The sets are those of source document 000's experiments in whole numbers (workload.py). The least energy comes from an integer program
-# and glpsol of GLPK, which is not installed from here: Debian and its kin have it as the package glpk-utils (apt-get install
-# glpk-utils). Prints two tables, see measure.py.
+# Energies of the planner's plans beside the least possible, and its time beside a solver's:
+#     bash bench/energy/run.sh [SETS [SEED]]
+# The sets are those of source document 000's experiments in whole numbers (workload.py). The least energy comes from an
+# integer program and glpsol of GLPK, which is not installed from here: Debian and its kin have it as the package
+# glpk-utils (apt-get install glpk-utils). Prints two tables, see measure.py.
 set -eu
 cd "$(dirname "$0")/../.."
 

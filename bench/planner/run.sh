@@ -1,9 +1,9 @@
 #!/usr/bin/env bash
 # Times the archive's planner beside the same planner in plain C: bash bench/planner/run.sh [REPETITIONS [SEED]]
-# Before that both answer the stored planner records and some random sets, and are held to the answers of tests/reference.py. Then
-# prints a line a case, see bench.c.
-# With SELFTEST=1 in the environment nothing is proved or built with rt: a second copy of the plain planner takes the archive's
-# place, which tries the harness and the plain planner.
+# Before that both answer the stored planner records and some random sets, and are held to the answers of
+# tests/reference.py. Then prints a line a case, see bench.c. With SELFTEST=1 in the environment nothing is proved or
+# built with rt: a second copy of the plain planner takes the archive's place, which tries the harness and the plain
+# planner.
 set -eu
 cd "$(dirname "$0")/../.."
 

@@ -1,10 +1,11 @@
 #!/usr/bin/env bash
-# Times the reader and the writer of the bracketed text beside the same in plain C: bash bench/text/run.sh [REPETITIONS [SEED]]
-# Both are first held to equal answers. Then prints a line a case, see bench.c.
-# The reader and the writer are no entries of the product's archive. So a copy of the crates under target/ gets one more crate, made of
-# entries/, and the archive is built of that. Its files end in .in, since rt refuses Rattle files that no crate of the repository has.
-# With SELFTEST=1 in the environment nothing is proved or built with rt: a second copy of the plain calls takes the archive's place,
-# which tries the harness.
+# Times the reader and the writer of the bracketed text beside the same in plain C:
+#     bash bench/text/run.sh [REPETITIONS [SEED]]
+# Both are first held to equal answers. Then prints a line a case, see bench.c. The reader and the writer are no entries
+# of the product's archive. So a copy of the crates under target/ gets one more crate, made of entries/, and the archive
+# is built of that. Its files end in .in, since rt refuses Rattle files that no crate of the repository has. With
+# SELFTEST=1 in the environment nothing is proved or built with rt: a second copy of the plain calls takes the archive's
+# place, which tries the harness.
 set -eu
 cd "$(dirname "$0")/../.."
 
@@ -14,7 +15,8 @@ need gcc "the C compiler"
 out=target/bench/text
 mkdir -p "$out"
 
-# Builds the archive in a copy of the tree, and sets `archive` to its place. What is proved already is taken over, not proved again.
+# Builds the archive in a copy of the tree, and sets `archive` to its place. What is proved already is taken over, not
+# proved again.
 build_text_archive() {
     need rt "the command of the Rattle kit, which builds the archive"
     local tree=$out/tree

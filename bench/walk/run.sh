@@ -1,6 +1,7 @@
 #!/usr/bin/env bash
 # Times the archive's walk beside the same walk in plain C: bash bench/walk/run.sh [REPETITIONS]
-# Prints a line a case: name, N, L, nanoseconds a tick of the archive and of the plain walk, and the first over the second.
+# Prints a line a case: name, N, L, nanoseconds a tick of the archive and of the plain walk, and the first over the
+# second.
 set -eu
 cd "$(dirname "$0")/../.."
 

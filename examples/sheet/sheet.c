@@ -2,8 +2,8 @@
 
        sheet TICK <LIST
 
-   TICK is the length of a tick in microseconds, 1 to 1,000,000,000. LIST is the set's words as plain numbers with spaces or line
-   ends between them; include/seedspell.h says which words those are.
+   TICK is the length of a tick in microseconds, 1 to 1,000,000,000. LIST is the set's words as plain numbers with
+   spaces or line ends between them; include/seedspell.h says which words those are.
 
    Ends with 0 where there is a plan, with 1 where the planner refuses the set (and the sheet says what to mend), with 2
    where there is no whole sheet, since the input cannot be used, there is no memory to plan with, or the sheet cannot
@@ -102,8 +102,9 @@ static void read_results(const uint8_t *results, uint64_t *value)
     }
 }
 
-/* a x b / c rounded up, for c up to 2^62 and an answer of at most 64 bits. The product may be longer than that (an energy of
-   3.2e14 times a day of 8.64e10 microseconds is), so it is made from the bits of b, and only quotient and remainder are kept. */
+/* a x b / c rounded up, for c up to 2^62 and an answer of at most 64 bits. The product may be longer than that (an
+   energy of 3.2e14 times a day of 8.64e10 microseconds is), so it is made from the bits of b, and only quotient and
+   remainder are kept. */
 static uint64_t scaled(uint64_t a, uint64_t b, uint64_t c)
 {
     uint64_t quotient = 0, rest = 0;
@@ -241,8 +242,8 @@ static uint64_t plan_set(uint8_t *results)
 
 /* ---- The sheet */
 
-/* Rate numbers count from 1 and a C table from 0: of M settings rate number M is the last, at entry M - 1, and at entry M there is
-   none. This is the only place that turns a rate number into a setting. */
+/* Rate numbers count from 1 and a C table from 0: of M settings rate number M is the last, at entry M - 1, and at entry
+   M there is none. This is the only place that turns a rate number into a setting. */
 static uint32_t clock_setting(const uint32_t *settings, uint32_t rate_number)
 {
     return settings[rate_number - 1];
@@ -257,8 +258,8 @@ static void print_boot_table(void)
         printf("%4" PRIu32 "  %4" PRIu32 "  %" PRIu32 "\n", k, plan[k - 1], clock_setting(settings, plan[k - 1]));
 }
 
-/* A job takes a tick at least and 1,000,000 microjoules at most, and a day has at most 8.64e10 ticks: so a day's energy is at most
-   8.64e16 microjoules. */
+/* A job takes a tick at least and 1,000,000 microjoules at most, and a day has at most 8.64e10 ticks: so a day's energy
+   is at most 8.64e16 microjoules. */
 static void print_battery_page(const uint64_t *planned, const uint64_t *walked, uint64_t tick)
 {
     uint64_t unit = planned[0], load = planned[1], span = planned[2], energy = planned[3];

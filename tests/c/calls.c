@@ -1,16 +1,17 @@
-/* Calls both entries of the archive many times and holds every answer, every lent word and what lies around the lists to
-   document 01, as reference.c reads it.
+/* Calls both entries of the archive many times and holds every answer, every lent word and what lies around the lists
+   to document 01, as reference.c reads it.
 
        calls [SEED [RANDOM SETS]]
 
-   Prints how many calls of each kind there were. Ends with 0 if every call was as it should be and each kind came up often
-   enough, with 1 if not. The first call that departs is printed and ends the run.
+   Prints how many calls of each kind there were. Ends with 0 if every call was as it should be and each kind came up
+   often enough, with 1 if not. The first call that departs is printed and ends the run.
 
-   The lists lie between guard bytes. What is lent as room holds all sorts of things before the call, and past the end of a set
-   that is lent too short lie the words that it lacks: so a call that makes anything of either is likely to give another answer
-   than the reference.
+   The lists lie between guard bytes. What is lent as room holds all sorts of things before the call, and past the end
+   of a set that is lent too short lie the words that it lacks: so a call that makes anything of either is likely to
+   give another answer than the reference.
 
-   Compiled with WITH_VALGRIND and run under it, the guards may not even be read, and the room counts as holding nothing. */
+   Compiled with WITH_VALGRIND and run under it, the guards may not even be read, and the room counts as holding
+   nothing. */
 
 #include <inttypes.h>
 #include <stdio.h>
@@ -791,7 +792,7 @@ static void plan_and_walk(const struct list *set)
         walk_under(set, planned.plan, planned.plan_words, &want);
 }
 
-/* Every word at the end of its range but the cycles: at the highest rate the tasks take `ticks` of 10,000,000 together. */
+/* Every word at the end of its range but the cycles: at the highest rate they take `ticks` of 10,000,000 in all. */
 static void limit_shape(struct shape *shape, uint32_t tasks, uint32_t slack, uint32_t ticks)
 {
     plain_shape(shape, 8, tasks);
@@ -825,7 +826,7 @@ static void long_spans(void)
     flatten(&shape, &set);
     plan_and_walk(&set);
     walk_under(&set, (const uint32_t[]){3, 2}, 2, &(struct answer){0});
-    /* A load of L, and of L + 1: missed at the very end. The rates are low, so that the cycles do not pass their range. */
+    /* A load of L, and of L + 1: missed at the very end. Rates are low, so that the cycles do not pass their range. */
     for (uint32_t more = 0; more <= 1; more++) {
         plain_shape(&shape, 2, 2);
         shape.period[0] = 10000000;

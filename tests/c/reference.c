@@ -147,8 +147,8 @@ static int fits(const struct task_set *s, uint64_t load)
 
 /* ---- Which plan */
 
-/* A plan of some tasks with its sums. The rate numbers stand last task first, so that comparing them from the front compares
-   'the lowest rate number for task N, then for task N - 1, and so on down to task 1'. */
+/* A plan of some tasks with its sums. The rate numbers stand last task first, so that comparing them from the front
+   compares 'the lowest rate number for task N, then for task N - 1, and so on down to task 1'. */
 struct entry {
     uint64_t rounded, load;
     uint8_t back[MOST_TASKS];
@@ -192,8 +192,8 @@ static void sum(const struct task_set *s, uint64_t unit, struct entry *plan)
     }
 }
 
-/* Of all plans that fit the first by rounded energy, load and rate numbers. Returns how many are alike but for these last; 0
-   where none fits. */
+/* Of all plans that fit the first by rounded energy, load and rate numbers. Returns how many are alike but for these
+   last; 0 where none fits. */
 static uint64_t choose_from_all(const struct task_set *s, uint64_t unit, struct entry *best)
 {
     struct entry plan = {0};
@@ -235,8 +235,8 @@ static void add(struct entries *to, struct entry entry)
     to->list[to->count++] = entry;
 }
 
-/* Leaves out what cannot become the choice: where some other entry has no more rounded energy and no more load, and comes first.
-   Put in its place, that one gives a plan that fits and comes first too, whatever rates follow. */
+/* Leaves out what cannot become the choice: where some other entry has no more rounded energy and no more load, and
+   comes first. Put in its place, that one gives a plan that fits and comes first too, whatever rates follow. */
 static void thin_out(struct entries *of)
 {
     size_t kept = 0;

@@ -1,6 +1,7 @@
 #!/usr/bin/env bash
 # Builds the C test over the archive for C, and runs it: bash tests/c/run.sh [SEED [RANDOM SETS]]
-# With VALGRIND=1 in the environment it runs under valgrind, where also reading outside the lent lists is seen; this takes minutes.
+# With VALGRIND=1 in the environment it runs under valgrind, where also reading outside the lent lists is seen; this
+# takes minutes.
 set -eu
 cd "$(dirname "$0")/../.."
 

@@ -1,7 +1,7 @@
 #!/usr/bin/env bash
 # Shows that the C test can fail: bash tests/c/selftest.sh (about a minute, so no part of the gate)
-# The reference takes the archive's place (standin.c), as it is and then with one error planted at a time; as it is no call may
-# depart, and with an error some call must.
+# The reference takes the archive's place (standin.c), as it is and then with one error planted at a time; as it is no
+# call may depart, and with an error some call must.
 set -eu
 cd "$(dirname "$0")/../.."
 
@@ -11,7 +11,8 @@ cc -O2 -c tests/c/calls.c -o "$out/calls.o"
 cc -O2 -c tests/c/sets.c -o "$out/sets.o"
 cc -O2 -c tests/c/reference.c -o "$out/reference.o"
 
-# build FOLDER: the test with the stand-in of that folder, under names of its own so that the test's reference stays as it is.
+# build FOLDER: the test with the stand-in of that folder, under names of its own so that the test's reference stays as
+# it is.
 build() {
     local renamed="-Dexpect_plan=standin_plan -Dexpect_walk=standin_walk -Dcan_be_written=standin_can_be_written"
     # shellcheck disable=SC2086
@@ -30,7 +31,8 @@ lay_out() {
 
 missed=0
 planted=0
-# plant NAME FILE OLD NEW: replaces the one place where FILE has OLD, and expects that a call departs, or that the error ends the run.
+# plant NAME FILE OLD NEW: replaces the one place where FILE has OLD, and expects that a call departs, or that the error
+# ends the run.
 plant() {
     local folder text rest status=0 found
     folder=$(lay_out "$1")

@@ -192,8 +192,8 @@ static void draw_tasks_of(struct shape *shape, uint32_t span)
     }
 }
 
-/* Gives one task the cycles with which some plan's load is L, or 1 more or less: half of the time the plan with every task at
-   the highest rate, of which the planner's answer hangs. */
+/* Gives one task the cycles with which some plan's load is L, or 1 more or less: half of the time the plan with every
+   task at the highest rate, of which the planner's answer hangs. */
 static void fill_up(struct shape *shape, uint32_t span)
 {
     uint32_t last = draw_word(0, shape->tasks - 1), highest = shape->rates - 1, rate_of_last = highest;

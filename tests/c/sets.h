@@ -6,7 +6,7 @@
 #include <stddef.h>
 #include <stdint.h>
 
-#define MOST_WORDS 400                  /* a set of 9 rates and 33 tasks, one more than allowed of each, and some to spare */
+#define MOST_WORDS 400                  /* 9 rates and 33 tasks, one more than allowed of each, and some to spare */
 #define MOST_PLAN 48
 #define SHORT_SPAN 2000                 /* hyper-periods up to this are walked quickly */
 

@@ -1,5 +1,5 @@
-/* The two entries over the reference, in the archive's place: what selftest.sh plants errors in, to see that the test finds them.
-   No part of the test itself. */
+/* The two entries over the reference, in the archive's place: what selftest.sh plants errors in, to see that the test
+   finds them. No part of the test itself. */
 
 #include <string.h>
 
