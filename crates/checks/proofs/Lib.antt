@@ -1,3 +1,4 @@
+pub mod Fronts
 pub mod Following
 pub mod Judging
 pub mod Access

@@ -1,15 +1,34 @@
 -- What the functions below the calls are asked for and give. Not part of what a reader must believe: the calls'
 -- contracts speak of Refusals and Calls alone.
-use Prim.Native.Nat.{ℕ, suc, _-_, _≤_, _<_}
+use Prim.Native.Nat.{ℕ, suc, _-_, _^_, _≤_, _<_}
 use mathlib.Core.Path.{_≡_}
+use mathlib.Core.Bool.{false, cond}
 use mathlib.Core.List.{List}
+use lib.Dec.{ltb}
 use lib.ListN.{length}
 use Rattle.numbers.specs.Numbers.{running}
 use Rattle.numbers.specs.Search.{Found}
-use Rattle.layout.specs.Words.{mostRates, mostTasks, longestPeriod, word, rateCount, taskCount, periodPlace, period}
+use Rattle.layout.specs.Words.{mostRates, mostTasks, longestPeriod, word, rateCount, taskCount, taskCountPlace, tasksPlace, periodPlace, period, kindAt, allows}
+use Rattle.layout.specs.declared.Kind.{Kind}
+use Rattle.layout.specs.declared.Kind.the-variants.{LeftOver}
 use Rattle.layout.specs.declared.Layout.{Layout}
 use Rattle.taskset.specs.Quantities.{hyperLimit}
 use Rattle.layout.proofs.Whole.{IsWhole}
+
+-- What the word at q stands for, up to the task count; 'left over' behind that, where nothing is allowed. So the front
+-- ends at q: its word is out of its range, or stands behind the task count.
+unfoldable pub frontKind : Layout → List ℕ → ℕ → Kind
+frontKind layout s q = cond (ltb (taskCountPlace layout (rateCount layout s)) q) LeftOver (kindAt layout s q)
+
+abbrev pub EndsFront : Layout → List ℕ → ℕ → Type 0
+EndsFront layout s q = allows s q (frontKind layout s q) ≡ false
+
+-- A list of m rates and n tasks by its own counts, which goes on behind the task count or ends there.
+pub record FrontPassed (layout : Layout) (m n : ℕ) (s : List ℕ) : Type 0 where
+  pub word-rates : m < 2 ^ 32
+  pub counted : m ≡ rateCount layout s
+  pub numbered : n ≡ taskCount layout s
+  pub words : tasksPlace layout m ≤ length s
 
 -- The word at q is not above the one before; the running multiple passes the limit at task t.
 abbrev pub Falls : List ℕ → ℕ → Type 0

@@ -5,11 +5,11 @@ ghost use mathlib.Core.List.{[], _∷_};
 ghost use Prim.Native.Nat.{_*_, _<_, _≤_};
 ghost use lib.ListN.{length};
 ghost use Rattle.numbers.specs.Search.{Found};
-ghost use Rattle.layout.specs.Words.{ratePlace, taskCountPlace, mostRates, slack, rate, period, cycles, energy, kindAt, OutOfRange};
+ghost use Rattle.layout.specs.Words.{ratePlace, taskCountPlace, tasksPlace, mostRates, slack, rate, period, cycles, energy, OutOfRange};
 ghost use Rattle.taskset.specs.Quantities.{jobTime};
 ghost use Rattle.taskset.specs.Refusals.{_▹_, wordChecks, hyperCheck};
 ghost use Rattle.taskset.specs.Calls.{CountsAfter, SetAfter};
-ghost use Rattle.checks.specs.Steps.{Falls, HasTasks, Followed, OfTask};
+ghost use Rattle.checks.specs.Steps.{frontKind, EndsFront, FrontPassed, Falls, HasTasks, Followed, OfTask};
 use layout::Kind;
 use layout::Layout;
 use taskset::Checked;
@@ -26,11 +26,10 @@ struct Multiple {
     value: u64,
 }
 
-// What the word at place q stands for, by the words before it. The number of tasks is compared with a quotient: their
-// words might not fit a usize where the task count is bad.
-fn kind_at(s: &[u32], layout: Layout, q: usize) -> Kind
+// What the word at place q stands for, up to the task count, by the words before it; 'left over' behind that.
+fn front_kind(s: &[u32], layout: Layout, q: usize) -> Kind
     requires { ⌜ q < length (now s) ⌝ }
-    ensures { λ r. ⌜ r ≡ kindAt layout (now (s .entry)) q ⌝ }
+    ensures { λ r. ⌜ r ≡ frontKind layout (now (s .entry)) q ⌝ }
 {
     let head = layout::head_size(layout);
     if q < head {
@@ -47,28 +46,67 @@ fn kind_at(s: &[u32], layout: Layout, q: usize) -> Kind
     if q == c {
         return Kind::TaskCount;
     }
-    let n = s[c] as usize;
-    let k = q - (c + 1);
-    let size = layout::task_size(layout, m);
-    if n <= k / size {
-        return Kind::LeftOver;
-    }
-    layout::task_kind(layout, k % size)
+    Kind::LeftOver
 }
 
-// The first place whose word is out of its range or left over, or the list's length.
-fn first_bad(s: &[u32], layout: Layout) -> usize
-    ensures { λ r. ⌜ Found (OutOfRange layout (now (s .entry))) 0 (length (now (s .entry))) r ⌝ }
+// The first place up to the task count whose word is out of its range, or the place behind the task count, or the
+// list's length.
+fn front_end(s: &[u32], layout: Layout) -> usize
+    ensures { λ r. ⌜ Found (EndsFront layout (now (s .entry))) 0 (length (now (s .entry))) r ⌝ }
 {
     let mut q = 0;
     while q < s.len() {
-        let k = kind_at(s, layout, q);
+        let k = front_kind(s, layout, q);
         if !layout::is_allowed(s, q, k) {
             return q;
         }
         q += 1;
     }
     q
+}
+
+// The first place behind the task count whose word is out of its range or left over, or the list's length. Words are
+// counted task by task, so that none is divided for; the list may have any number for its task count.
+fn tasks_end(s: &[u32], layout: Layout, m: usize, n: usize) -> usize
+    requires { ⌜ FrontPassed layout m n (now s) ⌝ }
+    ensures { λ r. ⌜ Found (OutOfRange layout (now (s .entry))) (tasksPlace layout m) (length (now (s .entry))) r ⌝ }
+{
+    let size = layout::task_size(layout, m);
+    let mut q = layout::tasks_place(layout, m);
+    let mut task = 0;
+    let mut k = 0;
+    while q < s.len() {
+        if n <= task {
+            return q;
+        }
+        if !layout::is_allowed(s, q, layout::task_kind(layout, k)) {
+            return q;
+        }
+        q += 1;
+        k += 1;
+        if k == size {
+            k = 0;
+            task += 1;
+        }
+    }
+    q
+}
+
+// The first place whose word is out of its range or left over, or the list's length.
+fn first_bad(s: &[u32], layout: Layout) -> usize
+    ensures { λ r. ⌜ Found (OutOfRange layout (now (s .entry))) 0 (length (now (s .entry))) r ⌝ }
+{
+    let front = front_end(s, layout);
+    let head = layout::head_size(layout);
+    if front <= head {
+        return front;
+    }
+    let m = s[head] as usize;
+    let c = layout::task_count_place(layout, m);
+    if front <= c {
+        return front;
+    }
+    tasks_end(s, layout, m, s[c] as usize)
 }
 
 // The place of the first of m rates that is not above the one before it, or the place after the rates.

@@ -3,11 +3,9 @@
 use Prim.Native.Nat.{ℕ, suc, _+_, _-_, _*_, _/_, _%_, _≤_, _<_}
 use mathlib.Core.Path.{_≡_, refl, ap, _∙_}
 use mathlib.Core.List.{List}
-use mathlib.Core.Logic.{⊎-elim}
 use native.Mathlib.Nat.{div-lt-iff-lt-mul, mul-add-div-right, mul-add-mod-self-right, div-eq-of-lt, mod-eq-of-lt, mul-le-mul-right, mul-comm, mul-suc}
 use native.Mathlib.Omega.{arith}
 use borrow.Author.Tests.{lt-ltb, le-ltb, eq-eqb, ne-eqb}
-use Rattle.numbers.proofs.Tests.{lt-or-le}
 use Rattle.layout.specs.Words.{headSize, extraKinds, extraSize, rateCount, taskCount, taskCountPlace, tasksPlace, taskSize, periodPlace, wordCount, kindIn, headKind, taskKind, kindAt}
 use Rattle.layout.specs.declared.Kind.the-variants.{RateCount, Rate, TaskCount, Period, Cycles, Energy, LeftOver}
 use Rattle.layout.specs.declared.Layout.{Layout}
@@ -58,15 +56,6 @@ module _ (layout : Layout) (s : List ℕ) (q : ℕ) where
 
   -- past the task count, k words after the first task's place
   module _ (k : ℕ) (e : q ≡ tasksPlace layout (rateCount layout s) + k) where
-    pub kind-left : taskCount layout s ≤ k / taskSize layout (rateCount layout s) → kindAt layout s q ≡ LeftOver
-    kind-left h =
-        kind-past (omega arith)
-        (⊎-elim
-        (λ (l : q < wordCount layout s).
-        absurd (omega (arith, div-lt-iff-lt-mul {k = taskSize layout (rateCount layout s)} {x = k} {y = taskCount layout s} (omega arith) .1 (omega arith))))
-        (λ (l : wordCount layout s ≤ q). l)
-        (lt-or-le q (wordCount layout s)))
-
     pub kind-word : k / taskSize layout (rateCount layout s) < taskCount layout s → kindAt layout s q ≡ taskKind layout (k % taskSize layout (rateCount layout s))
     unfolding kindAt
     kind-word h =

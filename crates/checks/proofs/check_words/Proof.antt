@@ -1,12 +1,12 @@
 -- Checks 2 and 3: what the two searches find is what the definitions ask for.
 -- Assumes nothing.
 use Prim.Native.Nat.{ℕ, _≤_}
-use mathlib.Core.Path.{_≡_}
+use mathlib.Core.Path.{_≡_, ap, _∙_}
 use mathlib.Core.List.{List}
 use native.Mathlib.Omega.{arith}
 use lib.ListN.{length}
 use Rattle.numbers.specs.Search.{Found}
-use Rattle.layout.specs.Words.{mostRates, mostTasks, rateCount, taskCount, ratePlace, taskCountPlace, wordCount}
+use Rattle.layout.specs.Words.{mostRates, mostTasks, word, rateCount, taskCount, ratePlace, taskCountPlace, periodPlace, wordCount}
 use Rattle.layout.specs.declared.Layout.{Layout}
 use Rattle.checks.specs.Steps.{Falls}
 use Rattle.checks.proofs.Judging.{Counts, counts-read, bad-word, missing-word, rates-range, tasks-range, not-above, is-shape}
@@ -47,9 +47,11 @@ tasks e = let b = searched (e .before) in
 end-is : (p : tie.After-period-place)
     → let b = searched (counted p) in p .period-place .result ≡ wordCount (layout b) (list b)
 end-is p =
-    let f = counts (counted p) in
-    let e = p .period-place .ensures in
-    cc
+    let x = counted p in
+    let b = searched x in
+    p .period-place .ensures ∙
+    ap (λ (m : ℕ). periodPlace (layout b) m (word (list b) (x .task-count-place .result))) (counts x .rates) ∙
+    ap (periodPlace (layout b) (rateCount (layout b) (list b))) (counts x .tasks)
 
 -- What the second search finds, in a list that has all its words.
 enough : (g : tie.After-first-fall)

@@ -1,66 +1,89 @@
--- The first bad word. The invariant: no word before the place in hand is bad.
+-- The first bad word: in the front, or behind it.
 -- Assumes nothing.
-use mathlib.Core.Path.{sym, ap, _∙_}
-use mathlib.Core.Bool.{true≢false}
-use borrow.Author.Tests.{not-true, not-false}
-use Rattle.layout.specs.Words.{allows, OutOfRange}
-use Rattle.numbers.proofs.Searches.{found-here, found-end, none-more}
-use Prim.Native.Nat.{ℕ, _≤_, _<_, _-_}
-use lib.ListN.{length}
 use native.Mathlib.Omega.{arith}
+use Rattle.checks.proofs.Fronts.{in-front, behind}
+use Rattle.checks.proofs.Judging.{Counts, counts-read}
 use borrow.Author.Needs.{needs}
 use Rattle.checks.proofs.first_bad.Statement.{statement}
 use Rattle.checks.proofs.first_bad.Tie as tie
 
-abbrev Inv-loop : tie.InvT-loop
-Inv-loop s layout q₀ q = (q ≤ length s) × ((k : ℕ) → 0 ≤ k → k < q → OutOfRange layout s k → ⊥)
+-- The way back to the front's end, and what was read of the list.
+abbrev front : tie.After-task-count-place → tie.After-front-end
+front x = x .before .before .before .before
 
-abbrev μ-loop : tie.MeasureT-loop
-μ-loop s layout q₀ q = length s - q
+counts : (x : tie.After-task-count-place) → let a = front x .before .before .args in
+    Counts (a .layout) (a .s .now) (x .before .before .before .head-size .result) (x .task-count-place .result)
+counts x = counts-read _ _ (x .before .before .before .head-size .ensures) (x .task-count-place .ensures)
 
-loop-holds : tie.Need-loop-holds Inv-loop μ-loop
-loop-holds c = (omega arith, (λ k a b. absurd (omega arith)))
+front-end-requires : tie.Need-front-end-requires
+front-end-requires c κs = search needs
 
-kind-at-requires : tie.Need-kind-at-requires Inv-loop μ-loop
-kind-at-requires c κs = search needs
+head-size-requires : tie.Need-head-size-requires
+head-size-requires c κs = search needs
 
-is-allowed-requires : tie.Need-is-allowed-requires Inv-loop μ-loop
-is-allowed-requires c κs = search needs
-
-returns : tie.Need-returns Inv-loop μ-loop
+returns : tie.Need-returns
 returns c =
-    let b = c .before .before .before .before in
-    let start = b .before .before in
-    let k = c .before .is-allowed .ensures ∙ ap (allows (start .args .s .now) (b .loop .q)) (c .before .before .kind-at .ensures) in
-    found-here (omega arith) (b .loop .inv .1) (omega arith) (sym k ∙ not-true _ (c .if1 .taken))
+    let h = c .before in
+    in-front _ _ (h .before .front-end .ensures) (omega (arith, h .head-size .ensures, c .if1 .taken))
 
-add-q : tie.Need-add-q Inv-loop μ-loop
-add-q c = search needs
+mul-m : tie.Need-mul-m
+mul-m c = search needs
 
-loop-less : tie.Need-loop-less Inv-loop μ-loop
-loop-less c = search needs
+shared-slice-read-m : tie.Need-shared-slice-read-m
+shared-slice-read-m c = search needs
 
-loop-again : tie.Need-loop-again Inv-loop μ-loop
-loop-again c =
-    let b = c .before .before .before .before in
-    let start = b .before .before in
-    let k = c .before .is-allowed .ensures ∙ ap (allows (start .args .s .now) (b .loop .q)) (c .before .before .kind-at .ensures) in
-    (omega arith, none-more (omega arith) (b .loop .inv .1) (λ h. true≢false (sym (not-false _ (c .if1 .left)) ∙ k ∙ h)))
+cast-m : tie.Need-cast-m
+cast-m c = omega (arith, c .shared-slice-known2 .given (c .before .before .head-size .result))
 
-returns-2 : tie.Need-returns-2 Inv-loop μ-loop
-returns-2 c = found-end (omega arith) (c .before .loop .inv .1) (omega arith)
+task-count-place-requires : tie.Need-task-count-place-requires
+task-count-place-requires c κs = omega (arith, c .shared-slice-known2 .given (c .before .before .head-size .result))
+
+returns-2 : tie.Need-returns-2
+returns-2 c =
+    let x = c .before in
+    in-front _ _ (front x .front-end .ensures) (omega (arith, counts x .place, c .if2 .taken))
+
+mul-tasks-end : tie.Need-mul-tasks-end
+mul-tasks-end c = search needs
+
+shared-slice-read-tasks-end : tie.Need-shared-slice-read-tasks-end
+shared-slice-read-tasks-end c = search needs
+
+cast-tasks-end : tie.Need-cast-tasks-end
+cast-tasks-end c = omega (arith, c .shared-slice-known3 .given (c .before .before .task-count-place .result))
+
+tasks-end-requires : tie.Need-tasks-end-requires
+tasks-end-requires c κs =
+    let x = c .before .before in
+    let f = counts x in
+    record {
+      word-rates = omega (arith, x .before .shared-slice-known2 .given (x .before .before .before .head-size .result));
+      counted = f .rates;
+      numbered = f .tasks;
+      words = omega (arith, f .place, f .rates, front x .front-end .ensures .to, c .before .if2 .left);
+    }
+
+returns-3 : tie.Need-returns-3
+returns-3 c =
+    let x = c .before .before .before in
+    let f = counts x in
+    behind _ _ (front x .front-end .ensures) (omega (arith, f .place, c .before .before .if2 .left))
+    (rw (f .rates) at (c .tasks-end .ensures))
 
 pub first-bad-spec : {M : Type 1} → statement M
 first-bad-spec =
     tie.close
     (tie.spec
-    Inv-loop
-    μ-loop
-    loop-holds
-    kind-at-requires
-    is-allowed-requires
+    front-end-requires
+    head-size-requires
     returns
-    add-q
-    loop-less
-    loop-again
-    returns-2)
+    mul-m
+    shared-slice-read-m
+    cast-m
+    task-count-place-requires
+    returns-2
+    mul-tasks-end
+    shared-slice-read-tasks-end
+    cast-tasks-end
+    tasks-end-requires
+    returns-3)
