@@ -4,6 +4,8 @@ ghost use Rattle.answer.specs.Answer.{Responds};
 ghost use Rattle.answer.specs.Steps.{PutAnswer, PutSet, PlannedSet};
 use layout::MOST_TASKS;
 use layout::MOST_WORDS;
+use lines::PlanFigures;
+use lines::WalkFigures;
 use taskset::Checked;
 use taskset::CopyAnswer;
 use taskset::PlannerAnswer;
@@ -15,16 +17,8 @@ const WORK_WORDS: usize = 16_384;
 
 // The lines of a plan that was given, with those of its walk. A plan from the planner is always kept, so the other
 // answers do not occur.
-fn answer_plan(
-    set: &[u32],
-    plan: &[u32],
-    unit: u64,
-    load: u64,
-    hyper: u64,
-    energy: u64,
-    text: &mut [u8; 2048],
-) -> usize
-    requires { ⌜ PlannedSet (now set) (now plan) unit load hyper energy ⌝ }
+fn answer_plan(set: &[u32], plan: &[u32], p: PlanFigures, text: &mut [u8; 2048]) -> usize
+    requires { ⌜ PlannedSet (now set) (now plan) (p .unit) (p .load) (p .hyper) (p .energy) ⌝ }
     ensures { λ r. ⌜ PutSet (now (set .entry)) (now (text .entry)) (now (text .exit)) r ⌝ }
 {
     match walk::walk(set, plan) {
@@ -32,7 +26,14 @@ fn answer_plan(
             busy,
             idle,
             preempted,
-        } => { lines::put_plan(text, unit, load, hyper, energy, plan, busy, idle, preempted) }
+        } => {
+            let w = WalkFigures {
+                busy,
+                idle,
+                preempted,
+            };
+            lines::put_plan(text, p, plan, w)
+        }
         WalkAnswer::Missed { tick: _, task: _ } => 0,
         WalkAnswer::Refused(_) => 0,
     }
@@ -58,7 +59,15 @@ fn answer_set(set: &[u32], text: &mut [u8; 2048]) -> usize
                     load,
                     hyper,
                     energy,
-                } => answer_plan(set, &plan[..tasks], unit, load, hyper, energy, text),
+                } => {
+                    let p = PlanFigures {
+                        unit,
+                        load,
+                        hyper,
+                        energy,
+                    };
+                    answer_plan(set, &plan[..tasks], p, text)
+                }
             }
         }
     }

@@ -77,22 +77,26 @@ fn add_walk(buf: &mut [u8], at: usize, busy: u64, idle: u64, preempted: u64) -> 
     printer::add_bytes(buf, c, b"))\n")
 }
 
+// The numbers of a plan's own line, and those of its walk's.
+pub struct PlanFigures {
+    pub unit: u64,
+    pub load: u64,
+    pub hyper: u64,
+    pub energy: u64,
+}
+
+pub struct WalkFigures {
+    pub busy: u64,
+    pub idle: u64,
+    pub preempted: u64,
+}
+
 // The lines of a plan: its own, one a task, and that of its walk. How many bytes.
-pub fn put_plan(
-    buf: &mut [u8],
-    unit: u64,
-    load: u64,
-    hyper: u64,
-    energy: u64,
-    plan: &[u32],
-    busy: u64,
-    idle: u64,
-    preempted: u64,
-) -> usize
-    requires { ⌜ length (planLine unit load hyper energy ++ (rateLines 1 (now plan) ++ walkLine busy idle preempted)) ≤ length (now buf) ⌝ }
-    ensures { λ r. ⌜ Put (planLine unit load hyper energy ++ (rateLines 1 (now (plan .entry)) ++ walkLine busy idle preempted)) (now (buf .entry)) (now (buf .exit)) r ⌝ }
+pub fn put_plan(buf: &mut [u8], p: PlanFigures, plan: &[u32], w: WalkFigures) -> usize
+    requires { ⌜ length (planLine (p .unit) (p .load) (p .hyper) (p .energy) ++ (rateLines 1 (now plan) ++ walkLine (w .busy) (w .idle) (w .preempted))) ≤ length (now buf) ⌝ }
+    ensures { λ r. ⌜ Put (planLine (p .unit) (p .load) (p .hyper) (p .energy) ++ (rateLines 1 (now (plan .entry)) ++ walkLine (w .busy) (w .idle) (w .preempted))) (now (buf .entry)) (now (buf .exit)) r ⌝ }
 {
-    let a = add_plan(buf, unit, load, hyper, energy);
+    let a = add_plan(buf, p.unit, p.load, p.hyper, p.energy);
     let b = add_rates(buf, a, plan);
-    add_walk(buf, b, busy, idle, preempted)
+    add_walk(buf, b, w.busy, w.idle, w.preempted)
 }
