@@ -47,7 +47,8 @@ pub record Read (s : Script) (t : List ℕ) : Type 0 where
 -- or of the planner on the words of t's script; else a plan's lines.
 pub data Prints (t out : List ℕ) : Type 0 where
   unread : (n k : ℕ) → Refuses (readerChecks t setLent) n k → out ≡ refusedLine n k → Prints t out
-  refused : (s : Script) (n k : ℕ) → Read s t → Refuses (plannerChecks (words s) planLent workLent) n k → out ≡ refusedLine n k → Prints t out
+  refused : (s : Script) (n k : ℕ) → Read s t → Refuses (plannerChecks (words s) planLent workLent) n k
+      → out ≡ refusedLine n k → Prints t out
   planned : (s : Script) (P : List ℕ) (unit load hyper energy busy idle preempted : ℕ)
       → Read s t → PrintsPlan (words s) P out unit load hyper energy busy idle preempted → Prints t out
 

@@ -17,7 +17,8 @@ pub record PlannedSet (s P : List ℕ) (unit load hyper energy : ℕ) : Type 0 w
 -- The lines for a set's words: of the planner's refusal, or of a plan.
 pub data PrintsSet (s out : List ℕ) : Type 0 where
   refused : (n k : ℕ) → Refuses (plannerChecks s planLent workLent) n k → out ≡ refusedLine n k → PrintsSet s out
-  planned : (P : List ℕ) (unit load hyper energy busy idle preempted : ℕ) → PrintsPlan s P out unit load hyper energy busy idle preempted → PrintsSet s out
+  planned : (P : List ℕ) (unit load hyper energy busy idle preempted : ℕ)
+      → PrintsPlan s P out unit load hyper energy busy idle preempted → PrintsSet s out
 
 -- They stand at the front of the buffer.
 abbrev pub PutSet : (s d d′ : List ℕ) → ℕ → Type 0

@@ -50,7 +50,8 @@ walkEntryChecks s P size = walkChecks s P ▹ roomCheck resultSize size
 -- and after: on success only the first 32 change, on refusal none.
 abbrev pub WalkEntryGives : (s P results results′ : List ℕ) → ℕ → Type 0
 WalkEntryGives s P results results′ returned =
-    ((a : WalkAnswer) × Accepts (walkEntryChecks s P (length results)) × WalkAnswers s P a × (returned ≡ 0) × (results′ ≡ resultBytes (walkValues a) ++ drop resultSize results)) ⊎
+    ((a : WalkAnswer) × Accepts (walkEntryChecks s P (length results)) × WalkAnswers s P a × (returned ≡ 0) ×
+    (results′ ≡ resultBytes (walkValues a) ++ drop resultSize results)) ⊎
     ((r : Refusal) × Refuses (walkEntryChecks s P (length results)) (number r) (second r) × (returned ≡ code r) × (results′ ≡ results))
 
 -- The entry's contract: the above; and again over the bytes, where 0 is returned: the first value is 1 if and only if
@@ -71,7 +72,8 @@ planEntryChecks s planLength workLength size = beforeSeven s planLength workLeng
 -- plan, work and results are the lists as lent, plan′, work′ and results′ as given back.
 abbrev pub PlanEntryGives : (s plan work results plan′ work′ results′ : List ℕ) → ℕ → Type 0
 PlanEntryGives s plan work results plan′ work′ results′ returned =
-    ((a : PlannerAnswer) × Accepts (planEntryChecks s (length plan) (length work) (length results)) × PlannerGives s plan work plan′ work′ a ×
+    ((a : PlannerAnswer) × Accepts (planEntryChecks s (length plan) (length work) (length results)) ×
+    PlannerGives s plan work plan′ work′ a ×
     (returned ≡ 0) × (results′ ≡ resultBytes (plannerValues a) ++ drop resultSize results)) ⊎
     ((r : Refusal) × Refuses (planEntryChecks s (length plan) (length work) (length results)) (number r) (second r) × (returned ≡ code r) ×
     (plan′ ≡ plan) × (work′ ≡ work) × (results′ ≡ results))

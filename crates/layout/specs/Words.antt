@@ -131,7 +131,8 @@ kindAt layout s q =
     (cond (eqb q (headSize layout)) RateCount
     (cond (ltb q (taskCountPlace layout (rateCount layout s))) Rate
     (cond (eqb q (taskCountPlace layout (rateCount layout s))) TaskCount
-    (cond (ltb q (wordCount layout s)) (taskKind layout ((q - tasksPlace layout (rateCount layout s)) % taskSize layout (rateCount layout s)))
+    (cond (ltb q (wordCount layout s))
+    (taskKind layout ((q - tasksPlace layout (rateCount layout s)) % taskSize layout (rateCount layout s)))
     LeftOver))))
 
 -- RANGES. "the slack G in thousandths (1 to 1,000); the rate count M (2 to 8); M rates in cycles per tick (1 to

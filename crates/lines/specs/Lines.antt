@@ -25,7 +25,8 @@ rateLines task (rate ∷ P) = rateLine task rate ++ rateLines (suc task) P
 -- `(walk (busy 29) (idle 1) (preempted 1))`
 unfoldable pub walkLine : (busy idle preempted : ℕ) → List ℕ
 walkLine busy idle preempted =
-    bytes "(walk (busy " ++ (decimal busy ++ (bytes ") (idle " ++ (decimal idle ++ (bytes ") (preempted " ++ (decimal preempted ++ bytes "))\n")))))
+    bytes "(walk (busy " ++ (decimal busy ++ (bytes ") (idle " ++ (decimal idle ++
+    (bytes ") (preempted " ++ (decimal preempted ++ bytes "))\n")))))
 
 -- "For a refusal it prints only `(refused 7 0)`, with that number and place."
 unfoldable pub refusedLine : (number second : ℕ) → List ℕ

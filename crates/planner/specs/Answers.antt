@@ -17,7 +17,8 @@ pub record RateNumber (m w : ℕ) : Type 0 where
   pub place : w - 1 < m
 
 abbrev pub RateNumbers : List ℕ → List ℕ → PlannerAnswer → Type 0
-RateNumbers s plan′ (Planned unit load hyper energy) = (t : ℕ) → t < taskCount Ordinary s → RateNumber (rateCount Ordinary s) (getD plan′ t 0)
+RateNumbers s plan′ (Planned unit load hyper energy) =
+    (t : ℕ) → t < taskCount Ordinary s → RateNumber (rateCount Ordinary s) (getD plan′ t 0)
 RateNumbers s plan′ (NotPlanned r) = Unit {0}
 
 -- THE CALL'S CONTRACT, where plan and work were lent, and plan′ and work′ are given back: the answer and every word are

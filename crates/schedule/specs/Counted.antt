@@ -39,7 +39,9 @@ leftAt (j ∷ js) (suc n) = leftAt js n
 -- the next one now.
 abbrev pub preemptedAt : List Task → ℕ → ℕ
 preemptedAt ks zero = 0
-preemptedAt ks (suc t) = count (ltb (ran ks (suc t)) (length ks) && (not (eqb (ran ks (suc t)) (ran ks t)) && ltb 0 (leftAt (before ks (suc t)) (ran ks t))))
+preemptedAt ks (suc t) =
+    count (ltb (ran ks (suc t)) (length ks) &&
+    (not (eqb (ran ks (suc t)) (ran ks t)) && ltb 0 (leftAt (before ks (suc t)) (ran ks t))))
 
 -- "the task, the lowest-numbered where several miss"; tasks are numbered from 1.
 abbrev pub lateTask : ℕ → List Job → ℕ

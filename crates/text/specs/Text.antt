@@ -58,7 +58,8 @@ taskText t =
 
 abbrev pub scriptText : Script → List ℕ
 scriptText s =
-    bytes "(slack " ++ (decimal (s .slack) ++ (bytes ")\n(rates" ++ (joined spaced (s .rates) ++ (bytes ")\n" ++ joined taskText (s .tasks)))))
+    bytes "(slack " ++ (decimal (s .slack) ++ (bytes ")\n(rates" ++ (joined spaced (s .rates) ++
+    (bytes ")\n" ++ joined taskText (s .tasks)))))
 
 -- WELL-FORMED TEXTS.
 
@@ -127,4 +128,8 @@ lineOf s t = record {
 }
 
 unfoldable pub scriptOf : List ℕ → Script
-scriptOf s = record { slack = slack s; rates = each (rate Ordinary s) 1 (rateCount Ordinary s); tasks = each (lineOf s) 0 (taskCount Ordinary s) }
+scriptOf s = record {
+  slack = slack s;
+  rates = each (rate Ordinary s) 1 (rateCount Ordinary s);
+  tasks = each (lineOf s) 0 (taskCount Ordinary s);
+}
