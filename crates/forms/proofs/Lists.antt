@@ -2,7 +2,7 @@
 -- Assumes nothing.
 use Prim.Native.Nat.{ℕ, zero, suc, _+_, _-_, _*_, _≤_, _<_}
 use mathlib.Core.Path.{_≡_, refl, sym, ap, _∙_}
-use mathlib.Core.List.{List, [], _∷_, _++_, append-assoc, append-nil}
+use mathlib.Core.List.{List, [], _∷_, _++_, append-nil}
 use mathlib.Core.Bool.{true, false}
 use mathlib.Core.Logic.{⊎-elim}
 use native.Mathlib.Omega.{arith}
@@ -10,10 +10,11 @@ use native.Mathlib.Nat.{add-zero, sub-zero, suc-mul}
 use native.Mathlib.Numerals.{add-one}
 use lib.ListN.{length, drop, length-append}
 use lib.Seq.{append-snoc}
+use Rattle.numbers.specs.Numbers.{joined}
 use Rattle.numbers.proofs.Tests.{lt-or-le}
-use Rattle.text.specs.Text.{joined}
+use Rattle.numbers.proofs.Lists.{joined-one}
 use Rattle.text.proofs.Reading.{Res, got, bad, mapRes, seq, many, starts, readAt}
-use Rattle.text.proofs.Writing.{written, written-none, extend}
+use Rattle.taskset.proofs.Writing.{written, written-none, extend}
 use Rattle.scanner.specs.declared.Read.{Read}
 use Rattle.scanner.specs.declared.Read.the-variants.{Got, Bad}
 use Rattle.scanner.specs.Steps.{ofRead}
@@ -31,10 +32,6 @@ behind xs = mapRes (λ ys. xs ++ ys)
 behind-one : {A : Type 0} (xs : List A) (v : A) (y : Res (List A)) → behind xs (mapRes (λ ys. v ∷ ys) y) ≡ behind (xs ++ (v ∷ [])) y
 behind-one xs v (got ys i) = ap (λ z. got z i) (sym (append-snoc xs v ys))
 behind-one xs v (bad o) = refl
-
-joined-one : {A : Type 0} (f : A → List ℕ) (xs : List A) (a : A) → joined f (xs ++ (a ∷ [])) ≡ joined f xs ++ f a
-joined-one f [] a = append-nil (f a)
-joined-one f (x ∷ xs) a = rw (joined-one f xs a) (sym (append-assoc (f x) (joined f xs) (f a)))
 
 -- The words of a number.
 abbrev pub alone : ℕ → List ℕ

@@ -10,9 +10,9 @@ use Rattle.layout.specs.declared.Layout.the-variants.{Ordinary}
 use Rattle.text.specs.Text.{TaskLine, Script, headWords, extraWords, taskWords, words}
 use Rattle.text.proofs.Reading.{got, readTask, readAt}
 use Rattle.text.proofs.Grammar.{dom-of, task-piece}
-use Rattle.text.proofs.Writing.{written, written-then, length-written}
+use Rattle.taskset.proofs.Writing.{written, written-then, length-written}
 use Rattle.forms.specs.Forms.{allWords}
-use Rattle.forms.proofs.Stores.{stored, in-front}
+use Rattle.taskset.proofs.Stores.{stored, in-front}
 
 -- The words in front of the rate count, and of a task's energies.
 head-front : (s : Script) → length (headWords s) ≡ headSize Ordinary

@@ -4,9 +4,10 @@ use Prim.Native.Nat.{ℕ}
 use mathlib.Core.Path.{_≡_}
 use mathlib.Core.List.{List}
 use lib.ListN.{length}
-use Rattle.text.specs.Text.{bytes, TaskLine, Script, taskWords, joined, words}
+use Rattle.numbers.specs.Numbers.{joined}
+use Rattle.text.specs.Text.{bytes, TaskLine, Script, taskWords, words}
 use Rattle.text.proofs.Reading.{Res, got, bad, mapRes, field}
-use Rattle.text.proofs.Writing.{written}
+use Rattle.taskset.proofs.Writing.{written}
 use Rattle.scanner.specs.Steps.{ofRead}
 use Rattle.scanner.specs.declared.Read.{Read}
 

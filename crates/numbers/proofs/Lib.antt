@@ -6,3 +6,4 @@ pub mod Multiples
 pub mod Powers
 pub mod Search
 pub mod Searches
+pub mod Lists

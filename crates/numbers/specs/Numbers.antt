@@ -2,7 +2,7 @@
 -- to be the operation that its name says.
 use Prim.Native.Nat.{ℕ, zero, suc, _+_, _-_, _*_, _/_, _%_, _^_, _≤_, _<_}
 use mathlib.Core.Bool.{Bool, _&&_}
-use mathlib.Core.List.{List, [], _∷_}
+use mathlib.Core.List.{List, [], _∷_, _++_}
 use lib.ListN.{getD}
 use lib.Dec.{leb}
 
@@ -67,3 +67,13 @@ pub record Lowest (P : ℕ → Type 0) (k : ℕ) : Type 0 where
 abbrev pub All : {A : Type 0} → (A → Type 0) → List A → Type 0
 All P [] = Unit {0}
 All P (x ∷ xs) = P x × All P xs
+
+-- f i, f (i + 1), and so on, n of them.
+abbrev pub each : {A : Type 0} → (ℕ → A) → ℕ → ℕ → List A
+each f i zero = []
+each f i (suc n) = f i ∷ each f (suc i) n
+
+-- What each item of a list gives, one after the other.
+abbrev pub joined : {A : Type 0} → (A → List ℕ) → List A → List ℕ
+joined f [] = []
+joined f (x ∷ xs) = f x ++ joined f xs

@@ -13,7 +13,7 @@ use borrow.Author.Tests.{ltb-true, ltb-false}
 use borrow.Rule.Slice.PartMut.{putMid, post-is}
 use Rattle.text.specs.Text.{decimal}
 use Rattle.text.proofs.Numerals.{decimal-step, decimal-one}
-use Rattle.text.proofs.Writing.{placed, written, written-none, written-front, length-written, written-then}
+use Rattle.taskset.proofs.Writing.{placed, written, written-none, written-front, length-written, written-then}
 use Rattle.printer.specs.Puts.{Put, Added}
 
 -- ---- the digits of a number

@@ -17,7 +17,7 @@ use Rattle.text.proofs.Reading.{Res, got, bad, ended, readScript, readText, rea
 use Rattle.text.proofs.Pieces.{Good, no-first-bad}
 use Rattle.text.proofs.Grammar.{script-piece}
 use Rattle.text.proofs.Copies.{is-read, is-refused, one-script}
-use Rattle.text.proofs.Writing.{placed, written}
+use Rattle.taskset.proofs.Writing.{placed, written}
 use Rattle.forms.specs.Forms.{wordCount}
 use Rattle.scanner.proofs.Places.{later-zero}
 

@@ -5,7 +5,7 @@ ghost use mathlib.Core.Path.{_≡_};
 ghost use Prim.Native.Nat.{_≤_};
 ghost use lib.ListN.{length};
 ghost use Rattle.text.specs.Calls.{ReaderGives};
-ghost use Rattle.text.proofs.Writing.{placed};
+ghost use Rattle.taskset.proofs.Writing.{placed};
 use scanner::Read;
 use taskset::CopyAnswer;
 use taskset::Refusal;

@@ -5,5 +5,7 @@ pub mod Sets
 pub mod Small
 pub mod DemandThree
 pub mod Copied
+pub mod Writing
+pub mod Stores
 pub mod Unique
 pub mod Cases

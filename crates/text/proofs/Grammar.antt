@@ -8,8 +8,8 @@ use mathlib.Core.Bool.{false}
 use native.Mathlib.Omega.{arith}
 use native.Mathlib.Nat.{add-zero}
 use lib.ListN.{length, drop}
-use Rattle.numbers.specs.Numbers.{All}
-use Rattle.text.specs.Text.{TaskLine, Script, bytes, decimal, joined, spaced, taskText, scriptText}
+use Rattle.numbers.specs.Numbers.{All, joined}
+use Rattle.text.specs.Text.{TaskLine, Script, bytes, decimal, spaced, taskText, scriptText}
 use Rattle.text.specs.Text.{Word, Between, TaskLineOk, ScriptOk, IsTextOf, WellFormed, FirstBad}
 use Rattle.text.proofs.Reading.{Res, got, bad, later, seq, skip, upTo, field, numbers, starts, both}
 use Rattle.text.proofs.Reading.{mkTask, mkScript, readTask, readTasks, moreTasks, readScript, readText, readAt}

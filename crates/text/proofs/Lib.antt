@@ -9,4 +9,3 @@ pub mod Sizes
 pub mod RoundTrip
 pub mod Copies
 pub mod Theorems
-pub mod Writing

@@ -8,8 +8,8 @@ use native.Mathlib.Omega.{arith}
 use native.Mathlib.Nat.{zero-add, suc-add}
 use lib.ListN.{length, take}
 use lib.Dec.{eqb}
-use Rattle.numbers.specs.Numbers.{All}
-use Rattle.text.specs.Text.{joined, Between}
+use Rattle.numbers.specs.Numbers.{All, joined}
+use Rattle.text.specs.Text.{Between}
 use Rattle.text.proofs.Reading.{Res, got, bad, ext, seq, many, starts}
 use Rattle.text.proofs.Pieces.{Good, LocalAt, Piece, seq-piece}
 use Rattle.text.proofs.Literals.{same-head}

@@ -7,21 +7,12 @@ use native.Mathlib.Nat.{zero-add, add-zero, suc-mul}
 use native.Mathlib.Omega.{arith}
 use lib.ListN.{length, drop, drop-of-length-le}
 use lib.Seq.{drop-cons}
-use Rattle.numbers.specs.Numbers.{All}
+use Rattle.numbers.specs.Numbers.{each, joined}
+use Rattle.numbers.proofs.Lists.{each-length, each-all}
 use Rattle.layout.specs.Words.{headKinds, extraKinds, headSize, extraSize, word, slack, rateCount, taskCountPlace, taskCount, taskSize, periodPlace, rate, energy}
 use Rattle.layout.proofs.Whole.{IsWhole, in-list, slack-in}
 use Rattle.layout.specs.declared.Layout.the-variants.{Ordinary}
-use Rattle.text.specs.Text.{joined, Word, TaskLineOk, ScriptOk, headWords, extraWords, taskWords, words, each, lineOf, scriptOf}
-
--- ---- each
-module _ {A : Type 0} (f : ℕ → A) where
-  pub each-length : (i n : ℕ) → length (each f i n) ≡ n
-  each-length i zero = refl
-  each-length i (suc n) = ap suc (each-length (suc i) n)
-
-  each-all : (P : A → Type 0) (i n : ℕ) → ((j : ℕ) → i ≤ j → j < i + n → P (f j)) → All P (each f i n)
-  each-all P i zero h = tt
-  each-all P i (suc n) h = (h i (omega arith) (omega arith), each-all P (suc i) n (λ j a b. h j (omega arith) (omega arith)))
+use Rattle.text.specs.Text.{Word, TaskLineOk, ScriptOk, headWords, extraWords, taskWords, words, lineOf, scriptOf}
 
 -- Words that stand in a row of a list, and what follows them.
 module _ (s : List ℕ) (f : ℕ → ℕ) (p : ℕ) (stands : (j : ℕ) → f j ≡ word s (p + j)) where

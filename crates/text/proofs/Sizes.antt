@@ -10,11 +10,11 @@ use native.Mathlib.Omega.{arith}
 use lib.ListN.{length, replicate, length-append}
 use lib.Dec.{ltb}
 use borrow.Author.Tests.{ltb-true, ltb-false}
-use Rattle.numbers.specs.Numbers.{All}
+use Rattle.numbers.specs.Numbers.{All, joined}
 use Rattle.layout.specs.Words.{headKinds, extraKinds, mostRates, mostTasks, mostWords, taskSize, periodPlace}
 use Rattle.layout.specs.declared.Layout.the-variants.{Ordinary}
 use Rattle.layout.proofs.Layouts.{words-few}
-use Rattle.text.specs.Text.{TaskLine, Script, digits, decimal, joined, spaced, taskText, scriptText, taskWords, words, Word, TaskLineOk, ScriptOk, IsTextOf}
+use Rattle.text.specs.Text.{TaskLine, Script, digits, decimal, spaced, taskText, scriptText, taskWords, words, Word, TaskLineOk, ScriptOk, IsTextOf}
 
 -- ---- numbers
 digits-length : (k n : ℕ) → length (digits k n) ≤ k

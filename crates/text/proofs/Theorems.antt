@@ -5,13 +5,14 @@ use mathlib.Core.Path.{_≡_, refl, sym, _∙_}
 use mathlib.Core.List.{List, [], _∷_, _++_}
 use mathlib.Core.Logic.{_↔_, _⊎_, inl, inr}
 use lib.ListN.{length, take, drop, replicate}
+use Rattle.numbers.specs.Numbers.{joined}
 use Rattle.layout.specs.Words.{headKinds, extraKinds}
 use Rattle.layout.specs.declared.Layout.the-variants.{Ordinary}
 use Rattle.taskset.specs.Refusals.{Passes, wordCheck}
 use Rattle.taskset.specs.declared.CopyAnswer.{CopyAnswer}
 use Rattle.taskset.specs.declared.CopyAnswer.the-variants.{Wrote}
 use Rattle.taskset.proofs.Copied.{SameCopied}
-use Rattle.text.specs.Text.{Script, bytes, decimal, joined, scriptText, IsTextOf, WellFormed, FirstBad, words, scriptOf}
+use Rattle.text.specs.Text.{Script, bytes, decimal, scriptText, IsTextOf, WellFormed, FirstBad, words, scriptOf}
 use Rattle.text.specs.Calls.{ReaderGives, WriterGives}
 use Rattle.text.proofs.Reading.{Res, got, bad, literal, more, number, many, readText}
 use Rattle.text.proofs.Numerals as numerals

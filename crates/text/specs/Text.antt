@@ -10,7 +10,7 @@ use mathlib.Core.List.{List, [], _∷_, _++_}
 use mathlib.Core.Bool.{cond}
 use lib.ListN.{length, take}
 use lib.Dec.{ltb}
-use Rattle.numbers.specs.Numbers.{All}
+use Rattle.numbers.specs.Numbers.{All, each, joined}
 use Rattle.layout.specs.Words.{slack, rateCount, taskCount, rate, period, cycles, energy}
 use Rattle.layout.specs.declared.Layout.the-variants.{Ordinary}
 
@@ -41,11 +41,6 @@ digits (suc k) n = cond (ltb n 10) ((48 + n) ∷ []) (digits k (n / 10) ++ ((48 
 
 unfoldable pub decimal : ℕ → List ℕ
 decimal n = digits 20 n
-
--- What each item of a list gives, one after the other.
-abbrev pub joined : {A : Type 0} → (A → List ℕ) → List A → List ℕ
-joined f [] = []
-joined f (x ∷ xs) = f x ++ joined f xs
 
 -- A space and a number.
 abbrev pub spaced : ℕ → List ℕ
@@ -116,10 +111,6 @@ unfoldable pub words : Script → List ℕ
 words s = headWords s ++ (length (s .rates) ∷ (s .rates ++ length (s .tasks) ∷ joined taskWords (s .tasks)))
 
 -- THE SCRIPT OF A LIST OF WORDS: what the writer writes. Every number in its own place, as the list has it.
-abbrev pub each : {A : Type 0} → (ℕ → A) → ℕ → ℕ → List A
-each f i zero = []
-each f i (suc n) = f i ∷ each f (suc i) n
-
 abbrev pub lineOf : List ℕ → ℕ → TaskLine
 lineOf s t = record {
   period = period Ordinary s t;

@@ -6,15 +6,17 @@ use mathlib.Core.List.{List, _++_, append-assoc}
 use native.Mathlib.Nat.{zero-add}
 use native.Mathlib.Omega.{arith}
 use lib.ListN.{length, getD, take, drop, length-append}
+use Rattle.numbers.specs.Numbers.{each, joined}
+use Rattle.numbers.proofs.Lists.{each-length, each-at}
 use Rattle.layout.specs.Words.{slackPlace, headSize, mostRates, mostTasks, word, rateCount, taskCount, ratePlace, taskCountPlace, taskSize, energyPlace, rate, energy}
 use Rattle.layout.specs.declared.Layout.the-variants.{Ordinary}
 use Rattle.layout.proofs.Whole.{in-list}
-use Rattle.text.specs.Text.{TaskLine, Script, joined, taskText, scriptText, each, lineOf, scriptOf}
+use Rattle.text.specs.Text.{TaskLine, Script, taskText, scriptText, lineOf, scriptOf}
 use Rattle.text.proofs.Sizes.{text-length}
-use Rattle.text.proofs.RoundTrip.{each-length, script-of-list}
+use Rattle.text.proofs.RoundTrip.{script-of-list}
 use Rattle.checks.specs.Steps.{OfTask}
 use Rattle.writer.specs.Lines.{WithRates, WithTasks, slackText, ratesText}
-use Rattle.writer.proofs.Rows.{one-more, one-room, each-at, part}
+use Rattle.writer.proofs.Rows.{one-more, one-room, part}
 
 -- ---- the words of a list that passes check 2
 module _ {w : List ℕ} {m : ℕ} (has : WithRates w m) where

@@ -3,10 +3,11 @@
 use Prim.Native.Nat.{ℕ}
 use mathlib.Core.Path.{_≡_}
 use mathlib.Core.List.{List, _++_}
+use Rattle.numbers.specs.Numbers.{joined}
 use Rattle.layout.specs.Words.{rateCount, taskCount}
 use Rattle.layout.specs.declared.Layout.the-variants.{Ordinary}
 use Rattle.layout.proofs.Whole.{IsWhole}
-use Rattle.text.specs.Text.{bytes, decimal, joined, spaced}
+use Rattle.text.specs.Text.{bytes, decimal, spaced}
 
 -- A list that passes check 2, and its rate count.
 pub record WithRates (w : List ℕ) (m : ℕ) : Type 0 where

@@ -4,8 +4,9 @@
 ghost use mathlib.Core.Path.{_≡_};
 ghost use Prim.Native.Nat.{_+_, _^_, _≤_, _<_};
 ghost use lib.ListN.{length};
+ghost use Rattle.numbers.specs.Numbers.{joined};
 ghost use Rattle.layout.specs.Words.{slackPlace};
-ghost use Rattle.text.specs.Text.{joined, spaced, taskText, scriptText, lineOf, scriptOf};
+ghost use Rattle.text.specs.Text.{spaced, taskText, scriptText, lineOf, scriptOf};
 ghost use Rattle.text.specs.Calls.{WriterGives};
 ghost use Rattle.printer.specs.Puts.{Put, Added};
 ghost use Rattle.layout.specs.declared.Layout.the-variants.{Ordinary};

@@ -14,7 +14,7 @@ use Rattle.scanner.specs.Steps.{ofRead}
 use Rattle.scanner.proofs.Classes.{there, not-there, not-space}
 use Rattle.forms.specs.Forms.{spacedNumber}
 use Rattle.forms.proofs.Lists.{departs, alone, SoFar, none-yet, one-more, refused, stopped, full, plainly}
-use Rattle.forms.proofs.Stores.{stored-alone}
+use Rattle.taskset.proofs.Stores.{stored-alone}
 use borrow.Author.Needs.{needs}
 use Rattle.forms.proofs.numbers.Statement.{statement}
 use Rattle.forms.proofs.numbers.Tie as tie

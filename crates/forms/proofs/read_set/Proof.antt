@@ -11,7 +11,7 @@ use Rattle.layout.proofs.Layouts.{head-few, words-few}
 use Rattle.text.specs.Text.{bytes, Script, ScriptOk}
 use Rattle.text.proofs.Reading.{got, mapRes, literal, skip, field, numbers, both, mkScript, readTasks, readScript, readAt}
 use Rattle.text.proofs.Grammar.{dom-of, so-many, script-piece}
-use Rattle.text.proofs.Writing.{written}
+use Rattle.taskset.proofs.Writing.{written}
 use Rattle.text.proofs.Sizes.{words-size}
 use Rattle.scanner.specs.Steps.{ofRead, noValue}
 use Rattle.scanner.proofs.Places.{map-id, onward, seq-at, Took, took, lost}

@@ -10,13 +10,13 @@ use Rattle.layout.specs.Words.{taskSize}
 use Rattle.layout.specs.declared.Layout.the-variants.{Ordinary}
 use Rattle.text.specs.Text.{bytes, extraWords, taskWords}
 use Rattle.text.proofs.Reading.{Res, got, bad, mapRes, literal, upTo, field, numbers, mkTask, both, readTask, readAt}
-use Rattle.text.proofs.Writing.{written}
+use Rattle.taskset.proofs.Writing.{written}
 use Rattle.scanner.specs.Steps.{ofRead, noValue}
 use Rattle.scanner.specs.declared.Read.{Read}
 use Rattle.scanner.proofs.Places.{map-id, seq-at, Took, took, lost}
 use Rattle.forms.specs.Forms.{Gives}
 use Rattle.forms.proofs.Lists.{departs}
-use Rattle.forms.proofs.Stores.{stored, in-front}
+use Rattle.taskset.proofs.Stores.{stored, in-front}
 use Rattle.forms.proofs.Words.{task-front}
 use borrow.Author.Needs.{needs}
 use Rattle.forms.proofs.task.Statement.{statement}

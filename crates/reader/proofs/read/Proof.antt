@@ -7,7 +7,7 @@ use native.Mathlib.Omega.{arith}
 use denote.Ref.{now}
 use lib.ListN.{length, replicate, take}
 use Rattle.layout.specs.Words.{mostWords}
-use Rattle.text.proofs.Writing.{placed, written}
+use Rattle.taskset.proofs.Writing.{placed, written}
 use Rattle.forms.specs.Forms.{wordCount}
 use Rattle.text.proofs.Reading.{readScript, readAt}
 use Rattle.text.specs.Text.{words}

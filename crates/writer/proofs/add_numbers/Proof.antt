@@ -6,7 +6,8 @@ use native.Mathlib.Omega.{arith}
 use denote.Ref.{now}
 use lib.ListN.{length, take}
 use lib.Seq.{take-length}
-use Rattle.text.specs.Text.{joined, spaced}
+use Rattle.numbers.specs.Numbers.{joined}
+use Rattle.text.specs.Text.{spaced}
 use Rattle.printer.specs.Puts.{Added}
 use Rattle.printer.proofs.Puts.{none-added, then}
 use Rattle.writer.proofs.Rows.{one-more, one-room}

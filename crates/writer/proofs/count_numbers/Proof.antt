@@ -6,7 +6,8 @@ use native.Mathlib.Omega.{arith}
 use denote.Ref.{now}
 use lib.ListN.{length, take, length-append}
 use lib.Seq.{take-length}
-use Rattle.text.specs.Text.{joined, spaced}
+use Rattle.numbers.specs.Numbers.{joined}
+use Rattle.text.specs.Text.{spaced}
 use Rattle.writer.proofs.Rows.{one-more, one-room}
 use Rattle.writer.proofs.count_numbers.Statement.{statement}
 use Rattle.writer.proofs.count_numbers.Tie as tie

@@ -6,7 +6,8 @@ use native.Mathlib.Omega.{arith}
 use denote.Ref.{now}
 use lib.ListN.{length, take, length-append}
 use lib.Seq.{take-length}
-use Rattle.text.specs.Text.{joined, taskText, scriptOf}
+use Rattle.numbers.specs.Numbers.{joined}
+use Rattle.text.specs.Text.{taskText, scriptOf}
 use Rattle.writer.proofs.Lists.{tasks-count, task-of, lines-more, lines-room}
 use Rattle.writer.proofs.count_tasks.Statement.{statement}
 use Rattle.writer.proofs.count_tasks.Tie as tie

@@ -6,7 +6,8 @@ use native.Mathlib.Omega.{arith}
 use denote.Ref.{now}
 use lib.ListN.{length, take, length-take, length-drop}
 use lib.Seq.{take-length}
-use Rattle.text.specs.Text.{joined, taskText, lineOf, scriptOf}
+use Rattle.numbers.specs.Numbers.{joined}
+use Rattle.text.specs.Text.{taskText, lineOf, scriptOf}
 use Rattle.printer.specs.Puts.{Added}
 use Rattle.printer.proofs.Puts.{none-added, then-lent, added-length, front}
 use Rattle.writer.proofs.Lists.{tasks-count, task-of, lines-more, lines-room}

@@ -1,0 +1,46 @@
+-- Lists that a function makes number by number, and lists joined item by item: their lengths, what stands where, and one
+-- more at the end.
+-- Assumes nothing.
+use Prim.Native.Nat.{ℕ, zero, suc, _+_, _≤_, _<_}
+use mathlib.Core.Path.{_≡_, refl, sym, ap, _∙_}
+use mathlib.Core.List.{List, [], _∷_, _++_, append-assoc, append-nil}
+use native.Mathlib.Nat.{add-zero}
+use native.Mathlib.Numerals.{add-one}
+use native.Mathlib.Omega.{arith}
+use lib.ListN.{length, getD}
+use Rattle.numbers.specs.Numbers.{All, each, joined}
+
+module _ {A : Type 0} (f : ℕ → A) where
+  pub each-length : (i n : ℕ) → length (each f i n) ≡ n
+  each-length i zero = refl
+  each-length i (suc n) = ap suc (each-length (suc i) n)
+
+  pub each-all : (P : A → Type 0) (i n : ℕ) → ((j : ℕ) → i ≤ j → j < i + n → P (f j)) → All P (each f i n)
+  each-all P i zero h = tt
+  each-all P i (suc n) h = (h i (omega arith) (omega arith), each-all P (suc i) n (λ j a b. h j (omega arith) (omega arith)))
+
+  -- Item k of those from number i on.
+  pub each-at : (i n k : ℕ) → k < n → (d : A) → getD (each f i n) k d ≡ f (i + k)
+  each-at i zero k h d = absurd (omega arith)
+  each-at i (suc n) zero h d = ap f (sym (add-zero i))
+  each-at i (suc n) (suc k) h d =
+      let there : suc i + k ≡ i + suc k = omega arith in
+      each-at (suc i) n k (omega arith) d ∙ ap f there
+
+  -- One more, at the end.
+  pub each-more : (i n : ℕ) → each f i (n + 1) ≡ each f i n ++ (f (i + n) ∷ [])
+  each-more i n = ap (each f i) (add-one n) ∙ go i n
+    where
+      go : (i n : ℕ) → each f i (suc n) ≡ each f i n ++ (f (i + n) ∷ [])
+      go i zero = ap (λ (j : ℕ). f j ∷ []) (sym (add-zero i))
+      go i (suc n) =
+          let there : suc i + n ≡ i + suc n = omega arith in
+          ap (λ (l : List A). f i ∷ l) (go (suc i) n ∙ ap (λ (j : ℕ). each f (suc i) n ++ (f j ∷ [])) there)
+
+module _ {A : Type 0} (g : A → List ℕ) where
+  pub joined-append : (xs ys : List A) → joined g (xs ++ ys) ≡ joined g xs ++ joined g ys
+  joined-append [] ys = refl
+  joined-append (x ∷ xs) ys = rw (joined-append xs ys) (sym (append-assoc (g x) (joined g xs) (joined g ys)))
+
+  pub joined-one : (xs : List A) (a : A) → joined g (xs ++ (a ∷ [])) ≡ joined g xs ++ g a
+  joined-one xs a = joined-append xs (a ∷ []) ∙ ap (λ (l : List ℕ). joined g xs ++ l) (append-nil (g a))
