@@ -2,10 +2,12 @@
 -- Assumes nothing.
 use Prim.Native.Nat.{ℕ, _*_, _≤_, _<_}
 use mathlib.Core.Path.{_≡_, refl}
+use mathlib.Core.Bool.{true}
+use mathlib.Core.List.{List}
 use native.Mathlib.Bridge.{le-by-compare, IsLe}
 use native.Mathlib.Nat.{mul-le-mul}
 use native.Mathlib.Omega.{arith}
-use Rattle.layout.specs.Words.{headKinds, extraKinds, headSize, extraSize, mostRates, mostTasks, mostWords, slackPlace, taskSize, periodPlace, kindIn, headKind}
+use Rattle.layout.specs.Words.{headKinds, extraKinds, headSize, extraSize, mostRates, mostTasks, mostWords, slackPlace, taskSize, periodPlace, word, kindIn, headKind, allows}
 use Rattle.layout.specs.declared.Layout.{Layout}
 use Rattle.layout.specs.declared.Layout.the-variants.{Ordinary}
 use Rattle.layout.specs.declared.Kind.the-variants.{Slack}
@@ -44,3 +46,13 @@ words-few m n a b =
       most-words,
       mul-le-mul {n₁ = n} {m₁ = taskSize Ordinary m} {n₂ = mostTasks} {m₂ = taskSize Ordinary mostRates} b (omega arith),
     )
+
+-- What the ordinary list has beside document 01's words may be 0: in its head, behind the slack, and between a task's
+-- cycles and its energies. Document 01 has no such word.
+pub zero-in-head : (s : List ℕ) (q : ℕ) → 0 < q → q < headSize Ordinary → word s q ≡ 0 → allows s q (headKind Ordinary q) ≡ true
+unfolding headKinds
+zero-in-head s q some h e = absurd (omega arith)
+
+pub zero-in-extra : (s : List ℕ) (q k : ℕ) → k < extraSize Ordinary → word s q ≡ 0 → allows s q (kindIn (extraKinds Ordinary) k) ≡ true
+unfolding extraKinds
+zero-in-extra s q k h e = absurd (omega arith)

@@ -1,14 +1,17 @@
 -- Lists that a function makes number by number, and lists joined item by item: their lengths, what stands where, and one
--- more at the end.
+-- more at the end; and a test over a whole list.
 -- Assumes nothing.
-use Prim.Native.Nat.{ℕ, zero, suc, _+_, _≤_, _<_}
+use Prim.Native.Nat.{ℕ, zero, suc, _+_, _*_, _≤_, _<_}
 use mathlib.Core.Path.{_≡_, refl, sym, ap, _∙_}
+use mathlib.Core.Bool.{Bool, true, _&&_}
 use mathlib.Core.List.{List, [], _∷_, _++_, append-assoc, append-nil}
-use native.Mathlib.Nat.{add-zero}
+use native.Mathlib.Nat.{add-zero, suc-mul}
 use native.Mathlib.Numerals.{add-one}
 use native.Mathlib.Omega.{arith}
-use lib.ListN.{length, getD}
+use lib.ListN.{length, getD, List·getD-append}
+use lib.Seq.{getD-append-add}
 use Rattle.numbers.specs.Numbers.{All, each, joined}
+use Rattle.numbers.proofs.Tests.{and-true}
 
 module _ {A : Type 0} (f : ℕ → A) where
   pub each-length : (i n : ℕ) → length (each f i n) ≡ n
@@ -44,3 +47,29 @@ module _ {A : Type 0} (g : A → List ℕ) where
 
   pub joined-one : (xs : List A) (a : A) → joined g (xs ++ (a ∷ [])) ≡ joined g xs ++ g a
   joined-one xs a = joined-append xs (a ∷ []) ∙ ap (λ (l : List ℕ). joined g xs ++ l) (append-nil (g a))
+
+-- Lists of one size, joined: item k of the one that t gives, of those from number i on.
+pub joined-at : (g : ℕ → List ℕ) (size : ℕ) → ((j : ℕ) → length (g j) ≡ size) → (i n t k : ℕ) → t < n → k < size
+    → getD (joined g (each (λ j. j) i n)) (t * size + k) 0 ≡ getD (g (i + t)) k 0
+joined-at g size sized i zero t k h l = absurd (omega arith)
+joined-at g size sized i (suc n) zero k h l =
+    let rest : List ℕ = joined g (each (λ j. j) (suc i) n) in
+    let here : 0 * size + k ≡ k = omega arith in
+    ap (λ (p : ℕ). getD (g i ++ rest) p 0) here ∙ List·getD-append (g i) rest 0 k (omega (arith, sized i)) ∙
+    ap (λ (j : ℕ). getD (g j) k 0) (sym (add-zero i))
+joined-at g size sized i (suc n) (suc t) k h l =
+    let rest : List ℕ = joined g (each (λ j. j) (suc i) n) in
+    let there : suc t * size + k ≡ length (g i) + (t * size + k) = omega (arith, sized i, suc-mul t size) in
+    let one : suc i + t ≡ i + suc t = omega arith in
+    ap (λ (p : ℕ). getD (g i ++ rest) p 0) there ∙ getD-append-add (g i) rest (t * size + k) 0 ∙
+    joined-at g size sized (suc i) n t k (omega arith) l ∙ ap (λ (j : ℕ). getD (g j) k 0) one
+
+-- A test that passes over a whole list, as one computes it, passes at each item.
+abbrev pub every : (ℕ → Bool) → List ℕ → Bool
+every test [] = true
+every test (x ∷ xs) = test x && every test xs
+
+pub every-at : (test : ℕ → Bool) (xs : List ℕ) → every test xs ≡ true → (k d : ℕ) → k < length xs → test (getD xs k d) ≡ true
+every-at test [] e k d h = absurd (omega arith)
+every-at test (x ∷ xs) e zero d h = and-true (test x) (every test xs) e .0
+every-at test (x ∷ xs) e (suc k) d h = every-at test xs (and-true (test x) (every test xs) e .1) k d (omega arith)

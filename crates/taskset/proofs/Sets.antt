@@ -2,13 +2,13 @@
 -- every deadline for ever'.
 -- Assumes nothing.
 use Prim.Native.Nat.{ℕ, zero, suc, _+_, _-_, _*_, _/_, _≤_, _<_, _∣_}
-use mathlib.Core.Path.{_≡_, sym, _∙_}
+use mathlib.Core.Path.{_≡_, sym, ap, _∙_}
 use mathlib.Core.List.{List}
 use mathlib.Core.Logic.{_↔_, ⊎-elim}
-use native.Mathlib.Nat.{mul-le-mul, mul-le-mul-left, div-le-self, mod-eq-zero-of-dvd}
+use native.Mathlib.Nat.{mul-le-mul, mul-le-mul-left, div-le-self, le-of-dvd, mod-eq-zero-of-dvd}
 use native.Mathlib.Omega.{arith}
 use lib.ListN.{getD}
-use Rattle.numbers.specs.Numbers.{All}
+use Rattle.numbers.specs.Numbers.{All, running}
 use Rattle.numbers.proofs.Tests.{lt-or-le}
 use Rattle.numbers.proofs.Rounding.{ceil-falls, ceil-positive}
 use Rattle.numbers.proofs.Sums.{sum, total-bound, total-over}
@@ -18,11 +18,11 @@ use Rattle.schedule.proofs.Demand.{load}
 use Rattle.schedule.proofs.Periodic.{Regular, keeps-iff-fits, tasks-regular, tasks-load}
 use Rattle.selection.specs.Plan.{IsPlan, planLoad, planEnergy}
 use Rattle.selection.proofs.Fastest.{Falling}
-use Rattle.layout.specs.Words.{mostTasks, rateCount, taskCount, ratePlace, rate, period}
+use Rattle.layout.specs.Words.{mostTasks, headSize, word, rateCount, taskCount, ratePlace, rate, period}
 use Rattle.taskset.specs.Quantities.{hyperLimit, jobTime, hyperPeriod, taskLoad, taskEnergy, problemOf, endlessTasks}
-use Rattle.taskset.specs.Refusals.{RateFault, PassesLimit, Passes, wordCheck, rateCheck, hyperCheck}
+use Rattle.taskset.specs.Refusals.{RateFault, PassesLimit, Passes, Accepts, _▹_, wordCheck, rateCheck, wordChecks, hyperCheck}
 use Rattle.taskset.proofs.Checks.{no-word-fault, no-rate-fault, none-passes}
-use Rattle.layout.proofs.Whole.{IsWhole, whole-of}
+use Rattle.layout.proofs.Whole.{IsWhole, whole-of, whole-iff}
 use Rattle.layout.specs.declared.Layout.{Layout}
 
 pub record IsSet (layout : Layout) (s : List ℕ) : Type 0 where
@@ -64,6 +64,34 @@ module _ (layout : Layout) (s : List ℕ) where
         divides = λ t l. running-divides (period layout s) (taskCount layout s) t l;
         least = λ c all. running-least (period layout s) (taskCount layout s) (λ t l. w .period-range t l .0) (taskCount layout s) c (omega arith) all;
       }
+
+  -- And back: who builds a list shows that it passes the three checks from the facts of its words. c is a common
+  -- multiple of its periods, and within the limit.
+  module _ (w : IsWhole layout s) (up : (r : ℕ) → 1 ≤ r → r < rateCount layout s → rate layout s r < rate layout s (suc r))
+      (c : ℕ) (some : 0 < c) (few : c ≤ hyperLimit) (multiple : (t : ℕ) → t < taskCount layout s → period layout s t ∣ c) where
+    divides-multiple : (t : ℕ) → t ≤ taskCount layout s → running (period layout s) t ∣ c
+    divides-multiple t h =
+        running-least (period layout s) (taskCount layout s) (λ t l. w .period-range t l .0) t c h (λ i l. multiple i (omega arith))
+
+    pub hyper-divides : hyperPeriod layout s ∣ c
+    hyper-divides = divides-multiple (taskCount layout s) (omega arith)
+
+    no-fall : (q : ℕ) → RateFault layout s q → ⊥
+    no-fall q f =
+        let r : ℕ = q - headSize layout in
+        let here : ratePlace layout r ≡ q = omega (arith, f .0) in
+        let before : ratePlace layout (r - 1) ≡ q - 1 = omega (arith, f .0) in
+        let next : suc (r - 1) ≡ r = omega (arith, f .0) in
+        let rises : rate layout s (r - 1) < rate layout s r = rw next at (up (r - 1) (omega (arith, f .0)) (omega (arith, f .0, f .1))) in
+        let high : rate layout s r ≡ word s q = ap (word s) here in
+        let low : rate layout s (r - 1) ≡ word s (q - 1) = ap (word s) before in
+        omega (arith, f .2)
+
+    pub set-passes : Accepts (wordChecks layout s ▹ hyperCheck layout s)
+    set-passes =
+        let long : (q : ℕ) → hyperCheck layout s .cause q → ⊥ =
+        λ q h. let f = h .1 .here in omega (arith, f .1, le-of-dvd some (divides-multiple (suc (h .0)) (omega (arith, f .0)))) in
+        ((λ q h. whole-iff layout s .0 w q (h .here)), ((λ q h. no-fall q (h .here)), (long, tt)))
 
   module _ (set : IsSet layout s) where
     -- No rate is above the last.

@@ -15,7 +15,7 @@ use Rattle.layout.specs.declared.Layout.{Layout}
 use Rattle.layout.specs.declared.Layout.the-variants.{Ordinary}
 use Rattle.taskset.specs.Quantities.{problem, workNeeded}
 use Rattle.taskset.specs.Refusals.{number, second, IsShort, NoneOk, Check, Refuses, _▹_, wordChecks, hyperCheck, workCheck, roomCheck, noneCheck, planCheck, readyChecks, plannerChecks, walkChecks}
-use Rattle.taskset.specs.Calls.{CountsAfter, SetAfter, Selected, PlannerGives, WalkAnswers}
+use Rattle.taskset.specs.Calls.{CopyGives, CountsAfter, SetAfter, Selected, PlannerGives, WalkAnswers}
 use Rattle.taskset.specs.declared.Refusal.{Refusal}
 use Rattle.taskset.specs.declared.Refusal.the-variants.{TextDeparts, BadWord, NotAbove, TooLong, WorkShort, TooShort, NoPlan, BadPlan}
 use Rattle.taskset.specs.declared.Shape.{Shape}
@@ -26,6 +26,9 @@ use Rattle.taskset.specs.declared.PlannerAnswer.{PlannerAnswer}
 use Rattle.taskset.specs.declared.PlannerAnswer.the-variants.{Planned, Refused as NotPlanned}
 use Rattle.taskset.specs.declared.WalkAnswer.{WalkAnswer}
 use Rattle.taskset.specs.declared.WalkAnswer.the-variants.{Kept, Missed, Refused as NotWalked}
+use Rattle.taskset.specs.declared.CopyAnswer.{CopyAnswer}
+use Rattle.taskset.specs.declared.CopyAnswer.the-variants.{Wrote, Refused as NotCopied}
+use Rattle.taskset.proofs.Copied.{SameCopied, copied-one}
 use Rattle.taskset.proofs.Checks.{Single, AllSingle, single-join, lowest-single, too-long-single, not-both, refuses-unique}
 
 -- A refusal is its number and its second number.
@@ -113,6 +116,16 @@ module _ (cs : List Check) (single : AllSingle cs) (layout : Layout) (s : List �
   set-unique (Good m n l) (NotGood r) x y = absurd (not-both cs (number r) (second r) (x .0) y)
   set-unique (NotGood r) (Good m n l) x y = absurd (not-both cs (number r) (second r) (y .0) x)
   set-unique (NotGood q) (NotGood r) x y = ap NotGood (refusal-unique cs single q r x y)
+
+-- ---- a call that copies, after checks that each hold with one second number at most.
+pub copy-unique : (cs : List Check) → AllSingle cs → (ws d d₁ d₂ : List ℕ) (a b : CopyAnswer) → CopyGives cs ws d d₁ a → CopyGives cs ws d d₂ b → SameCopied a b d₁ d₂
+copy-unique cs single ws d d₁ d₂ (Wrote n) (Wrote k) x y = copied-one ws d d₁ d₂ (Wrote n) (Wrote k) (x .1) (y .1)
+copy-unique cs single ws d d₁ d₂ (Wrote n) (NotCopied r) x y = absurd (not-both cs (number r) (second r) (x .0) (y .0))
+copy-unique cs single ws d d₁ d₂ (NotCopied r) (Wrote n) x y = absurd (not-both cs (number r) (second r) (y .0) (x .0))
+copy-unique cs single ws d d₁ d₂ (NotCopied q) (NotCopied r) x y = record {
+  answer = ap NotCopied (refusal-unique cs single q r (x .0) (y .0));
+  list = x .1 ∙ sym (y .1);
+}
 
 -- ---- the planner
 pub record SameGiven (a b : PlannerAnswer) (plan₁ work₁ plan₂ work₂ : List ℕ) : Type 0 where

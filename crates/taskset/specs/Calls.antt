@@ -47,6 +47,12 @@ pub record Copied (ws d d′ : List ℕ) (a : CopyAnswer) : Type 0 where
   pub values-are : copyValues a ≡ length ws ∷ []
   pub list-is : d′ ≡ ws ++ drop (length ws) d
 
+-- What a call gives that makes checks of what it is lent, and then writes ws to the front of d: a refusal, the first that
+-- holds, leaves d as it was.
+abbrev pub CopyGives : List Check → (ws d d′ : List ℕ) → CopyAnswer → Type 0
+CopyGives cs ws d d′ (Wrote n) = Accepts cs × Copied ws d d′ (Wrote n)
+CopyGives cs ws d d′ (NotCopied r) = Refuses cs (number r) (second r) × (d′ ≡ d)
+
 -- WHAT CHECKS ANSWER. cs are the checks that a call makes of a list, in their order: a refusal is the first that holds;
 -- where none holds, the counts are the list's own, and with check 4 among them the hyper-period too.
 abbrev pub CountsAfter : List Check → Layout → List ℕ → Shape → Type 0

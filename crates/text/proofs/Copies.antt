@@ -12,7 +12,7 @@ use Rattle.taskset.proofs.Checks.{AllSingle, accepts-next, passed, not-both, no
 use Rattle.layout.proofs.Whole.{IsWhole, whole-of}
 use Rattle.layout.specs.declared.Layout.the-variants.{Ordinary}
 use Rattle.taskset.specs.Calls.{Copied}
-use Rattle.taskset.proofs.Unique.{refusal-unique, short-single, single-next, word-single}
+use Rattle.taskset.proofs.Unique.{refusal-unique, short-single, single-next, word-single, copy-unique}
 use Rattle.taskset.proofs.Copied.{SameCopied, copied, front-is, copied-one}
 use Rattle.text.specs.Text.{Script, scriptText, IsTextOf, WellFormed, FirstBad, words, scriptOf}
 use Rattle.text.specs.Calls.{formCheck, wordsCheck, readerChecks, ReaderGives, writerChecks, WriterGives}
@@ -83,13 +83,7 @@ reader-unique t d d₁ d₂ (NotCopied q) (NotCopied r) x y = record {
 }
 
 pub writer-unique : (s d d₁ d₂ : List ℕ) (a b : CopyAnswer) → WriterGives s d d₁ a → WriterGives s d d₂ b → SameCopied a b d₁ d₂
-writer-unique s d d₁ d₂ (Wrote n) (Wrote k) x y = copied-one (scriptText (scriptOf s)) d d₁ d₂ (Wrote n) (Wrote k) (x .1) (y .1)
-writer-unique s d d₁ d₂ (Wrote n) (NotCopied r) x y = absurd (not-both (writerChecks s (length d)) (number r) (second r) (x .0) (y .0))
-writer-unique s d d₁ d₂ (NotCopied r) (Wrote n) x y = absurd (not-both (writerChecks s (length d)) (number r) (second r) (y .0) (x .0))
-writer-unique s d d₁ d₂ (NotCopied q) (NotCopied r) x y = record {
-  answer = ap NotCopied (refusal-unique (writerChecks s (length d)) (writer-single s (length d)) q r (x .0) (y .0));
-  list = x .1 ∙ sym (y .1);
-}
+writer-unique s d = copy-unique (writerChecks s (length d)) (writer-single s (length d)) (scriptText (scriptOf s)) d
 
 -- ---- written and read back
 module _ (s d d′ e : List ℕ) (n : ℕ) (wrote : WriterGives s d d′ (Wrote n)) (room : length s ≤ length e) where

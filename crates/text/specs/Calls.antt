@@ -5,7 +5,7 @@ use mathlib.Core.List.{List, [], _∷_}
 use lib.ListN.{length}
 use Rattle.layout.specs.declared.Layout.the-variants.{Ordinary}
 use Rattle.taskset.specs.Refusals.{number, second, IsShort, Check, check, Accepts, Refuses, _▹_, roomCheck, wordChecks}
-use Rattle.taskset.specs.Calls.{Copied}
+use Rattle.taskset.specs.Calls.{Copied, CopyGives}
 use Rattle.taskset.specs.declared.CopyAnswer.{CopyAnswer}
 use Rattle.taskset.specs.declared.CopyAnswer.the-variants.{Wrote, Refused as NotCopied}
 use Rattle.text.specs.Text.{Script, scriptText, IsTextOf, WellFormed, FirstBad, words, scriptOf}
@@ -32,6 +32,4 @@ abbrev pub writerChecks : List ℕ → ℕ → List Check
 writerChecks s lent = wordChecks Ordinary s ▹ roomCheck (length (scriptText (scriptOf s))) lent
 
 abbrev pub WriterGives : (s d d′ : List ℕ) → CopyAnswer → Type 0
-WriterGives s d d′ (Wrote n) =
-    Accepts (writerChecks s (length d)) × Copied (scriptText (scriptOf s)) d d′ (Wrote n)
-WriterGives s d d′ (NotCopied r) = Refuses (writerChecks s (length d)) (number r) (second r) × (d′ ≡ d)
+WriterGives s d = CopyGives (writerChecks s (length d)) (scriptText (scriptOf s)) d
