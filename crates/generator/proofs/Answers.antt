@@ -1,0 +1,76 @@
+-- From the checks and the words to the call's answer.
+-- Assumes nothing.
+use Prim.Native.Nat.{ℕ, _≤_, _<_}
+use mathlib.Core.Path.{_≡_, refl, sym, subst, _∙_}
+use mathlib.Core.Bool.{true, false, true≢false}
+use mathlib.Core.List.{List, [], _∷_}
+use mathlib.Core.Logic.{inl, ⊎-elim}
+use native.Mathlib.Omega.{arith}
+use lib.ListN.{length}
+use Rattle.numbers.specs.Numbers.{between}
+use Rattle.numbers.proofs.Tests.{bool-cases, lt-or-le, between-true}
+use Rattle.layout.specs.Words.{mostTasks, periodPlace}
+use Rattle.layout.specs.declared.Layout.the-variants.{Ordinary}
+use Rattle.taskset.specs.Refusals.{Accepts, roomCheck}
+use Rattle.taskset.specs.declared.Refusal.{Refusal}
+use Rattle.taskset.specs.declared.Refusal.the-variants.{BadWord, TooShort}
+use Rattle.taskset.specs.declared.CopyAnswer.the-variants.{Wrote, Refused as NotCopied}
+use Rattle.taskset.proofs.Checks.{accepts-next, refuses-next, refuses-before}
+use Rattle.taskset.proofs.Copied.{copied, front-is}
+use Rattle.taskset.proofs.Writing.{placed}
+use Rattle.generator.specs.Generated.{fiveRates, generated}
+use Rattle.generator.specs.Calls.{countCheck, generatorChecks, PassesChecks, GeneratorCall}
+use Rattle.generator.specs.Steps.{RoomAfter}
+use Rattle.generator.specs.declared.Room.the-variants.{Enough, Refused}
+use Rattle.generator.proofs.Sizes.{set-size}
+use Rattle.generator.proofs.Passing.{passes-checks}
+
+-- ---- the checks
+module _ (n lent : ℕ) where
+  pub count-refused : between 1 mostTasks n ≡ false → RoomAfter n lent (Refused (BadWord 0))
+  count-refused e seed = refuses-before (countCheck n ∷ []) (roomCheck (length (generated seed n)) lent) 2 0 (inl (refl, (e, refl)))
+
+  module _ (in-range : between 1 mostTasks n ≡ true) (k : ℕ) (needed : k ≡ periodPlace Ordinary fiveRates n) where
+    counted : Accepts (countCheck n ∷ [])
+    counted = ((λ j h. true≢false (sym in-range ∙ h .0)), tt)
+
+    pub room-refused : lent < k → RoomAfter n lent (Refused (TooShort k))
+    room-refused h seed =
+        let size = set-size seed n in
+        refuses-next (countCheck n ∷ []) (roomCheck (length (generated seed n)) lent) k counted (omega arith, needed ∙ sym size)
+
+    pub room-enough : k ≤ lent → RoomAfter n lent (Enough k)
+    room-enough h seed =
+        let size = set-size seed n in
+        (accepts-next (countCheck n ∷ []) (roomCheck (length (generated seed n)) lent) counted (λ j f. omega (arith, f .0)), needed ∙ sym size)
+
+-- ---- the answer
+module _ (seed n : ℕ) (d : List ℕ) where
+  -- A refusal of the checks is the call's, and changes nothing.
+  pub refused : (r : Refusal) → RoomAfter n (length d) (Refused r) → GeneratorCall seed n d d (NotCopied r)
+  refused r h = record { gives = (h seed, refl); owes = tt }
+
+  -- What passes them has 1 to 32 tasks, and room.
+  module _ (k : ℕ) (room : RoomAfter n (length d) (Enough k)) where
+    pub count-range : (1 ≤ n) × (n ≤ mostTasks)
+    count-range =
+        ⊎-elim
+        (λ (e : between 1 mostTasks n ≡ true). between-true 1 mostTasks n e)
+        (λ (e : between 1 mostTasks n ≡ false). absurd (room seed .0 .0 0 (e, refl)))
+        (bool-cases (between 1 mostTasks n))
+
+    pub fits : length (generated seed n) ≤ length d
+    fits =
+        ⊎-elim
+        (λ (h : length d < length (generated seed n)). absurd (room seed .0 .1 .0 (length (generated seed n)) (h, refl)))
+        (λ (h : length (generated seed n) ≤ length d). h)
+        (lt-or-le (length d) (length (generated seed n)))
+
+    pub wrote : (d′ : List ℕ) → d′ ≡ placed (generated seed n) d → GeneratorCall seed n d d′ (Wrote k)
+    unfolding placed
+    wrote d′ e =
+        let c = copied (generated seed n) d d′ k (room seed .1) e in
+        record {
+          gives = (room seed .0, c);
+          owes = subst PassesChecks (sym (front-is (generated seed n) d d′ k c)) (passes-checks seed n (count-range .0) (count-range .1));
+        }

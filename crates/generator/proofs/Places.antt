@@ -1,0 +1,105 @@
+-- What stands at each place of a set's list.
+-- Assumes nothing.
+use Prim.Native.Nat.{ℕ, suc, _+_, _-_, _*_, _≤_, _<_}
+use mathlib.Core.Path.{_≡_, refl, sym, ap, _∙_}
+use mathlib.Core.List.{List, [], _∷_, _++_, append-assoc}
+use native.Mathlib.Nat.{zero-add, suc-add}
+use native.Mathlib.Omega.{arith}
+use lib.ListN.{length, getD, replicate, length-replicate, getD-replicate, List·getD-append}
+use lib.Seq.{getD-append-add}
+use Rattle.numbers.specs.Numbers.{each, joined}
+use Rattle.numbers.proofs.Lists.{each-length, each-at, joined-at}
+use Rattle.layout.specs.Words.{headSize, extraSize, word, slack, rateCount, taskCount, ratePlace, taskCountPlace, tasksPlace, taskSize, periodPlace, rate, period, cycles, energy}
+use Rattle.layout.specs.declared.Layout.the-variants.{Ordinary}
+use Rattle.generator.specs.Generated.{draw, drawnPeriod, drawnCycles, drawnEnergy, fiveRates, headWords, rateOf, taskWords, frontWords, generated}
+use Rattle.generator.proofs.Sizes.{head-length, task-size}
+
+module _ (seed n : ℕ) where
+  abbrev s : List ℕ
+  s = generated seed n
+
+  abbrev rates : List ℕ
+  rates = each rateOf 1 fiveRates
+
+  abbrev tasks : List ℕ
+  tasks = joined (taskWords seed) (each (λ t. t) 0 n)
+
+  -- ---- the head, and what stands behind it
+  parts : s ≡ headWords ++ (fiveRates ∷ (rates ++ (n ∷ tasks)))
+  unfolding generated frontWords
+  parts =
+      append-assoc headWords (fiveRates ∷ (rates ++ (n ∷ []))) tasks ∙
+      ap (λ (l : List ℕ). headWords ++ (fiveRates ∷ l)) (append-assoc rates (n ∷ []) tasks)
+
+  pub slack-is : slack s ≡ 100
+  slack-is = ap slack parts
+
+  pub head-zero : (q : ℕ) → 0 < q → q < headSize Ordinary → word s q ≡ 0
+  head-zero q some h =
+      let zeros : List ℕ = replicate (headSize Ordinary - 1) 0 in
+      let k : suc (q - 1) ≡ q = omega arith in
+      ap (λ (l : List ℕ). word l q) parts ∙
+      List·getD-append headWords (fiveRates ∷ (rates ++ (n ∷ tasks))) 0 q (omega (arith, head-length)) ∙
+      ap (word headWords) (sym k) ∙ getD-replicate (headSize Ordinary - 1) (q - 1) 0 0 (omega arith)
+
+  behind : (q k : ℕ) → q ≡ headSize Ordinary + k → word s q ≡ word (fiveRates ∷ (rates ++ (n ∷ tasks))) k
+  behind q k e =
+      let there : q ≡ length headWords + k = omega (arith, head-length) in
+      ap (λ (l : List ℕ). word l q) parts ∙ ap (word (headWords ++ (fiveRates ∷ (rates ++ (n ∷ tasks))))) there ∙
+      getD-append-add headWords (fiveRates ∷ (rates ++ (n ∷ tasks))) k 0
+
+  pub rates-is : rateCount Ordinary s ≡ fiveRates
+  rates-is = behind (headSize Ordinary) 0 (omega arith)
+
+  pub rate-is : (r : ℕ) → 1 ≤ r → r ≤ fiveRates → rate Ordinary s r ≡ rateOf r
+  rate-is r a b =
+      let k : suc (r - 1) ≡ r = omega arith in
+      let number : 1 + (r - 1) ≡ r = omega arith in
+      behind (ratePlace Ordinary r) r refl ∙ ap (word (fiveRates ∷ (rates ++ (n ∷ tasks)))) (sym k) ∙
+      List·getD-append rates (n ∷ tasks) 0 (r - 1) (omega arith) ∙ each-at rateOf 1 fiveRates (r - 1) (omega arith) 0 ∙ ap rateOf number
+
+  pub tasks-is : taskCount Ordinary s ≡ n
+  tasks-is = ap (λ (m : ℕ). word s (taskCountPlace Ordinary m)) rates-is ∙ behind (taskCountPlace Ordinary fiveRates) 6 (omega arith)
+
+  -- ---- the tasks
+  in-tasks : (k : ℕ) → word (fiveRates ∷ (rates ++ (n ∷ tasks))) (7 + k) ≡ word tasks k
+  in-tasks k = getD-append-add (fiveRates ∷ (rates ++ (n ∷ []))) tasks k 0
+
+  module _ (t : ℕ) (h : t < n) where
+    -- Word k of the task at t.
+    pub task-word : (k : ℕ) → k < taskSize Ordinary fiveRates → word s (periodPlace Ordinary (rateCount Ordinary s) t + k) ≡ word (taskWords seed t) k
+    task-word k l =
+        ap (λ (m : ℕ). word s (periodPlace Ordinary m t + k)) rates-is ∙
+        behind (periodPlace Ordinary fiveRates t + k) (7 + (t * taskSize Ordinary fiveRates + k)) (omega arith) ∙
+        in-tasks (t * taskSize Ordinary fiveRates + k) ∙
+        joined-at (taskWords seed) (taskSize Ordinary fiveRates) (task-size seed) 0 n t k h l ∙
+        ap (λ (j : ℕ). word (taskWords seed j) k) (zero-add t)
+
+    pub period-is : period Ordinary s t ≡ drawnPeriod (draw seed (3 * t))
+    period-is = let e : periodPlace Ordinary (rateCount Ordinary s) t ≡ periodPlace Ordinary (rateCount Ordinary s) t + 0 = omega arith in ap (word s) e ∙ task-word 0 (omega arith)
+
+    pub cycles-is : cycles Ordinary s t ≡ drawnCycles (draw seed (3 * t + 1))
+    cycles-is = task-word 1 (omega arith)
+
+    abbrev energies : List ℕ
+    energies = each (drawnEnergy (draw seed (3 * t + 2))) 1 fiveRates
+
+    -- Behind the period and the cycles.
+    behind-two : (k : ℕ) → word (taskWords seed t) (2 + k) ≡ word (replicate (extraSize Ordinary) 0 ++ energies) k
+    behind-two k =
+        getD-append-add (drawnPeriod (draw seed (3 * t)) ∷ drawnCycles (draw seed (3 * t + 1)) ∷ []) (replicate (extraSize Ordinary) 0 ++ energies) k 0
+
+    pub extra-zero : (k : ℕ) → k < extraSize Ordinary → word s (periodPlace Ordinary (rateCount Ordinary s) t + (2 + k)) ≡ 0
+    extra-zero k l =
+        task-word (2 + k) (omega arith) ∙ behind-two k ∙
+        List·getD-append (replicate (extraSize Ordinary) 0) energies 0 k (omega (arith, length-replicate {A = ℕ} (extraSize Ordinary) 0)) ∙
+        getD-replicate (extraSize Ordinary) k 0 0 l
+
+    pub energy-is : (r : ℕ) → 1 ≤ r → r ≤ fiveRates → energy Ordinary s t r ≡ drawnEnergy (draw seed (3 * t + 2)) r
+    energy-is r a b =
+        let zeros : List ℕ = replicate (extraSize Ordinary) 0 in
+        let place : 1 + extraSize Ordinary + r ≡ 2 + (length zeros + (r - 1)) = omega (arith, length-replicate {A = ℕ} (extraSize Ordinary) 0) in
+        let number : 1 + (r - 1) ≡ r = omega arith in
+        task-word (1 + extraSize Ordinary + r) (omega arith) ∙ ap (word (taskWords seed t)) place ∙
+        behind-two (length zeros + (r - 1)) ∙ getD-append-add zeros energies (r - 1) 0 ∙
+        each-at (drawnEnergy (draw seed (3 * t + 2))) 1 fiveRates (r - 1) (omega arith) 0 ∙ ap (drawnEnergy (draw seed (3 * t + 2))) number

@@ -1,0 +1,107 @@
+-- The words before the tasks, stored one behind the other.
+-- Assumes nothing.
+use Prim.Native.Nat.{_+_}
+use mathlib.Core.Path.{_≡_, sym, subst, _∙_}
+use native.Mathlib.Omega.{arith}
+use denote.Ref.{now}
+use lib.ListN.{length, length-set}
+use Rattle.layout.specs.Words.{headSize}
+use Rattle.layout.specs.declared.Layout.the-variants.{Ordinary}
+use Rattle.layout.proofs.Layouts.{head-few, slack-in-head}
+use Rattle.generator.proofs.Parts.{front-written}
+use borrow.Author.Needs.{needs}
+use Rattle.generator.proofs.put_front.Statement.{statement}
+use Rattle.generator.proofs.put_front.Tie as tie
+
+-- The ways back: to the head's size, and to the start.
+abbrev head : tie.After-put-zeros → tie.After-head-size
+head z = z .before .before
+
+abbrev start : tie.After-head-size → tie.Start
+start k = k .before .before
+
+abbrev zeros : tie.After-put-rates → tie.After-put-zeros
+zeros r = r .before .before .before .before
+
+-- The list is as long as it was.
+same : (z : tie.After-put-zeros) → length (z .put-zeros .last .0) ≡ length (now (start (head z) .args .list))
+same z = z .put-zeros .kept .0 ∙ simp length-set
+
+same-rates : (r : tie.After-put-rates) → length (r .put-rates .last .0) ≡ length (now (start (head (zeros r)) .args .list))
+same-rates r = r .put-rates .kept .0 ∙ simp length-set (same (zeros r))
+
+head-size-requires : tie.Need-head-size-requires
+head-size-requires c κs = search needs
+
+slice-write-list : tie.Need-slice-write-list
+slice-write-list c = search needs
+
+sub-put-zeros : tie.Need-sub-put-zeros
+sub-put-zeros c = omega (arith, c .before .head-size .ensures, slack-in-head Ordinary)
+
+put-zeros-requires : tie.Need-put-zeros-requires
+put-zeros-requires c κs = simp length-set (omega (arith, start (c .before) .pre .1, c .before .head-size .ensures, slack-in-head Ordinary))
+
+cast-list : tie.Need-cast-list
+cast-list c = search needs
+
+mul-list : tie.Need-mul-list
+mul-list c = search needs
+
+slice-write-list-2 : tie.Need-slice-write-list-2
+slice-write-list-2 c =
+    let z = c .before .before in
+    omega (arith, same z, start (head z) .pre .1, head z .head-size .ensures)
+
+add-put-rates : tie.Need-add-put-rates
+add-put-rates c = omega (arith, head (c .before .before .before) .head-size .ensures, head-few Ordinary)
+
+put-rates-requires : tie.Need-put-rates-requires
+put-rates-requires c κs =
+    let z = c .before .before .before in
+    simp length-set (omega (arith, same z, start (head z) .pre .1, head z .head-size .ensures))
+
+cast-list-2 : tie.Need-cast-list-2
+cast-list-2 c = let z = zeros (c .before .before) in omega (arith, start (head z) .pre .0)
+
+task-count-place-requires : tie.Need-task-count-place-requires
+task-count-place-requires c κs = search needs
+
+mul-list-2 : tie.Need-mul-list-2
+mul-list-2 c = search needs
+
+slice-write-list-3 : tie.Need-slice-write-list-3
+slice-write-list-3 c =
+    let r = c .before .before .before in
+    omega (arith, same-rates r, start (head (zeros r)) .pre .1, c .task-count-place .ensures)
+
+same-length : tie.Need-same-length
+same-length c = simp length-set (same-rates (c .before .before .before))
+
+front-stored : tie.Need-returns
+front-stored c =
+    let r = c .before .before .before in
+    let z = zeros r in
+    let s = start (head z) in
+    front-written (s .args .n) _ _ (now (s .args .list)) _ _ (head z .head-size .ensures) (c .task-count-place .ensures) (s .pre .1) (z .put-zeros .ensures)
+    (r .put-rates .ensures)
+
+pub put-front-spec : {M : Type 1} → statement M
+put-front-spec =
+    tie.close
+    (tie.spec
+    head-size-requires
+    slice-write-list
+    sub-put-zeros
+    put-zeros-requires
+    cast-list
+    mul-list
+    slice-write-list-2
+    add-put-rates
+    put-rates-requires
+    cast-list-2
+    task-count-place-requires
+    mul-list-2
+    slice-write-list-3
+    same-length
+    front-stored)

@@ -1,0 +1,179 @@
+// The generator of task sets for the bench: a seed and a task count in, a set's list of words out, the same on every
+// machine. What its sets are planned or walked for is left to others.
+ghost use mathlib.Core.Path.{_≡_};
+ghost use Prim.Native.Nat.{_+_, _*_, _/_, _%_, _^_, _≤_};
+ghost use lib.ListN.{length, replicate};
+ghost use Rattle.numbers.specs.Numbers.{each, joined};
+ghost use Rattle.layout.specs.Words.{mostTasks, tasksPlace, taskSize, periodPlace};
+ghost use Rattle.layout.specs.declared.Layout.the-variants.{Ordinary};
+ghost use Rattle.taskset.proofs.Writing.{placed, written};
+ghost use Rattle.generator.specs.Generated;
+ghost use Rattle.generator.specs.Generated.{stateAfter, drawnPeriod, rateOf, taskWords, frontWords, generated};
+ghost use Rattle.generator.specs.Calls.{GeneratorCall};
+ghost use Rattle.generator.specs.Steps.{RoomAfter};
+use layout::Layout;
+use taskset::CopyAnswer;
+use taskset::Refusal;
+
+// What the checks answer: the words that a set needs, or a refusal.
+pub enum Room {
+    Enough(usize),
+    Refused(Refusal),
+}
+
+// The rates of every set.
+const RATES: usize = 5;
+
+// The periods that a draw chooses among.
+const PERIODS: [u32; 8] = [10, 20, 25, 40, 50, 100, 200, 400];
+
+// a × b, modulo 2^32: the product of two words has room in 64 bits.
+fn wrapping_mul(a: u32, b: u32) -> u32
+    ensures { λ r. ⌜ r ≡ a * b % 2 ^ 32 ⌝ }
+{
+    let product = a as u64 * b as u64;
+    (product % 4_294_967_296) as u32
+}
+
+// The state after one more step.
+fn next(state: u32) -> u32
+    ensures { λ r. ⌜ r ≡ Generated.next state ⌝ }
+{
+    let product = wrapping_mul(state, 1_664_525);
+    std::num::wrapping_add_u32(product, 1_013_904_223)
+}
+
+// The draw that a new state gives.
+fn draw(state: u32) -> u32
+    ensures { λ r. ⌜ r ≡ state / 65536 ⌝ }
+{
+    state / 65_536
+}
+
+// The period that a draw chooses.
+fn period(x: u32) -> u32
+    ensures { λ r. ⌜ r ≡ drawnPeriod x ⌝ }
+{
+    PERIODS[(x % 8) as usize]
+}
+
+// Zeros, count of them, to the list from a place on: what a list has beside the words of the note.
+fn put_zeros(list: &mut [u32], at: usize, count: usize)
+    requires { ⌜ at + count ≤ length (now list) ⌝ }
+    ensures { λ r. ⌜ now (list .exit) ≡ written at (replicate count 0) (now (list .entry)) ⌝ }
+{
+    let mut i: usize = 0;
+    while i < count {
+        list[at + i] = 0;
+        i += 1;
+    }
+}
+
+// The five rates, to the list from a place on.
+fn put_rates(list: &mut [u32], at: usize)
+    requires { ⌜ at + 5 ≤ length (now list) ⌝ }
+    ensures { λ r. ⌜ now (list .exit) ≡ written at (each rateOf 1 5) (now (list .entry)) ⌝ }
+{
+    let mut i: usize = 0;
+    while i < RATES {
+        let j = 1 + i as u32;
+        list[at + i] = 100 * j;
+        i += 1;
+    }
+}
+
+// A task's five energies, with the factor that its draw gives, to the list from a place on.
+fn put_energies(list: &mut [u32], at: usize, factor: u32)
+    requires { ⌜ (at + 5 ≤ length (now list)) × (factor ≤ 10) ⌝ }
+    ensures { λ r. ⌜ now (list .exit) ≡ written at (each (λ j. factor * j * j) 1 5) (now (list .entry)) ⌝ }
+{
+    let mut i: usize = 0;
+    while i < RATES {
+        let j = 1 + i as u32;
+        list[at + i] = factor * j * j;
+        i += 1;
+    }
+}
+
+// The words of a task, drawn from a state on, to the list from a place on; returns the state after its three draws.
+fn put_task(list: &mut [u32], at: usize, state: u32) -> u32
+    requires { ⌜ at + taskSize Ordinary 5 ≤ length (now list) ⌝ }
+    ensures { λ r. ⌜ (r ≡ stateAfter state 3) × (now (list .exit) ≡ written at (taskWords state 0) (now (list .entry))) ⌝ }
+{
+    let first = next(state);
+    let second = next(first);
+    let third = next(second);
+    let p = period(draw(first));
+    let c = 1 + draw(second) % 1_000;
+    let factor = 2 + draw(third) % 9;
+    list[at] = p;
+    list[at + 1] = c;
+    let front = layout::before_energies(Layout::Ordinary);
+    put_zeros(list, at + 2, front - 2);
+    put_energies(list, at + front, factor);
+    third
+}
+
+// The words of n tasks, to the list, where they stand behind the rates.
+fn put_tasks(list: &mut [u32], seed: u32, n: usize)
+    requires { ⌜ (n ≤ mostTasks) × (periodPlace Ordinary 5 n ≤ length (now list)) ⌝ }
+    ensures { λ r. ⌜ now (list .exit) ≡ written (tasksPlace Ordinary 5) (joined (taskWords seed) (each (λ t. t) 0 n)) (now (list .entry)) ⌝ }
+{
+    let mut state = seed;
+    let mut t: usize = 0;
+    while t < n {
+        let at = layout::period_place(Layout::Ordinary, RATES, t);
+        state = put_task(list, at, state);
+        t += 1;
+    }
+}
+
+// The words before the tasks, to the front of the list.
+fn put_front(list: &mut [u32], n: usize)
+    requires { ⌜ (n ≤ mostTasks) × (tasksPlace Ordinary 5 ≤ length (now list)) ⌝ }
+    ensures { λ r. ⌜ now (list .exit) ≡ written 0 (frontWords n) (now (list .entry)) ⌝ }
+{
+    let head = layout::head_size(Layout::Ordinary);
+    list[layout::SLACK_PLACE] = 100;
+    put_zeros(list, 1, head - 1);
+    list[head] = RATES as u32;
+    put_rates(list, head + 1);
+    list[layout::task_count_place(Layout::Ordinary, RATES)] = n as u32;
+}
+
+// Checks 2 and 6: how many words a set of n tasks has, or a refusal. lent is the length of the list.
+pub fn ready(n: u32, lent: usize) -> Room
+    ensures { λ r. ⌜ RoomAfter n lent r ⌝ }
+{
+    if !numbers::is_between(1, 32, n as u64) {
+        return Room::Refused(Refusal::BadWord(0));
+    }
+    let needed = layout::period_place(Layout::Ordinary, RATES, n as usize);
+    if lent < needed {
+        return Room::Refused(Refusal::TooShort(needed));
+    }
+    Room::Enough(needed)
+}
+
+// A set's words, to the front of a list that has passed the checks.
+pub fn put_set(seed: u32, n: usize, list: &mut [u32])
+    requires { ⌜ (n ≤ mostTasks) × (length (generated seed n) ≤ length (now list)) ⌝ }
+    ensures { λ r. ⌜ now (list .exit) ≡ placed (generated seed n) (now (list .entry)) ⌝ }
+{
+    put_front(list, n);
+    put_tasks(list, seed, n);
+}
+
+// The set of a seed and a task count, to the front of the list lent: refusal 2 or 6, or how many words were written.
+pub fn generate(seed: u32, n: u32, list: &mut [u32]) -> CopyAnswer
+    ensures { λ a. ⌜ GeneratorCall seed n (now (list .entry)) (now (list .exit)) a ⌝ }
+{
+    let room = ready(n, list.len());
+    match room {
+        Room::Refused(r) => CopyAnswer::Refused(r),
+        Room::Enough(needed) => {
+            put_set(seed, n as usize, list);
+            CopyAnswer::Wrote(needed)
+        }
+    }
+}
