@@ -1,4 +1,5 @@
 pub mod Bytes
 pub mod Entries
 pub mod PlanEntries
+pub mod GenerateEntries
 pub mod Unique

@@ -14,7 +14,11 @@ use Rattle.taskset.specs.DemandThree.{Keeps, PlanPromise, NoneKeeps}
 use Rattle.taskset.specs.declared.Refusal.{Refusal}
 use Rattle.taskset.specs.declared.PlannerAnswer.{PlannerAnswer}
 use Rattle.taskset.specs.declared.WalkAnswer.{WalkAnswer}
+use Rattle.taskset.specs.declared.CopyAnswer.{CopyAnswer}
+use Rattle.taskset.specs.declared.CopyAnswer.the-variants.{Wrote, Refused as NotCopied}
 use Rattle.planner.specs.Answers.{RateNumber}
+use Rattle.generator.specs.Generated.{generated}
+use Rattle.generator.specs.Calls.{generatorChecks, GeneratorGives, PassesChecks}
 
 -- "It leaves its results, eight bytes each, lowest byte first": the first k bytes of a value, and the bytes of a list
 -- of values.
@@ -89,3 +93,28 @@ pub record PlanEntry (s plan work results plan′ work′ results′ : List ℕ)
   pub load-is : returned ≡ 0 → resultAt results′ 1 ≡ planLoad (problem s) (take (taskCount Ordinary s) plan′)
   pub hyper-is : returned ≡ 0 → resultAt results′ 2 ≡ hyperPeriod Ordinary s
   pub seven-iff : (returned ≡ 7 * 2 ^ 32) ↔ (Accepts (beforeSeven s (length plan) (length work) (length results)) × NoneKeeps s)
+
+-- THE GENERATOR FROM C (document 02, note 1). Its own checks, then the result bytes. The lengths are those of the set's
+-- list and of the result bytes.
+abbrev pub generateEntryChecks : ℕ → ℕ → ℕ → ℕ → List Check
+generateEntryChecks seed n setLength size = generatorChecks seed n setLength ▹ roomCheck resultSize size
+
+-- "writes a set and returns its length": the first value; the others are 0.
+abbrev pub generatorValues : CopyAnswer → List ℕ
+generatorValues (Wrote k) = k ∷ 0 ∷ 0 ∷ 0 ∷ []
+generatorValues (NotCopied r) = []
+
+-- set and results are the lists as lent, set′ and results′ as given back.
+abbrev pub GenerateEntryGives : (seed n : ℕ) (set results set′ results′ : List ℕ) → ℕ → Type 0
+GenerateEntryGives seed n set results set′ results′ returned =
+    ((a : CopyAnswer) × Accepts (generateEntryChecks seed n (length set) (length results)) × GeneratorGives seed n set set′ a ×
+    (returned ≡ 0) × (results′ ≡ resultBytes (generatorValues a) ++ drop resultSize results)) ⊎
+    ((r : Refusal) × Refuses (generateEntryChecks seed n (length set) (length results)) (number r) (second r) × (returned ≡ code r) ×
+    (set′ ≡ set) × (results′ ≡ results))
+
+-- The entry's contract: the above; and again over the words and the bytes, where 0 is returned: the first value says how
+-- many words in front are the generator's, and they pass checks 2, 3 and 4.
+pub record GenerateEntry (seed n : ℕ) (set results set′ results′ : List ℕ) (returned : ℕ) : Type 0 where
+  pub gives : GenerateEntryGives seed n set results set′ results′ returned
+  pub words-are : returned ≡ 0 → take (resultAt results′ 0) set′ ≡ generated seed n
+  pub owes : returned ≡ 0 → PassesChecks (take (resultAt results′ 0) set′)

@@ -6,8 +6,9 @@ ghost use Prim.Native.Nat.{_+_, _<_, _≤_, _^_};
 ghost use lib.ListN.{length};
 ghost use Rattle.taskset.specs.Refusals.{second};
 ghost use Rattle.taskset.specs.Calls.{code};
-ghost use Rattle.capi.specs.Entry.{PlanEntry, WalkEntry};
+ghost use Rattle.capi.specs.Entry.{PlanEntry, WalkEntry, GenerateEntry};
 ghost use Rattle.capi.specs.Put.{Placed, Four};
+use generator::Room;
 use taskset::Checked;
 use taskset::PlannerAnswer;
 use taskset::Refusal;
@@ -119,6 +120,27 @@ pub extern "C" fn seedspell_plan(
                     0
                 }
             }
+        }
+    }
+}
+
+// The generator: 0 and 32 result bytes (the set's length, 0, 0, 0), or a refusal. Too few result bytes are refused before
+// a word is written.
+#[no_mangle]
+pub extern "C" fn seedspell_generate(seed: u32, n: u32, set: &mut [u32], results: &mut [u8]) -> u64
+    ensures { λ r. ⌜ GenerateEntry seed n (now (set .entry)) (now (results .entry)) (now (set .exit)) (now (results .exit)) r ⌝ }
+{
+    let room = generator::ready(n, set.len());
+    match room {
+        Room::Refused(r) => code_of(r),
+        Room::Enough(needed) => {
+            let size = results.len();
+            if size < 32 {
+                return code_of(Refusal::TooShort(32));
+            }
+            generator::put_set(seed, n as usize, set);
+            put_values(results, needed as u64, 0, 0, 0);
+            0
         }
     }
 }

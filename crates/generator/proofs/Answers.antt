@@ -1,6 +1,6 @@
 -- From the checks and the words to the call's answer.
 -- Assumes nothing.
-use Prim.Native.Nat.{ℕ, _≤_, _<_}
+use Prim.Native.Nat.{ℕ, _^_, _≤_, _<_}
 use mathlib.Core.Path.{_≡_, refl, sym, subst, _∙_}
 use mathlib.Core.Bool.{true, false, true≢false}
 use mathlib.Core.List.{List, [], _∷_}
@@ -11,7 +11,8 @@ use Rattle.numbers.specs.Numbers.{between}
 use Rattle.numbers.proofs.Tests.{bool-cases, lt-or-le, between-true}
 use Rattle.layout.specs.Words.{mostTasks, periodPlace}
 use Rattle.layout.specs.declared.Layout.the-variants.{Ordinary}
-use Rattle.taskset.specs.Refusals.{Accepts, roomCheck}
+use Rattle.layout.proofs.Layouts.{words-few}
+use Rattle.taskset.specs.Refusals.{Passes, Accepts, Refuses, roomCheck}
 use Rattle.taskset.specs.declared.Refusal.{Refusal}
 use Rattle.taskset.specs.declared.Refusal.the-variants.{BadWord, TooShort}
 use Rattle.taskset.specs.declared.CopyAnswer.the-variants.{Wrote, Refused as NotCopied}
@@ -26,6 +27,13 @@ use Rattle.generator.proofs.Sizes.{set-size}
 use Rattle.generator.proofs.Passing.{passes-checks}
 
 -- ---- the checks
+in-count : (n : ℕ) → Passes (countCheck n) → (1 ≤ n) × (n ≤ mostTasks)
+in-count n pass =
+    ⊎-elim
+    (λ (e : between 1 mostTasks n ≡ true). between-true 1 mostTasks n e)
+    (λ (e : between 1 mostTasks n ≡ false). absurd (pass 0 (e, refl)))
+    (bool-cases (between 1 mostTasks n))
+
 module _ (n lent : ℕ) where
   pub count-refused : between 1 mostTasks n ≡ false → RoomAfter n lent (Refused (BadWord 0))
   count-refused e seed = refuses-before (countCheck n ∷ []) (roomCheck (length (generated seed n)) lent) 2 0 (inl (refl, (e, refl)))
@@ -44,6 +52,16 @@ module _ (n lent : ℕ) where
         let size = set-size seed n in
         (accepts-next (countCheck n ∷ []) (roomCheck (length (generated seed n)) lent) counted (λ j f. omega (arith, f .0)), needed ∙ sym size)
 
+-- A second number is small.
+pub second-small : (seed n lent m k : ℕ) → Refuses (generatorChecks seed n lent) m k → k < 2 ^ 32
+second-small seed n lent m k h = ⊎-elim (λ a. omega (arith, a .1 .1)) (λ b. later (b .0) (b .1)) h
+  where
+    later : Passes (countCheck n) → Refuses (roomCheck (length (generated seed n)) lent ∷ []) m k → k < 2 ^ 32
+    later pass r =
+        ⊎-elim
+        (λ a. omega (arith, a .1 .1, set-size seed n, words-few fiveRates n (omega arith) (in-count n pass .1)))
+        (λ b. absurd (b .1)) r
+
 -- ---- the answer
 module _ (seed n : ℕ) (d : List ℕ) where
   -- A refusal of the checks is the call's, and changes nothing.
@@ -53,11 +71,7 @@ module _ (seed n : ℕ) (d : List ℕ) where
   -- What passes them has 1 to 32 tasks, and room.
   module _ (k : ℕ) (room : RoomAfter n (length d) (Enough k)) where
     pub count-range : (1 ≤ n) × (n ≤ mostTasks)
-    count-range =
-        ⊎-elim
-        (λ (e : between 1 mostTasks n ≡ true). between-true 1 mostTasks n e)
-        (λ (e : between 1 mostTasks n ≡ false). absurd (room seed .0 .0 0 (e, refl)))
-        (bool-cases (between 1 mostTasks n))
+    count-range = in-count n (room seed .0 .0)
 
     pub fits : length (generated seed n) ≤ length d
     fits =
