@@ -27,7 +27,7 @@ code-positive r e = omega (arith, number-range r .0)
 module _ (s P d : List ℕ) where
   refused : (r : Refusal) (x : ℕ) → x ≡ code r → Refuses (walkEntryChecks s P (length d)) (number r) (second r) → WalkEntry s P d d x
   refused r x e h = record {
-    gives = inr (r, h, e, refl);
+    gives = inr (r, h, e, tt, refl);
     kept-iff-keeps = λ z. absurd (code-positive r (sym e ∙ z));
     busy-is-load = λ z. absurd (code-positive r (sym e ∙ z));
   }

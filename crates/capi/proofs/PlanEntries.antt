@@ -55,7 +55,7 @@ module _ (s plan work d : List ℕ) where
         let none : x ≡ 0 → ⊥ = λ z. code-positive r (sym e ∙ z) in
         let owes = refusal-owes s before before-set not-7 (number r) (second r) h in
         record {
-          gives = inr (r, h, e, p, w, refl);
+          gives = inr (r, h, e, (p, w), refl);
           numbers = λ z. absurd (none z);
           promise = λ z. absurd (none z);
           load-is = λ z. absurd (none z);

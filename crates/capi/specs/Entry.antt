@@ -46,17 +46,21 @@ resultAt bs k = valueOf (take 8 (drop (8 * k) bs))
 abbrev pub resultSize : ℕ
 resultSize = 32
 
--- THE WALK FROM C.
+-- WHAT EVERY ENTRY GIVES. "A C call returns 0, or refusal number × 2^32 + the second number." cs are its checks in their
+-- order; Gives says which answer it may have, with the other lists lent as they are given back; values are the four
+-- numbers of an answer; results and results′ are the lent bytes before and after. On success only the first 32 of them
+-- change; on refusal nothing does, and Unchanged says so of the other lists.
+abbrev pub EntryGives : {A : Type 0} → List Check → (A → Type 0) → (A → List ℕ) → Type 0 → (results results′ : List ℕ) → ℕ → Type 0
+EntryGives {A} cs Gives values Unchanged results results′ returned =
+    ((a : A) × Accepts cs × Gives a × (returned ≡ 0) × (results′ ≡ resultBytes (values a) ++ drop resultSize results)) ⊎
+    ((r : Refusal) × Refuses cs (number r) (second r) × (returned ≡ code r) × Unchanged × (results′ ≡ results))
+
+-- THE WALK FROM C. No other list is written.
 abbrev pub walkEntryChecks : List ℕ → List ℕ → ℕ → List Check
 walkEntryChecks s P size = walkChecks s P ▹ roomCheck resultSize size
 
--- "A C call returns 0, or refusal number × 2^32 + the second number." results and results′ are the lent bytes before
--- and after: on success only the first 32 change, on refusal none.
 abbrev pub WalkEntryGives : (s P results results′ : List ℕ) → ℕ → Type 0
-WalkEntryGives s P results results′ returned =
-    ((a : WalkAnswer) × Accepts (walkEntryChecks s P (length results)) × WalkAnswers s P a × (returned ≡ 0) ×
-    (results′ ≡ resultBytes (walkValues a) ++ drop resultSize results)) ⊎
-    ((r : Refusal) × Refuses (walkEntryChecks s P (length results)) (number r) (second r) × (returned ≡ code r) × (results′ ≡ results))
+WalkEntryGives s P results = EntryGives (walkEntryChecks s P (length results)) (WalkAnswers s P) walkValues (Unit {0}) results
 
 -- The entry's contract: the above; and again over the bytes, where 0 is returned: the first value is 1 if and only if
 -- the plan keeps every deadline for ever, and then the second is its load.
@@ -75,12 +79,9 @@ planEntryChecks s planLength workLength size = beforeSeven s planLength workLeng
 
 -- plan, work and results are the lists as lent, plan′, work′ and results′ as given back.
 abbrev pub PlanEntryGives : (s plan work results plan′ work′ results′ : List ℕ) → ℕ → Type 0
-PlanEntryGives s plan work results plan′ work′ results′ returned =
-    ((a : PlannerAnswer) × Accepts (planEntryChecks s (length plan) (length work) (length results)) ×
-    PlannerGives s plan work plan′ work′ a ×
-    (returned ≡ 0) × (results′ ≡ resultBytes (plannerValues a) ++ drop resultSize results)) ⊎
-    ((r : Refusal) × Refuses (planEntryChecks s (length plan) (length work) (length results)) (number r) (second r) × (returned ≡ code r) ×
-    (plan′ ≡ plan) × (work′ ≡ work) × (results′ ≡ results))
+PlanEntryGives s plan work results plan′ work′ =
+    EntryGives (planEntryChecks s (length plan) (length work) (length results)) (PlannerGives s plan work plan′ work′) plannerValues
+    ((plan′ ≡ plan) × (work′ ≡ work)) results
 
 -- The entry's contract: the above; and demand 3 again over the plan words and the bytes. Where 0 is returned, every
 -- plan word is a rate number, and the plan keeps its promise with the energy that the fourth value is; the second value
@@ -106,11 +107,8 @@ generatorValues (NotCopied r) = []
 
 -- set and results are the lists as lent, set′ and results′ as given back.
 abbrev pub GenerateEntryGives : (seed n : ℕ) (set results set′ results′ : List ℕ) → ℕ → Type 0
-GenerateEntryGives seed n set results set′ results′ returned =
-    ((a : CopyAnswer) × Accepts (generateEntryChecks seed n (length set) (length results)) × GeneratorGives seed n set set′ a ×
-    (returned ≡ 0) × (results′ ≡ resultBytes (generatorValues a) ++ drop resultSize results)) ⊎
-    ((r : Refusal) × Refuses (generateEntryChecks seed n (length set) (length results)) (number r) (second r) × (returned ≡ code r) ×
-    (set′ ≡ set) × (results′ ≡ results))
+GenerateEntryGives seed n set results set′ =
+    EntryGives (generateEntryChecks seed n (length set) (length results)) (GeneratorGives seed n set set′) generatorValues (set′ ≡ set) results
 
 -- The entry's contract: the above; and again over the words and the bytes, where 0 is returned: the first value says how
 -- many words in front are the generator's, and they pass checks 2, 3 and 4.
