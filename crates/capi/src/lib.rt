@@ -134,8 +134,8 @@ pub extern "C" fn seedspell_generate(seed: u32, n: u32, set: &mut [u32], results
     match room {
         Room::Refused(r) => code_of(r),
         Room::Enough(needed) => {
-            let size = results.len();
-            if size < 32 {
+            let lent = results.len();
+            if lent < 32 {
                 return code_of(Refusal::TooShort(32));
             }
             generator::put_set(seed, n as usize, set);
