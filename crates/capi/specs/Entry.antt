@@ -12,8 +12,6 @@ use Rattle路taskset.specs.Refusals.{number, second, Check, Accepts, Refuses, _鈻
 use Rattle路taskset.specs.Calls.{code, plannerValues, walkValues, PlannerGives, WalkAnswers}
 use Rattle路taskset.specs.DemandThree.{Keeps, PlanPromise, NoneKeeps}
 use Rattle路taskset.specs.declared.Refusal.{Refusal}
-use Rattle路taskset.specs.declared.PlannerAnswer.{PlannerAnswer}
-use Rattle路taskset.specs.declared.WalkAnswer.{WalkAnswer}
 use Rattle路taskset.specs.declared.CopyAnswer.{CopyAnswer}
 use Rattle路taskset.specs.declared.CopyAnswer.the-variants.{Wrote, Refused as NotCopied}
 use Rattle路planner.specs.Answers.{RateNumber}

@@ -5,17 +5,17 @@ use mathlib.Core.Path.{_≡_, refl, sym, ap, _∙_}
 use mathlib.Core.List.{List, [], _∷_, _++_, append-assoc}
 use native.Mathlib.Nat.{zero-add, suc-mul, mul-le-mul-right}
 use native.Mathlib.Omega.{arith}
-use lib.ListN.{length, set, length-append, length-replicate, length-set, replicate}
+use lib.ListN.{length, set, length-append, length-replicate, replicate}
 use Rattle.numbers.specs.Numbers.{each, joined}
-use Rattle.numbers.proofs.Lists.{each-length, each-more, joined-one}
+use Rattle.numbers.proofs.Lists.{each-more, joined-one}
 use Rattle.layout.specs.Words.{headSize, extraSize, taskCountPlace, tasksPlace, taskSize, periodPlace}
 use Rattle.layout.specs.declared.Layout.the-variants.{Ordinary}
 use Rattle.layout.proofs.Layouts.{slack-in-head}
 use Rattle.taskset.proofs.Writing.{placed, written, written-none, written-front, length-written, extend}
-use Rattle.taskset.proofs.Stores.{stored, stored-alone}
+use Rattle.taskset.proofs.Stores.{stored-alone}
 use Rattle.generator.specs.Generated.{next, stateAfter, draw, drawnPeriod, fiveRates, headWords, rateOf, taskWords, frontWords, generated}
 use Rattle.generator.proofs.States.{state-none, state-add, task-from}
-use Rattle.generator.proofs.Sizes.{head-length, task-size, front-size, tasks-size, set-size}
+use Rattle.generator.proofs.Sizes.{head-length, front-size, tasks-size}
 
 -- ---- a task
 -- The words that three steps from a state give.

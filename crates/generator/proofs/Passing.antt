@@ -4,21 +4,19 @@ use Prim.Native.Nat.{ℕ, zero, suc, _+_, _*_, _%_, _≤_, _<_, _∣_}
 use mathlib.Core.Path.{_≡_, refl, sym, ap, _∙_, subst}
 use mathlib.Core.Bool.{Bool, true, _&&_}
 use mathlib.Core.List.{List}
-use mathlib.Core.Logic.{⊎-elim}
-use native.Mathlib.Nat.{mul-le-mul, dvd-of-mod-eq-zero, mod-lt}
+use native.Mathlib.Nat.{mul-le-mul, dvd-of-mod-eq-zero}
 use native.Mathlib.Omega.{arith}
 use lib.Dec.{eqb}
-use lib.ListN.{length, getD}
 use borrow.Author.Tests.{eqb-true}
 use Rattle.numbers.specs.Numbers.{between}
-use Rattle.numbers.proofs.Tests.{and-true, between-true, true-between}
-use Rattle.numbers.proofs.Lists.{every, every-at}
-use Rattle.layout.specs.Words.{headKinds, headSize, extraSize, slackPlace, word, rateCount, taskCount, wordCount, periodPlace, rate, period, cycles, energy, allows, headKind}
+use Rattle.numbers.proofs.Tests.{and-true, between-true}
+use Rattle.numbers.proofs.Lists.{every-at}
+use Rattle.layout.specs.Words.{headSize, slackPlace, rateCount, taskCount, periodPlace, rate, period, allows, headKind}
 use Rattle.layout.specs.declared.Layout.the-variants.{Ordinary}
 use Rattle.layout.proofs.Layouts.{slack-kind, zero-in-head, zero-in-extra}
 use Rattle.layout.proofs.Whole.{IsWhole}
 use Rattle.taskset.proofs.Sets.{hyper-divides, set-passes}
-use Rattle.generator.specs.Generated.{draw, periods, drawnPeriod, drawnEnergy, fiveRates, rateOf, generated}
+use Rattle.generator.specs.Generated.{draw, periods, drawnPeriod, drawnEnergy, fiveRates, generated}
 use Rattle.generator.specs.Calls.{PassesChecks}
 use Rattle.generator.proofs.Sizes.{set-size}
 use Rattle.generator.proofs.Places.{slack-is, head-zero, rates-is, rate-is, tasks-is, period-is, cycles-is, extra-zero, energy-is}

@@ -3,13 +3,13 @@
 use Prim.Native.Nat.{ℕ, suc, _+_, _-_, _*_, _≤_, _<_}
 use mathlib.Core.Path.{_≡_, refl, sym, ap, _∙_}
 use mathlib.Core.List.{List, [], _∷_, _++_, append-assoc}
-use native.Mathlib.Nat.{zero-add, suc-add}
+use native.Mathlib.Nat.{zero-add}
 use native.Mathlib.Omega.{arith}
-use lib.ListN.{length, getD, replicate, length-replicate, getD-replicate, List·getD-append}
+use lib.ListN.{length, replicate, length-replicate, getD-replicate, List·getD-append}
 use lib.Seq.{getD-append-add}
 use Rattle.numbers.specs.Numbers.{each, joined}
-use Rattle.numbers.proofs.Lists.{each-length, each-at, joined-at}
-use Rattle.layout.specs.Words.{headSize, extraSize, word, slack, rateCount, taskCount, ratePlace, taskCountPlace, tasksPlace, taskSize, periodPlace, rate, period, cycles, energy}
+use Rattle.numbers.proofs.Lists.{each-at, joined-at}
+use Rattle.layout.specs.Words.{headSize, extraSize, word, slack, rateCount, taskCount, ratePlace, taskCountPlace, taskSize, periodPlace, rate, period, cycles, energy}
 use Rattle.layout.specs.declared.Layout.the-variants.{Ordinary}
 use Rattle.generator.specs.Generated.{draw, drawnPeriod, drawnCycles, drawnEnergy, fiveRates, headWords, rateOf, taskWords, frontWords, generated}
 use Rattle.generator.proofs.Sizes.{head-length, task-size}

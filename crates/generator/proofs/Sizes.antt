@@ -1,17 +1,16 @@
 -- How many words there are: those of a task, of all tasks, before them, and of the whole set.
 -- Assumes nothing.
-use Prim.Native.Nat.{ℕ, zero, suc, _+_, _-_, _*_, _≤_}
-use mathlib.Core.Path.{_≡_, refl, sym, ap, _∙_}
-use mathlib.Core.List.{List, [], _∷_, _++_}
+use Prim.Native.Nat.{ℕ, zero, suc, _-_, _*_}
+use mathlib.Core.Path.{_≡_, _∙_}
 use native.Mathlib.Nat.{suc-mul}
 use native.Mathlib.Omega.{arith}
-use lib.ListN.{length, replicate, length-append, length-replicate}
+use lib.ListN.{length, length-append, length-replicate}
 use Rattle.numbers.specs.Numbers.{each, joined}
 use Rattle.numbers.proofs.Lists.{each-length}
-use Rattle.layout.specs.Words.{headSize, extraSize, tasksPlace, taskSize, periodPlace}
+use Rattle.layout.specs.Words.{headSize, tasksPlace, taskSize, periodPlace}
 use Rattle.layout.specs.declared.Layout.the-variants.{Ordinary}
 use Rattle.layout.proofs.Layouts.{slack-in-head}
-use Rattle.generator.specs.Generated.{fiveRates, headWords, rateOf, taskWords, frontWords, generated}
+use Rattle.generator.specs.Generated.{fiveRates, headWords, taskWords, frontWords, generated}
 
 pub task-size : (seed t : ℕ) → length (taskWords seed t) ≡ taskSize Ordinary fiveRates
 task-size seed t = simp (length-append, length-replicate, each-length) (omega arith)

@@ -1,13 +1,11 @@
 -- The call: the checks, then the words.
 -- Assumes nothing.
-use mathlib.Core.List.{List}
 use mathlib.Core.Path.{subst}
-use Prim.Native.Nat.{ℕ}
 use denote.Ref.{now}
 use lib.ListN.{length}
 use Rattle.generator.specs.Steps.{RoomAfter}
 use Rattle.generator.specs.declared.Room.{Room}
-use Rattle.generator.specs.declared.Room.the-variants.{Enough, Refused}
+use Rattle.generator.specs.declared.Room.the-variants.{Enough}
 use Rattle.generator.proofs.Answers.{refused, count-range, fits, wrote}
 use borrow.Author.Needs.{needs}
 use Rattle.generator.proofs.generate.Statement.{statement}

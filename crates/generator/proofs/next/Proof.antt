@@ -1,6 +1,5 @@
 -- One step: the product, then the sum, each wrapping.
 -- Assumes nothing.
-use mathlib.Core.Path.{ap, _∙_}
 use Rattle.generator.specs.Generated.{next}
 use borrow.Author.Needs.{needs}
 use Rattle.generator.proofs.next.Statement.{statement}

@@ -1,13 +1,9 @@
 -- The tasks. The invariant: those so far stand in the list, and the state is the one behind their draws.
 -- Assumes nothing.
-use Prim.Native.Nat.{_-_, _*_, _≤_, _<_, _+_}
-use mathlib.Core.Path.{_≡_, ap, _∙_}
-use native.Mathlib.Nat.{mul-le-mul-right, suc-mul}
+use Prim.Native.Nat.{_-_}
 use native.Mathlib.Omega.{arith}
 use denote.Ref.{now}
 use lib.ListN.{length}
-use Rattle.layout.specs.Words.{tasksPlace, taskSize, periodPlace}
-use Rattle.layout.specs.declared.Layout.the-variants.{Ordinary}
 use Rattle.generator.proofs.Parts.{Drawn, none-drawn, one-drawn, all-drawn, task-room}
 use borrow.Author.Needs.{needs}
 use Rattle.generator.proofs.put_tasks.Statement.{statement}
