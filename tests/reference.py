@@ -1,7 +1,9 @@
-"""A reference for the planner, the walk, the reader, the writer and the program.
+"""A reference for the planner, the walk, the reader, the writer, the program and
+the load generator.
 
-It follows the words of the scope document and is meant to be read beside it.
-It is slow on purpose. A refusal is ('refused', number, second number).
+It follows the words of the scope document, and for the generator those of note 1
+of document 02, and is meant to be read beside them. It is slow on purpose.
+A refusal is ('refused', number, second number).
 Tasks and rates are numbered from 1, places in lists and texts from 0.
 """
 
@@ -417,6 +419,46 @@ def keeps_for_ever(words, plan, horizon):
     return True
 
 
+# --------------------------------------------------------- the load generator
+
+PERIODS = (10, 20, 25, 40, 50, 100, 200, 400)
+MOST_GENERATED = 32             # tasks
+
+
+def draws(seed):
+    """The draws from a seed, one after the other, without end."""
+    state = seed
+    while True:
+        # 'Its state goes to state x 1,664,525 + 1,013,904,223, both steps
+        # wrapping at 32 bits'
+        state = state * 1_664_525 % 2 ** 32
+        state = (state + 1_013_904_223) % 2 ** 32
+        # 'a draw is the new state divided by 65,536, rounded down'
+        yield state // 65_536
+
+
+def generated_task(draw):
+    """'Each task takes three draws': for the period, the cycles, the energies."""
+    period = PERIODS[next(draw) % 8]
+    cycles = 1 + next(draw) % 1_000
+    factor = 2 + next(draw) % 9
+    return [period, cycles] + [factor * j * j for j in range(1, 6)]
+
+
+def generate(seed, N, room):
+    # 'Errors: 2 with place 0 for N outside 1 to 32, then 6.'
+    if not 1 <= N <= MOST_GENERATED:
+        return refused(2, 0)
+    # 'The set has slack 100 and five rates, 100 x j for rate j.'
+    words = [100, 5] + [100 * j for j in range(1, 6)] + [N]
+    draw = draws(seed)
+    for _ in range(N):
+        words += generated_task(draw)
+    if room < len(words):
+        return refused(6, len(words))
+    return ('generated', words)
+
+
 # -------------------------------------------------------------- calls from C
 
 def c_refusal(answer):
@@ -447,6 +489,15 @@ def c_plan(words, plan_len, work_len, results_len):
         return c_refusal(answer)
     _, unit, load, L, energy, _ = answer
     return (0, [unit, load, L, energy])
+
+
+def c_generate(seed, N, room, results_len):
+    answer = generate(seed, N, room)
+    if is_refused(answer):
+        return c_refusal(answer)
+    if results_len < RESULT_BYTES:
+        return c_refusal(refused(6, RESULT_BYTES))
+    return (0, [len(answer[1]), 0, 0, 0])
 
 
 # --------------------------------------------------------- the bracketed text

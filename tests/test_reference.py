@@ -1,4 +1,5 @@
-"""Tests of the reference: the cases of the scope document, and random sets.
+"""Tests of the reference: the cases of the scope document, the load generator of
+document 02's note 1, and random sets.
 
 Running it prints one line and ends with 0, or names the failing case and
 ends with 1.
@@ -331,6 +332,148 @@ def preemptions():
     same('two preemptions', r.walk(words, [1, 1]), ('kept', 12, 0, 2))
 
 
+# ------------------------------------------- document 02, note 1: the generator
+
+HEAD = [100, 5, 100, 200, 300, 400, 500]        # of every generated list, before N
+TABLE = [10, 20, 25, 40, 50, 100, 200, 400]
+
+# Worked with a calculator. The states from seed 0 are 1013904223, 1196435762, 3519870697;
+# 2868466484, 1649599747, 2670642822; 1476291629, 2748932008, 2180890343. Their draws:
+# 15470 is 6 mod 8, 18256 is 256 mod 1,000 and 53708 is 5 mod 9;
+# 43769 is 1, 25170 is 170 and 40750 is 7; 22526 is 6, 41945 is 945 and 33277 is 4.
+FROM_0 = [200, 257, 7, 28, 63, 112, 175,
+          20, 171, 9, 36, 81, 144, 225,
+          200, 946, 6, 24, 54, 96, 150]
+# From 4294967295 the draws are 15445, 12311, 8835; 41343, 47029, 57284.
+FROM_TOP = [100, 312, 8, 32, 72, 128, 200,
+            400, 30, 10, 40, 90, 160, 250]
+# From 7 they are 15648, 59866, 40140: entry 0, and the least energies.
+FROM_7 = [10, 867, 2, 8, 18, 32, 50]
+# From 174 they are 19890, 3999, 62834 and from 378 25071, 37000, 41894: the most
+# cycles and the fewest, and the last entry.
+FROM_174 = [25, 1000, 7, 28, 63, 112, 175]
+FROM_378 = [400, 1, 10, 40, 90, 160, 250]
+WORKED = [(0, 3, FROM_0), (2 ** 32 - 1, 2, FROM_TOP), (7, 1, FROM_7), (174, 1, FROM_174),
+          (378, 1, FROM_378)]
+
+
+def generator_edges():
+    for seed, N, tasks in WORKED:
+        words = HEAD + [N] + tasks
+        same('generator, seed %d' % seed, r.generate(seed, N, len(words)), ('generated', words))
+    for N, length in ((1, 15), (2, 22), (31, 225), (32, 232)):
+        name = 'generator, %d tasks' % N
+        words = r.generate(0, N, length)[1]
+        same(name, (len(words), words[:8]), (length, HEAD + [N]))
+        same(name + ', a word more', r.generate(0, N, length + 1), ('generated', words))
+        same(name + ', a word short', r.generate(0, N, length - 1), refused(6, length))
+        same(name + ', none lent', r.generate(0, N, 0), refused(6, length))
+    for N in (0, 33, 34, 256 + 1, 2 ** 31 + 1, 2 ** 32 - 1):
+        for room in (0, 14, 239, PLENTY):
+            same('generator, %d tasks, %d words' % (N, room), r.generate(7, N, room),
+                 refused(2, 0))
+
+    def code(number, second):
+        return (number * 2 ** 32 + second, None)
+
+    same('C generator', r.c_generate(7, 1, 15, 32), (0, [15, 0, 0, 0]))
+    same('C generator, 32 tasks', r.c_generate(7, 32, 400, 40), (0, [232, 0, 0, 0]))
+    same('C generator, refusal 2', r.c_generate(7, 33, 400, 32), code(2, 0))
+    same('C generator, 2 before 6', r.c_generate(7, 0, 0, 0), code(2, 0))
+    same('C generator, refusal 6 for the list', r.c_generate(7, 1, 14, 32), code(6, 15))
+    same('C generator, the list before the results', r.c_generate(7, 1, 14, 31), code(6, 15))
+    same('C generator, refusal 6 for the results', r.c_generate(7, 1, 15, 31), code(6, 32))
+
+
+# A generator in parts, and readings of the note that are wrong in one of them. Of
+# three draws, order says which are for period, cycles and energies.
+PARTS = {
+    'step': lambda state: (state * 1_664_525 + 1_013_904_223) % 2 ** 32,
+    'draw': lambda old, new: new // 65_536,
+    'order': (0, 1, 2),
+    'period': lambda d: TABLE[d % 8],
+    'cycles': lambda d: 1 + d % 1_000,
+    'energy': lambda d, j: (2 + d % 9) * j * j,
+}
+MISREAD = {
+    'added before multiplying': (
+        'step', lambda state: (state + 1_013_904_223) * 1_664_525 % 2 ** 32),
+    'wrapped at 31 bits': ('step', lambda state: (state * 1_664_525 + 1_013_904_223) % 2 ** 31),
+    'a sum that stays at the top': (
+        'step', lambda state: min(state * 1_664_525 % 2 ** 32 + 1_013_904_223, 2 ** 32 - 1)),
+    'the draw before the step': ('draw', lambda old, new: old // 65_536),
+    'the low half of the state': ('draw', lambda old, new: new % 65_536),
+    'the draw rounded up': ('draw', lambda old, new: -(-new // 65_536)),
+    'the draw rounded to nearest': ('draw', lambda old, new: (new + 32_768) // 65_536),
+    'the whole state': ('draw', lambda old, new: new),
+    'period and cycles swapped': ('order', (1, 0, 2)),
+    'cycles and energies swapped': ('order', (0, 2, 1)),
+    'period and energies swapped': ('order', (2, 1, 0)),
+    'one draw for all': ('order', (0, 0, 0)),
+    'entry mod 7': ('period', lambda d: TABLE[d % 7]),
+    'entries from 1': ('period', lambda d: TABLE[d % 8 - 1]),
+    'the highest bits for the entry': ('period', lambda d: TABLE[d // 8_192]),
+    'cycles from 0': ('cycles', lambda d: d % 1_000),
+    'cycles mod 1,001': ('cycles', lambda d: 1 + d % 1_001),
+    'cycles mod 1,024': ('cycles', lambda d: 1 + d % 1_024),
+    '1 + draw, mod 1,000': ('cycles', lambda d: (1 + d) % 1_000),
+    'energies as the rate': ('energy', lambda d, j: (2 + d % 9) * j),
+    'energies from rate 0': ('energy', lambda d, j: (2 + d % 9) * (j - 1) * (j - 1)),
+    'the square of all': ('energy', lambda d, j: ((2 + d % 9) * j) ** 2),
+    'energies mod 8': ('energy', lambda d, j: (2 + d % 8) * j * j),
+    'energies mod 10': ('energy', lambda d, j: (2 + d % 10) * j * j),
+    '2 + draw, mod 9': ('energy', lambda d, j: (2 + d) % 9 * j * j),
+    'the product before the sum': ('energy', lambda d, j: 2 + d % 9 * j * j),
+}
+
+
+def in_parts(seed, N, **other):
+    """The tasks of a list that is made of the parts, or of another in place of one."""
+    part = {**PARTS, **other}
+    words, state = [], seed
+    for _ in range(N):
+        taken = []
+        for _ in range(3):
+            old, state = state, part['step'](state)
+            taken.append(part['draw'](old, state))
+        p, c, e = (taken[which] for which in part['order'])
+        words += [part['period'](p), part['cycles'](c)]
+        words += [part['energy'](e, j) for j in range(1, 6)]
+    return words
+
+
+def generator_errors():
+    """Each wrong reading departs from one of the worked lists."""
+    for seed, N, tasks in WORKED:
+        same('generator in parts, seed %d' % seed, in_parts(seed, N), tasks)
+    for name, (part, wrong) in MISREAD.items():
+        seen = any(in_parts(seed, N, **{part: wrong}) != tasks for seed, N, tasks in WORKED)
+        same('generator misread: ' + name, seen, True)
+
+
+def generated_sets():
+    """'A list from it passes checks 2, 3 and 4 for every seed.'"""
+    g = random.Random(6)
+    seeds = [0, 1, 7, 2 ** 16 - 1, 2 ** 16, 2 ** 31 - 1, 2 ** 31, 2 ** 32 - 1]
+    seeds += [g.randrange(2 ** 32) for _ in range(632)]
+    periods, cycles, least, spans = set(), [], set(), set()
+    for number, seed in enumerate(seeds):
+        N = 1 + (number + number // 32) % 32
+        name = 'generated set, seed %d, %d tasks' % (seed, N)
+        words = r.generate(seed, N, PLENTY)[1]
+        kind, M, tasks, L = r.check_set(words)
+        same(name, (kind, M, tasks, 400 % L), ('good', 5, N, 0))
+        same(name + ', in parts', words, HEAD + [N] + in_parts(seed, N))
+        periods.update(words[8::7])
+        cycles += words[9::7]
+        least.update(words[10::7])
+        spans.add(L)
+    same('every period was seen', sorted(periods), TABLE)
+    same('both ends of the cycles were seen', (min(cycles), max(cycles)), (1, 1_000))
+    same('every energy was seen', sorted(least), list(range(2, 11)))
+    same('the longest hyper-period was seen', max(spans), 400)
+
+
 # --------------------------------------------------------------- random sets
 
 def random_set(g, most_tasks, most_rates):
@@ -613,6 +756,7 @@ def random_texts():
 def main():
     try:
         for part in (edges, errors, the_text, offsets, answers, preemptions,
+                     generator_edges, generator_errors, generated_sets,
                      random_sets, objections, large_sets, random_texts):
             part()
     except AssertionError as failure:
