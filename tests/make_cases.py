@@ -1,5 +1,5 @@
-"""Makes the stored records of set checks, walk, planner, reader, writer and the
-program's call, and their answers.
+"""Makes the stored records of set checks, walk, planner, reader, writer, the
+program's call and the load generator, and their answers.
 
     python3 tests/make_cases.py           writes crates/cases/stdin and stdout
     python3 tests/make_cases.py --check   writes nothing and compares with both
@@ -16,6 +16,7 @@ One record a line, one space between items, each line ended by byte 10:
     r NAME J TEXT                   the reader on the text, J words lent
     t NAME K w1 .. wK J             the writer on that set, J bytes lent
     a NAME J TEXT                   the program's call on the text, J bytes lent
+    g NAME SEED N J                 the generator for N tasks from the seed, J words lent
 
 A text is all that stands behind its space, and may be empty. A line cannot hold
 byte 10, so `/` stands for it in a text; a text with a `/` of its own cannot be
@@ -29,6 +30,7 @@ An answer is a line too, the record's name and then what the reference says:
     r: read N w1 .. wN, or refused N K
     t: wrote N TEXT, or refused N K
     a: prints N TEXT, or refused 6 K
+    g: generated K w1 .. wK, or refused N K
 
 Most answers come from the reference alone. Where a case is worked by hand or
 stands in the scope document, the answer is written beside it as well, and the
@@ -39,10 +41,12 @@ by the definition: which bytes begin some well-formed text. Words that were read
 or written are put into a text once more, in another way. What the program prints
 is put together by program.py as well, with a walk from one event to the next, and the
 reference must print the same; where L is so long that its walk would be slow, it
-is not asked.
+is not asked. A generated list is made by generator.py as well, with each draw worked
+out from the seed at once.
 
-The test program adds `changed` to an answer of the reader, the writer or the
-program's call where it left its memory other than it must. No answer here has it.
+The test program adds `changed` to an answer of the reader, the writer, the program's
+call or the generator where it left its memory other than it must. No answer here has
+it.
 """
 
 import sys
@@ -50,7 +54,7 @@ from pathlib import Path
 
 sys.dont_write_bytecode = True
 
-from records import checks, planner, program, reader, walk, writer
+from records import checks, generator, planner, program, reader, walk, writer
 from records.shared import answers, names, questions
 
 FOLDER = Path(__file__).resolve().parent.parent / 'crates' / 'cases'
@@ -59,8 +63,9 @@ MOST_BYTES = 3_000_000          # of all records
 
 # --------------------------------------------------------------- the sentences
 
-# Which records stand for each case of 'Either side of an edge', the marked ones too,
-# and for each line of 'Plausible errors'.
+# Which records stand for each case of document 01's 'Either side of an edge', the marked
+# ones too, and for each line of 'Plausible errors'; and for the sentences of document
+# 02's notes, which begin with the note's number.
 SENTENCES = {
     'S: plan 2 1, unit 1, load 29, energy 41': 'p-document-set a-document',
     'S with slack 1,000: plan 1 2, unit 8, load 28, energy 42':
@@ -100,6 +105,27 @@ SENTENCES = {
     'Ties settled by rate numbers before load: S with slack 1,000 would get plan 2 1':
         'p-document-set-slack-1000 a-document-slack-1000',
     'A miss noticed only when the late job ends': 'walk-of-1-1 late-by-much',
+
+    'Note 1: A generator takes a seed word and N, writes a set and returns its length':
+        'g-worked-0 g-length-01 g-length-32 g-seed-0-tasks-32 g-seed-4294967295-tasks-32',
+    'Note 1: state x 1,664,525 + 1,013,904,223, both steps wrapping at 32 bits':
+        'g-worked-0 g-worked-4294967295 g-state-0-at-draw-1 g-state-4294967295-at-draw-1',
+    'Note 1: a draw is the new state divided by 65,536, rounded down':
+        'g-worked-0 g-state-65535-at-draw-1 g-state-65536-at-draw-1',
+    'Note 1: The set has slack 100 and five rates, 100 x j for rate j': 'g-worked-0 g-length-32',
+    'Note 1: the period is entry (draw mod 8) of 10, 20, 25, 40, 50, 100, 200, 400':
+        'g-period-10-low-of-1 g-period-20-low-of-1 g-period-25-low-of-1 g-period-40-low-of-1 '
+        'g-period-50-low-of-1 g-period-100-low-of-1 g-period-200-low-of-1 g-period-400-high-of-32',
+    'Note 1: cycles are 1 + draw mod 1,000':
+        'g-cycles-1-low-of-1 g-cycles-1-high-of-32 g-cycles-1000-low-of-1 g-cycles-1000-high-of-32',
+    'Note 1: the energy at rate j is (2 + draw mod 9) x j x j':
+        'g-energy-2-low-of-1 g-energy-2-high-of-32 g-energy-10-low-of-1 g-energy-10-high-of-32',
+    'Note 1: A list from it passes checks 2, 3 and 4 for every seed':
+        'c-generated-0-1 c-generated-2147483648-6 c-generated-4294967295-8 c-generated-6-32',
+    'Note 1: 2 with place 0 for N outside 1 to 32':
+        'g-count-0-lent-400 g-length-01 g-length-32 g-count-33-lent-400 '
+        'g-count-4294967295-lent-400',
+    'Note 1: then 6': 'g-length-01-short g-length-32-short g-count-0-lent-0 g-count-33-lent-238',
 }
 
 
@@ -117,7 +143,10 @@ def make():
                   reader.read_damaged, reader.random_texts, writer.write_document,
                   writer.write_shapes, writer.write_refused, writer.random_lists,
                   program.program_document, program.program_checks, program.program_sizes,
-                  program.program_large, program.random_programs):
+                  program.program_large, program.random_programs, generator.generator_worked,
+                  generator.generator_lengths, generator.generator_counts,
+                  generator.generator_seeds, generator.generator_draws,
+                  generator.random_generated, generator.generator_for_others):
         group()
     for sentence, found in SENTENCES.items():
         assert names.issuperset(found.split()), sentence

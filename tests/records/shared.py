@@ -11,6 +11,7 @@ MOST_PLAN = 40                  # of a record's plan
 MOST_LENT = 64                  # words of a plan list lent to the planner
 MOST_WORK = 16_384              # working words lent
 MOST_READ = 400                 # words lent to the reader
+MOST_GENERATED = 400            # words lent to the load generator
 MOST_WRITTEN = 8_192            # bytes lent to the writer
 MOST_PRINTED = 2_048            # bytes lent to the program's call, which never needs more
 MOST_TEXT = 16_384              # bytes of a record's text
@@ -20,6 +21,7 @@ RANDOM_TEXTS = 500
 RANDOM_LISTS = 300              # each is written and read back
 RANDOM_PROGRAMS = 300           # texts of sets, and
 DAMAGED_PROGRAMS = 200          # damaged ones
+RANDOM_GENERATED = 400
 FEW_PLANS = 1_024               # up to so many, the reference looks at all of them
 TOP = 4_294_967_295             # the largest word
 
@@ -71,6 +73,10 @@ def planned(unit, load, L, energy, *rates):
 
 def was_read(words):
     return ('read', len(words), *words)
+
+
+def generated(words):
+    return ('generated', len(words), *words)
 
 
 def wrote(text):

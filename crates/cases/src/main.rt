@@ -76,7 +76,7 @@ fn read_record(name: &[u8], s: &[u8]) -> bool {
     let mut words = [7u32; 400];
     let a = reader::read(&s[start..], &mut words[0..j]);
     print::text(name);
-    print::read(a, &words);
+    print::listed(b" read", a, &words);
     true
 }
 
@@ -114,6 +114,23 @@ fn respond_record(name: &[u8], s: &[u8]) -> bool {
     true
 }
 
+// A record for the generator: the seed, how many tasks, and how many words are lent. The words hold 7 before the call,
+// as those of the reader do.
+fn generate_record(name: &[u8], s: &[u8]) -> bool {
+    let seed = items::number(s, 0, u32::MAX);
+    let tasks = items::number(s, seed.next, u32::MAX);
+    let lent = items::number(s, tasks.next, 400);
+    if lent.next != s.len() {
+        return false;
+    }
+    let j = lent.value;
+    let mut words = [7u32; 400];
+    let a = generator::generate(seed.value as u32, tasks.value as u32, &mut words[0..j]);
+    print::text(name);
+    print::listed(b" generated", a, &words);
+    true
+}
+
 // A record of any kind: the byte that says which, and its name, of 1 to 40 bytes. Whether it was of its form.
 fn record(s: &[u8]) -> bool {
     let start = items::after_space(s, 1);
@@ -133,6 +150,7 @@ fn record(s: &[u8]) -> bool {
         b'r' => read_record(name, rest),
         b't' => write_record(name, rest),
         b'a' => respond_record(name, rest),
+        b'g' => generate_record(name, rest),
         _ => false,
     }
 }

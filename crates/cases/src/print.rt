@@ -118,12 +118,13 @@ pub(crate) fn planned(a: PlannerAnswer, plan: &[u32; 400]) {
     }
 }
 
-// The answer of the reader, with the words that were read. The list held 7 before the call.
-pub(crate) fn read(a: CopyAnswer, list: &[u32; 400]) {
+// The answer of the reader or the generator: the word that names what was done, and the words that were written. The
+// list held 7 before the call.
+pub(crate) fn listed(word: &[u8], a: CopyAnswer, list: &[u32; 400]) {
     let used = words_used(list, 7);
     match a {
         CopyAnswer::Wrote(count) => {
-            say(b" read");
+            say(word);
             number(count as u64);
             words(list, count);
             changed(used > count);
