@@ -108,6 +108,21 @@ uint64_t seedspell_walk(const uint32_t *set, size_t set_len, const uint32_t *pla
 uint64_t seedspell_plan(const uint32_t *set, size_t set_len, uint32_t *plan, size_t plan_len,
                         uint32_t *work, size_t work_len, uint8_t *results, size_t results_len);
 
+/* The load generator: a set for the bench, the same wherever it is made from the same seed and N.
+ *
+ * seed                  any word
+ * n                     the number of tasks N, 1 to 32
+ * set, set_len          receives the set, at least 8 + 7 x N words: 232 are enough for every N
+ * results, results_len  receives the results, at least 32 bytes
+ *
+ * Returns 0 and leaves in the first 8 + 7 x N words of set a set of five rates and N tasks, which passes checks 2, 3
+ * and 4; and in the first 32 bytes of results
+ *   length, 0, 0, 0                             the set's length, 8 + 7 x N;
+ * or refuses: 2 with 0 for N outside 1 to 32, 6 with 8 + 7 x N for the set list, and then 6 with 32 for the results, in
+ * this order. */
+uint64_t seedspell_generate(uint32_t seed, uint32_t n, uint32_t *set, size_t set_len,
+                            uint8_t *results, size_t results_len);
+
 #ifdef __cplusplus
 }
 #endif

@@ -1,5 +1,5 @@
-/* Calls both entries of the archive many times and holds every answer, every lent word and what lies around the lists
-   to document 01, as reference.c reads it.
+/* Calls the three entries of the archive many times and holds every answer, every lent word and what lies around the
+   lists to document 01, and of the generator to note 1 of document 02, as reference.c reads them.
 
        calls [SEED [RANDOM SETS]]
 
@@ -42,11 +42,14 @@
 #define BOTH_WAYS 5000                  /* up to this many plans, the reference is asked both ways at times */
 #define LONG_CALLS 20                   /* at most so many with a hyper-period over SHORT_SPAN */
 
-enum entry { PLAN, WALK };
+enum entry { PLAN, WALK, GENERATE, ENTRIES };
+
+static const char *const names[ENTRIES] = {"seedspell_plan", "seedspell_walk", "seedspell_generate"};
 
 struct call {
     enum entry entry;
-    struct list set;                    /* set.len words lie in memory, */
+    uint32_t seed, tasks;               /* of the generator, which is lent set_len words of room */
+    struct list set;                    /* of the others: set.len words lie in memory, */
     size_t set_len;                     /* and so many of them are lent */
     uint32_t plan[MOST_PLAN];           /* of the walk: its plan */
     size_t plan_len, work_len, results_len;
@@ -55,10 +58,11 @@ struct call {
 /* ---- Counts */
 
 static struct {
-    uint64_t calls[2], refused[2][9], results_short[2];
+    uint64_t calls[ENTRIES], refused[ENTRIES][9], results_short[ENTRIES];
     uint64_t planned, kept, missed;
     uint64_t unit_1, unit_above_1, highest_last, full_load, one_over, alike, both_ways[2], preempted, full_walk, missed_at_end;
     uint64_t long_span;
+    uint64_t generated, one_task, most_tasks, room_to_spare, generated_planned, generated_unplanned;
 } count;
 
 struct row {
@@ -97,6 +101,16 @@ static const struct row rows[] = {
     {"  missed", &count.missed, 20000},
     {"    at the last tick", &count.missed_at_end, 1000},
     {"hyper-period over 2,000", &count.long_span, 10},
+    {"calls of seedspell_generate", &count.calls[GENERATE], 60000},
+    {"  refused 2: number of tasks", &count.refused[GENERATE][2], 5000},
+    {"  refused 6: receiving list", &count.refused[GENERATE][6], 10000},
+    {"    of these the results", &count.results_short[GENERATE], 2000},
+    {"  sets", &count.generated, 30000},
+    {"    of 1 task", &count.one_task, 5000},
+    {"    of 32 tasks", &count.most_tasks, 2000},
+    {"    with words to spare", &count.room_to_spare, 5000},
+    {"    planned, and walked", &count.generated_planned, 2000},
+    {"    for which no plan fits", &count.generated_unplanned, 100},
 };
 #define ROWS (sizeof rows / sizeof *rows)
 
@@ -118,7 +132,12 @@ static void count_call(const struct call *c, const struct answer *want)
         count.unit_above_1 += want->value[0] > 1;
         count.highest_last += want->plan[want->plan_words - 1] == c->set.word[1];
         count.alike += want->alike > 1;
-    } else if (refused == 0) {
+    } else if (c->entry == GENERATE && refused == 0) {
+        count.generated++;
+        count.one_task += c->tasks == 1;
+        count.most_tasks += c->tasks == MOST_TASKS;
+        count.room_to_spare += c->set_len > want->set_words;
+    } else if (c->entry == WALK && refused == 0) {
         count.kept += want->value[0] == 1;
         count.preempted += want->value[0] == 1 && want->value[3] > 0;
         count.full_walk += want->value[0] == 1 && want->value[2] == 0;
@@ -253,13 +272,13 @@ static uint32_t *words(struct area *area)
 
 static void lend(const struct call *c)
 {
-    int plans = c->entry == PLAN;
+    int plans = c->entry == PLAN, generates = c->entry == GENERATE;
 
-    lay_out(&areas[SET], c->set.word, c->set_len, c->set.len);
+    lay_out(&areas[SET], generates ? NULL : c->set.word, c->set_len, generates ? c->set_len : c->set.len);
     lay_out(&areas[PLAN_LIST], plans ? NULL : c->plan, c->plan_len, c->plan_len);
     lay_out(&areas[WORK], NULL, plans ? c->work_len : 0, plans ? c->work_len : 0);
     lay_out(&areas[RESULTS], NULL, c->results_len, c->results_len);
-    forbid_guards(&areas[SET], 0);
+    forbid_guards(&areas[SET], generates);
     forbid_guards(&areas[PLAN_LIST], plans);
     forbid_guards(&areas[WORK], 1);
     forbid_guards(&areas[RESULTS], 1);
@@ -272,15 +291,19 @@ static uint64_t make(const struct call *c)
 
     if (c->entry == PLAN)
         return seedspell_plan(set, c->set_len, plan, c->plan_len, work, c->work_len, results, c->results_len);
-    return seedspell_walk(set, c->set_len, plan, c->plan_len, results, c->results_len);
+    if (c->entry == WALK)
+        return seedspell_walk(set, c->set_len, plan, c->plan_len, results, c->results_len);
+    return seedspell_generate(c->seed, c->tasks, set, c->set_len, results, c->results_len);
 }
 
 static void expect(const struct call *c, enum way way, struct answer *want)
 {
     if (c->entry == PLAN)
         expect_plan(way, c->set.word, c->set_len, c->plan_len, c->work_len, c->results_len, want);
-    else
+    else if (c->entry == WALK)
         expect_walk(c->set.word, c->set_len, c->plan, c->plan_len, c->results_len, want);
+    else
+        expect_generate(c->seed, c->tasks, c->set_len, c->results_len, want);
 }
 
 /* Turns an expected answer into what the lists must hold. */
@@ -293,6 +316,7 @@ static void expect_lists(const struct answer *want)
     for (int i = 0; i < RESULT_BYTES; i++)
         bytes[i] = (uint8_t)(want->value[i / 8] >> (8 * (i % 8)));
     must_leave(&areas[RESULTS], bytes, RESULT_BYTES);
+    must_leave(&areas[SET], want->set, want->set_words);
     must_leave(&areas[PLAN_LIST], want->plan, want->plan_words);
     must_leave(&areas[WORK], NULL, want->work_words);
 }
@@ -306,17 +330,25 @@ static void print_code(const char *who, uint64_t code)
         printf("returned %" PRIu64 ", refusal %" PRIu64 " with %" PRIu64, code, code >> 32, code & UINT32_MAX);
 }
 
+/* Words that a call leaves, behind what they are. */
+static void print_words(const char *what, const uint32_t *word, size_t len)
+{
+    for (size_t i = 0; i < len; i++)
+        printf("%s %" PRIu32, i == 0 ? what : "", word[i]);
+}
+
 static void print_expected(const struct answer *want)
 {
     print_code("expected", want->code);
     if (want->code == 0)
         printf("; results %" PRIu64 " %" PRIu64 " %" PRIu64 " %" PRIu64, want->value[0], want->value[1], want->value[2], want->value[3]);
-    for (size_t t = 0; t < want->plan_words; t++)
-        printf("%s %" PRIu32, t == 0 ? "; plan" : "", want->plan[t]);
+    print_words("; plan", want->plan, want->plan_words);
+    print_words("; set", want->set, want->set_words);
     printf("\n");
 }
 
-static void print_received(const struct call *c, uint64_t code, size_t tasks)
+/* Of the lists as much as was expected, where so much was lent. */
+static void print_received(const struct call *c, const struct answer *want, uint64_t code)
 {
     const uint8_t *results = areas[RESULTS].is + areas[RESULTS].start;
 
@@ -330,8 +362,10 @@ static void print_received(const struct call *c, uint64_t code, size_t tasks)
             printf(" %" PRIu64, value);
         }
     }
-    for (size_t t = 0; c->entry == PLAN && code == 0 && t < tasks && t < c->plan_len; t++)
-        printf("%s %" PRIu32, t == 0 ? "; plan" : "", words(&areas[PLAN_LIST])[t]);
+    if (code == 0 && want->plan_words <= c->plan_len)
+        print_words("; plan", words(&areas[PLAN_LIST]), want->plan_words);
+    if (code == 0 && want->set_words <= c->set_len)
+        print_words("; set", words(&areas[SET]), want->set_words);
     printf("\n");
 }
 
@@ -349,6 +383,10 @@ static void print_departures(void)
 static void print_lent(const struct call *c)
 {
     printf("lent: set %zu", c->set_len);
+    if (c->entry == GENERATE) {
+        printf(", results %zu\n", c->results_len);
+        return;
+    }
     if (c->entry == PLAN) {
         printf(", plan %zu, work %zu, results %zu\n", c->plan_len, c->work_len, c->results_len);
         return;
@@ -362,8 +400,11 @@ static void print_lent(const struct call *c)
 /* The call as it can be pasted elsewhere: the set as a text where it is one, and as numbers. */
 static void print_call(const struct call *c)
 {
-    printf("call %" PRIu64 " of %s departs\n", count.calls[c->entry], c->entry == PLAN ? "seedspell_plan" : "seedspell_walk");
-    print_set(c->set.word, c->set_len);
+    printf("call %" PRIu64 " of %s departs\n", count.calls[c->entry], names[c->entry]);
+    if (c->entry == GENERATE)
+        printf("seed %" PRIu32 ", N %" PRIu32 "\n", c->seed, c->tasks);
+    else
+        print_set(c->set.word, c->set_len);
     print_lent(c);
 }
 
@@ -377,7 +418,7 @@ static int as_expected(const struct call *c, const struct answer *want, uint64_t
         return 1;
     print_call(c);
     print_expected(want);
-    print_received(c, code, want->plan_words);
+    print_received(c, want, code);
     print_departures();
     return 0;
 }
@@ -477,14 +518,21 @@ static void walk_under(const struct list *set, const uint32_t *plan, size_t plan
     try_call(&c, want);
 }
 
-/* ---- Document 01's own cases, by value */
+static void generate_lending(uint32_t seed, uint32_t tasks, size_t set_len, size_t results_len, struct answer *want)
+{
+    struct call c = {.entry = GENERATE, .seed = seed, .tasks = tasks, .set_len = set_len, .results_len = results_len};
+
+    try_call(&c, want);
+}
+
+/* ---- The documents' own cases, by value */
 
 #define COUNT(list) (sizeof(list) / sizeof *(list))
 
 static void demand(int holds, const char *what)
 {
     if (!holds) {
-        printf("the reference departs from document 01: %s\n", what);
+        printf("the reference departs from the documents: %s\n", what);
         exit(1);
     }
 }
@@ -576,6 +624,34 @@ static void cases_of_others(void)
     demand(is_refusal(&want, 3, 3), "walk of rates 4 4");
     walk_under(&empty, (const uint32_t[]){1}, 1, &want);
     demand(is_refusal(&want, 2, 0), "walk of the empty list");
+}
+
+/* Worked with a calculator: from seed 0 the draws are 15470, 18256, 53708, 43769, 25170, 40750, 22526, 41945, 33277,
+   from 4294967295 they are 15445, 12311, 8835, from 174 19890, 3999, 62834, and from 378 25071, 37000, 41894. */
+static void cases_of_generator(void)
+{
+    static const uint32_t from_0[] = {100, 5, 100, 200, 300, 400, 500, 3, 200, 257, 7, 28, 63, 112, 175,
+                                      20, 171, 9, 36, 81, 144, 225, 200, 946, 6, 24, 54, 96, 150};
+    static const uint32_t one[][15] = {{100, 5, 100, 200, 300, 400, 500, 1, 100, 312, 8, 32, 72, 128, 200},
+                                       {100, 5, 100, 200, 300, 400, 500, 1, 25, 1000, 7, 28, 63, 112, 175},
+                                       {100, 5, 100, 200, 300, 400, 500, 1, 400, 1, 10, 40, 90, 160, 250}};
+    static const uint32_t seeds[] = {4294967295u, 174, 378};
+    struct answer want;
+
+    generate_lending(0, 3, 29, 32, &want);
+    demand(has_values(&want, 29, 0, 0, 0) && memcmp(want.set, from_0, sizeof from_0) == 0, "three tasks from seed 0");
+    for (size_t i = 0; i < COUNT(seeds); i++) {
+        generate_lending(seeds[i], 1, 400, 40, &want);
+        demand(has_values(&want, 15, 0, 0, 0) && memcmp(want.set, one[i], sizeof one[i]) == 0, "a task from a seed");
+    }
+    generate_lending(7, 0, 400, 32, &want);
+    demand(is_refusal(&want, 2, 0), "no task");
+    generate_lending(7, 33, 0, 0, &want);
+    demand(is_refusal(&want, 2, 0), "33 tasks, and no word");
+    generate_lending(7, 32, 231, 0, &want);
+    demand(is_refusal(&want, 6, 232), "32 tasks in 231 words");
+    generate_lending(7, 32, 232, 31, &want);
+    demand(is_refusal(&want, 6, 32), "31 bytes for results");
 }
 
 /* Two lists that are only read may be one: here the plan is the first task's energies. */
@@ -779,17 +855,58 @@ static void edge_load(void)
             }
 }
 
+/* The generator's lists of each length about what it needs, in all combinations, also where N is none that it takes. */
+static void edge_generate(uint32_t tasks)
+{
+    const size_t needed = tasks < 40 ? 8 + 7 * tasks : 232, results[] = {0, 1, 31, 32, 33, 40},
+                 set[] = {0, 1, needed - 8, needed - 1, needed, needed + 1, MOST_WORDS};
+    struct answer want;
+
+    for (size_t i = 0; i < COUNT(set); i++)
+        for (size_t k = 0; k < COUNT(results); k++) {
+            generate_lending(0, tasks, set[i], results[k], &want);
+            generate_lending(4294967295u, tasks, set[i], results[k], &want);
+        }
+}
+
+/* Every N about 1 and 32, and such as look small where a part of the word is looked at, or where 7 x N wraps. */
+static void edge_generated_tasks(void)
+{
+    static const uint32_t tasks[] = {64, 255, 256, 257, 288, 65536, 65537, 613566756, 613566757, 2147483647, 2147483648u,
+                                     2147483649u, 2147483680u, 4294967264u, 4294967294u, 4294967295u};
+
+    for (uint32_t n = 0; n <= 40; n++)
+        edge_generate(n);
+    for (size_t i = 0; i < COUNT(tasks); i++)
+        edge_generate(tasks[i]);
+}
+
+/* The first and the last seeds, and those about each power of two. */
+static void edge_seeds(void)
+{
+    struct answer want;
+
+    for (uint32_t i = 0; i < 2000; i++) {
+        generate_lending(i, 1, 15, 32, &want);
+        generate_lending(UINT32_MAX - i, 1, 15, 32, &want);
+    }
+    for (uint32_t bit = 0; bit < 32; bit++)
+        for (uint32_t more = 0; more <= 2; more++)
+            generate_lending(((uint32_t)1 << bit) + more - 1, MOST_TASKS, 232, 32, &want);
+}
+
 /* ---- Long hyper-periods, few */
 
-static void plan_and_walk(const struct list *set)
+/* Leaves what was expected of the planner. */
+static void plan_and_walk(const struct list *set, struct answer *planned)
 {
     struct call c;
-    struct answer planned, want;
+    struct answer want;
 
     start_call(&c, PLAN, set, set->len);
-    try_call(&c, &planned);
-    if (planned.code == 0)
-        walk_under(set, planned.plan, planned.plan_words, &want);
+    try_call(&c, planned);
+    if (planned->code == 0)
+        walk_under(set, planned->plan, planned->plan_words, &want);
 }
 
 /* Every word at the end of its range but the cycles: at the highest rate they take `ticks` of 10,000,000 in all. */
@@ -816,7 +933,7 @@ static void long_spans(void)
     /* All limits at once: 32 jobs of 4,000,000,000 cycles, 4,000 ticks each and more. */
     limit_shape(&shape, 32, 1, 128000);
     flatten(&shape, &set);
-    plan_and_walk(&set);
+    plan_and_walk(&set, &(struct answer){0});
     /* 10,000,000 as a multiple, with periods that are not alike. */
     plain_shape(&shape, 3, 2);
     shape.period[0] = 128;
@@ -824,7 +941,7 @@ static void long_spans(void)
     shape.cycles[0] = 2 * 128 * 10;
     shape.cycles[1] = 26041 * 30;
     flatten(&shape, &set);
-    plan_and_walk(&set);
+    plan_and_walk(&set, &(struct answer){0});
     walk_under(&set, (const uint32_t[]){3, 2}, 2, &(struct answer){0});
     /* A load of L, and of L + 1: missed at the very end. Rates are low, so that the cycles do not pass their range. */
     for (uint32_t more = 0; more <= 1; more++) {
@@ -834,7 +951,7 @@ static void long_spans(void)
         shape.cycles[0] = 9000000u * 20 + more;
         shape.cycles[1] = 100 * 20;
         flatten(&shape, &set);
-        plan_and_walk(&set);
+        plan_and_walk(&set, &(struct answer){0});
         walk_under(&set, (const uint32_t[]){2, 2}, 2, &(struct answer){0});
     }
     /* Energies of 1,000,000 for 10,000,000 jobs: the largest that a task can have. */
@@ -844,7 +961,7 @@ static void long_spans(void)
     shape.cycles[0] = 1;
     shape.energy[0][0] = shape.energy[0][1] = 1000000;
     flatten(&shape, &set);
-    plan_and_walk(&set);
+    plan_and_walk(&set, &(struct answer){0});
 }
 
 /* The widest table: slack 1 and 32 tasks. */
@@ -862,7 +979,7 @@ static void widest(void)
         shape.energy[t][1] = 1700 + 31 * t;
     }
     flatten(&shape, &set);
-    plan_and_walk(&set);
+    plan_and_walk(&set, &(struct answer){0});
 }
 
 /* ---- Random calls */
@@ -940,10 +1057,56 @@ static void random_calls(uint64_t sets)
     }
 }
 
+/* N as a rule 1 to 32, and lists as a rule of the length that it takes. */
+static void random_generate(void)
+{
+    uint32_t tasks = one_in(16) ? MOST_TASKS : (uint32_t)draw(1, one_in(2) ? MOST_TASKS : 4);
+    size_t set_len = 8 + 7 * tasks, results_len = RESULT_BYTES;
+    struct answer want;
+
+    switch (draw(0, 9)) {
+    case 0: tasks = one_in(2) ? draw_edge() : (uint32_t)draw(0, UINT32_MAX); break;
+    case 1: set_len -= draw(1, set_len); break;
+    case 2: set_len--; results_len = draw(0, 31); break;
+    case 3: results_len = draw(0, 31); break;
+    case 4: results_len += draw(0, 8); break;
+    case 5: set_len += draw(0, 8); break;
+    case 6: set_len = MOST_WORDS; break;
+    default: break;
+    }
+    generate_lending(one_in(8) ? draw_edge() : (uint32_t)draw(0, UINT32_MAX), tasks, set_len, results_len, &want);
+}
+
+/* A set from the generator, planned and walked; few tasks as a rule, since the reference is slow. */
+static void random_generated_set(void)
+{
+    uint32_t tasks = (uint32_t)(one_in(25) ? draw(16, MOST_TASKS) : draw(1, one_in(10) ? 9 : 4)), plan[MOST_TASKS];
+    struct answer want;
+    struct list set;
+
+    generate_lending((uint32_t)draw(0, UINT32_MAX), tasks, 8 + 7 * tasks, RESULT_BYTES, &want);
+    set = list_of(want.set, want.set_words);
+    plan_and_walk(&set, &want);
+    count.generated_planned += want.code == 0;
+    count.generated_unplanned += want.code >> 32 == 7;
+    random_plan(&set, plan, tasks);
+    walk_under(&set, plan, tasks, &want);
+}
+
+static void random_generated(uint64_t sets)
+{
+    for (uint64_t i = 0; i < sets; i++) {
+        random_generate();
+        if (i % 10 == 0)
+            random_generated_set();
+    }
+}
+
 static void edge_calls(void)
 {
     cases_of_s();
     cases_of_others();
+    cases_of_generator();
     case_of_one_list();
     for (uint32_t rates = 2; rates <= 8; rates += 3) {
         edge_words(rates, 1);
@@ -960,6 +1123,8 @@ static void edge_calls(void)
     edge_periods();
     edge_lent_sets();
     edge_load();
+    edge_generated_tasks();
+    edge_seeds();
 }
 
 int main(int argc, char **argv)
@@ -972,10 +1137,11 @@ int main(int argc, char **argv)
     make_areas();
     edge_calls();
     random_calls(sets);
+    random_generated(sets);
     long_spans();
     widest();
     if (!enough())
         return 1;
-    printf("%" PRIu64 " calls, all as document 01 says\n", count.calls[PLAN] + count.calls[WALK]);
+    printf("%" PRIu64 " calls, all as the documents say\n", count.calls[PLAN] + count.calls[WALK] + count.calls[GENERATE]);
     return 0;
 }

@@ -13,9 +13,10 @@
 #define WORDS 16
 #define ROOM 3                          /* of the plan list, a word more than S has tasks */
 #define WORK 243                        /* W of S */
+#define GENERATED 22                    /* words of a generated set of 2 tasks */
 
 static const uint32_t S[WORDS] = {100, 3, 2, 4, 8, 2, 10, 12, 4, 9, 20, 15, 20, 7, 15, 30};
-static uint32_t set[WORDS], plan[ROOM], work[WORK];
+static uint32_t set[WORDS], plan[ROOM], work[WORK], generated[GENERATED];
 static uint8_t results[SEEDSPELL_RESULT_BYTES];
 static int failures;
 
@@ -35,6 +36,11 @@ static uint64_t plan_set(size_t plan_len, size_t work_len, size_t results_len)
 static uint64_t walk_plan(size_t plan_len)
 {
     return seedspell_walk(set, WORDS, plan, plan_len, results, SEEDSPELL_RESULT_BYTES);
+}
+
+static uint64_t generate(uint32_t n, size_t set_len, size_t results_len)
+{
+    return seedspell_generate(0, n, generated, set_len, results, results_len);
 }
 
 static void expect(const char *what, uint64_t returned, uint32_t number, uint32_t second)
@@ -68,5 +74,14 @@ int main(void)
         printf("tests/header: the walk of the plan misses\n");
         failures++;
     }
+    expect("33 tasks", generate(33, GENERATED, sizeof results), SEEDSPELL_REFUSED_BAD_SET_WORD, 0);
+    expect("a word short", generate(2, GENERATED - 1, sizeof results), SEEDSPELL_REFUSED_RECEIVING_LIST_SHORT, GENERATED);
+    expect("31 bytes for the length", generate(2, GENERATED, 31), SEEDSPELL_REFUSED_RECEIVING_LIST_SHORT, 32);
+    expect("2 tasks", generate(2, GENERATED, sizeof results), 0, 0);
+    if (results[0] != GENERATED || generated[GENERATED - 1] != 225) {
+        printf("tests/header: the generated set is another\n");
+        failures++;
+    }
+    expect("the generated set", seedspell_plan(generated, GENERATED, plan, ROOM, work, WORK, results, sizeof results), 0, 0);
     return failures > 0;
 }

@@ -1,4 +1,4 @@
-/* Document 01's checks, planner and walk, read as they stand there. Slow on purpose. */
+/* Document 01's checks, planner and walk and document 02's generator, read as they stand there. Slow on purpose. */
 
 #include <stdio.h>
 #include <stdlib.h>
@@ -506,4 +506,71 @@ void expect_walk(const uint32_t *set, size_t set_len, const uint32_t *plan, size
         answer->code = refusal(6, RESULT_BYTES);
     if (answer->code == 0)
         walk(&s, plan, answer->value);
+}
+
+/* ---- The load generator, note 1 of document 02 */
+
+#define WRAP 4294967296u                /* '32 bits' */
+
+/* 'Its state goes to state x 1,664,525 + 1,013,904,223, both steps wrapping at 32 bits; a draw is the new state divided
+   by 65,536, rounded down.' */
+static uint64_t next_draw(uint64_t *state)
+{
+    *state = *state * 1664525 % WRAP;
+    *state = (*state + 1013904223) % WRAP;
+    return *state / 65536;
+}
+
+/* 'Each task takes three draws': period, cycles, energies. */
+static void generate_task(uint64_t *state, uint32_t *task)
+{
+    static const uint32_t periods[] = {10, 20, 25, 40, 50, 100, 200, 400};
+    uint64_t entry = next_draw(state) % 8;
+    uint64_t cycles = 1 + next_draw(state) % 1000;
+    uint64_t factor = 2 + next_draw(state) % 9;
+
+    task[0] = periods[entry];
+    task[1] = (uint32_t)cycles;
+    for (uint64_t j = 1; j <= 5; j++)
+        task[1 + j] = (uint32_t)(factor * j * j);
+}
+
+/* 'The set has slack 100 and five rates, 100 x j for rate j.' */
+static void generate(uint32_t seed, uint32_t tasks, uint32_t *set)
+{
+    uint64_t state = seed;
+
+    set[0] = 100;
+    set[1] = 5;
+    for (uint32_t j = 1; j <= 5; j++)
+        set[1 + j] = 100 * j;
+    set[7] = tasks;
+    for (uint32_t t = 0; t < tasks; t++)
+        generate_task(&state, &set[8 + 7 * t]);
+}
+
+static size_t generated_words(uint32_t tasks)
+{
+    return 8 + 7 * (size_t)tasks;
+}
+
+/* 'Errors: 2 with place 0 for N outside 1 to 32, then 6.' */
+static uint64_t check_generate(uint32_t tasks, size_t set_len, size_t results_len)
+{
+    if (tasks < 1 || tasks > 32)
+        return refusal(2, 0);
+    if (set_len < generated_words(tasks))
+        return refusal(6, generated_words(tasks));
+    return results_len < RESULT_BYTES ? refusal(6, RESULT_BYTES) : 0;
+}
+
+void expect_generate(uint32_t seed, uint32_t tasks, size_t set_len, size_t results_len, struct answer *answer)
+{
+    *answer = (struct answer){0};
+    answer->code = check_generate(tasks, set_len, results_len);
+    if (answer->code != 0)
+        return;
+    generate(seed, tasks, answer->set);
+    answer->set_words = generated_words(tasks);
+    answer->value[0] = answer->set_words;
 }

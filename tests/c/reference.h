@@ -1,4 +1,5 @@
-/* What each C call owes, worked out from document 01 in the plainest way there is.
+/* What each C call owes, worked out from document 01, and for the generator from note 1 of document 02, in the plainest
+   way there is.
 
    It shares no code with the archive or with the benchmarks' planner, so that one misreading is not made twice. It changes
    nothing that it is given: it only says what the call must return and leave. */
@@ -12,6 +13,7 @@
 #define MOST_TASKS 32
 #define MOST_RATES 8
 #define RESULT_BYTES 32
+#define GENERATED_WORDS (8 + 7 * 33)    /* of a generated list with one task more than allowed, should one come up */
 #define FEW_PLANS 700                   /* up to this many plans, the planner's choice goes through all */
 #define MANY_PLANS 1000000
 
@@ -21,6 +23,8 @@ struct answer {
     uint32_t plan[MOST_TASKS];          /* the planner's plan, */
     size_t plan_words;                  /* and how many words of the plan list it takes: N, or 0 where none changes */
     size_t work_words;                  /* how many working words become 0: W, or 0 where none changes */
+    uint32_t set[GENERATED_WORDS];      /* the generator's list, */
+    size_t set_words;                   /* and how many words of the set list it takes, or 0 where none changes */
 
     /* Of which kind the call is: for the counts, and for whoever draws sets. */
     uint64_t span;                      /* the hyper-period L where the set passes checks 2, 3 and 4, else 0 */
@@ -42,6 +46,9 @@ void expect_plan(enum way way, const uint32_t *set, size_t set_len, size_t plan_
 
 void expect_walk(const uint32_t *set, size_t set_len, const uint32_t *plan, size_t plan_len, size_t results_len,
                  struct answer *answer);
+
+/* The generator, for that many tasks. */
+void expect_generate(uint32_t seed, uint32_t tasks, size_t set_len, size_t results_len, struct answer *answer);
 
 /* Whether document 01's writer takes the list: it passes checks 2 and 3. */
 int can_be_written(const uint32_t *set, size_t set_len);

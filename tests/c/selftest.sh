@@ -14,7 +14,8 @@ cc -O2 -c tests/c/reference.c -o "$out/reference.o"
 # build FOLDER: the test with the stand-in of that folder, under names of its own so that the test's reference stays as
 # it is.
 build() {
-    local renamed="-Dexpect_plan=standin_plan -Dexpect_walk=standin_walk -Dcan_be_written=standin_can_be_written"
+    local renamed="-Dexpect_plan=standin_plan -Dexpect_walk=standin_walk -Dexpect_generate=standin_generate"
+    renamed="$renamed -Dcan_be_written=standin_can_be_written"
     # shellcheck disable=SC2086
     cc -O1 -w $renamed -Itests/c "$1/reference.c" "$1/standin.c" "$out/calls.o" "$out/sets.o" "$out/reference.o" -o "$1/calls"
 }
@@ -128,6 +129,76 @@ plant finished-is-preempted reference.c 'return another && before->left > 0;' 'r
 plant preempted-by-task reference.c 'is_preempted(&before, runs);' 'is_preempted(&job[before.task], runs);'
 plant idle-one-less reference.c 'value[2] = idle;' 'value[2] = idle - (idle > 0);'
 
+# The generator
+plant draw-before-the-step reference.c '*state = *state * 1664525 % WRAP;
+    *state = (*state + 1013904223) % WRAP;
+    return *state / 65536;' 'uint64_t old = *state;
+    *state = *state * 1664525 % WRAP;
+    *state = (*state + 1013904223) % WRAP;
+    return old / 65536;'
+plant added-before-multiplying reference.c '*state = *state * 1664525 % WRAP;
+    *state = (*state + 1013904223) % WRAP;' '*state = (*state + 1013904223) % WRAP;
+    *state = *state * 1664525 % WRAP;'
+plant multiplier-one-less reference.c '*state * 1664525 % WRAP' '*state * 1664524 % WRAP'
+plant added-one-more reference.c '(*state + 1013904223) % WRAP' '(*state + 1013904224) % WRAP'
+plant sum-not-wrapped reference.c '*state = (*state + 1013904223) % WRAP;' '*state = *state + 1013904223;'
+plant wrapped-at-31-bits reference.c '#define WRAP 4294967296u' '#define WRAP 2147483648u'
+plant low-half-drawn reference.c 'return *state / 65536;' 'return *state % 65536;'
+plant draw-rounded-up reference.c 'return *state / 65536;' 'return divided_up(*state, 65536);'
+plant draw-divided-by-65535 reference.c 'return *state / 65536;' 'return *state / 65535;'
+plant entry-mod-7 reference.c 'next_draw(state) % 8;' 'next_draw(state) % 7;'
+plant entry-from-1 reference.c 'task[0] = periods[entry];' 'task[0] = periods[(entry + 7) % 8];'
+plant another-entry reference.c '50, 100, 200, 400};' '50, 100, 250, 400};'
+plant cycles-from-0 reference.c '1 + next_draw(state) % 1000;' 'next_draw(state) % 1000;'
+plant cycles-to-999 reference.c '1 + next_draw(state) % 1000;' '1 + next_draw(state) % 999;'
+plant sum-before-mod-1000 reference.c '1 + next_draw(state) % 1000;' '(1 + next_draw(state)) % 1000;'
+plant energy-to-9 reference.c '2 + next_draw(state) % 9;' '2 + next_draw(state) % 8;'
+plant energy-from-1 reference.c '2 + next_draw(state) % 9;' '1 + next_draw(state) % 9;'
+plant energy-as-the-rate reference.c '(factor * j * j);' '(factor * j);'
+plant energy-drawn-by-rate reference.c 'task[1 + j] = (uint32_t)(factor * j * j);' 'task[1 + j] = (uint32_t)((j == 1 ? factor : 2 + next_draw(state) % 9) * j * j);'
+plant cycles-drawn-first reference.c 'uint64_t entry = next_draw(state) % 8;
+    uint64_t cycles = 1 + next_draw(state) % 1000;' 'uint64_t cycles = 1 + next_draw(state) % 1000;
+    uint64_t entry = next_draw(state) % 8;'
+plant energy-before-cycles reference.c 'uint64_t cycles = 1 + next_draw(state) % 1000;
+    uint64_t factor = 2 + next_draw(state) % 9;' 'uint64_t factor = 2 + next_draw(state) % 9;
+    uint64_t cycles = 1 + next_draw(state) % 1000;'
+plant a-step-before-the-first reference.c 'uint64_t state = seed;' 'uint64_t state = (seed * 1664525u + 1013904223u) % WRAP;'
+plant seed-goes-on reference.c 'uint64_t state = seed;' 'static uint64_t last;
+    uint64_t state = seed == 0 ? last : seed;
+    last = seed;'
+plant each-task-from-the-seed reference.c 'generate_task(&state, &set[8 + 7 * t]);' 'state = seed + t, generate_task(&state, &set[8 + 7 * t]);'
+plant generated-slack-1000 reference.c 'set[0] = 100;' 'set[0] = 1000;'
+plant generated-rates-of-10 reference.c 'set[1 + j] = 100 * j;' 'set[1 + j] = 10 * j;'
+plant generated-n-of-0 reference.c 'if (tasks < 1 || tasks > 32)' 'if (tasks > 32)'
+plant generated-n-of-33 reference.c 'if (tasks < 1 || tasks > 32)' 'if (tasks < 1 || tasks > 33)'
+plant generated-n-to-31 reference.c 'if (tasks < 1 || tasks > 32)' 'if (tasks < 1 || tasks > 31)'
+plant generated-n-by-its-byte reference.c 'answer->code = check_generate(' 'tasks &= 255;
+    answer->code = check_generate('
+plant generated-n-signed reference.c 'if (tasks < 1 || tasks > 32)' 'if (tasks == 0 || (int32_t)tasks > 32)'
+plant generated-n-for-place reference.c 'return refusal(2, 0);' 'return refusal(2, tasks);'
+plant generated-place-of-n reference.c 'return refusal(2, 0);' 'return refusal(2, 7);'
+plant generated-6-before-2 reference.c 'if (tasks < 1 || tasks > 32)
+        return refusal(2, 0);
+    if (set_len < generated_words(tasks))
+        return refusal(6, generated_words(tasks));' 'if (set_len < generated_words(tasks))
+        return refusal(6, generated_words(tasks));
+    if (tasks < 1 || tasks > 32)
+        return refusal(2, 0);'
+plant generated-results-first reference.c 'if (tasks < 1 || tasks > 32)' 'if (results_len < 32)
+        return refusal(6, 32);
+    if (tasks < 1 || tasks > 32)'
+plant generated-results-second reference.c 'if (set_len < generated_words(tasks))' 'if (results_len < 32)
+        return refusal(6, 32);
+    if (set_len < generated_words(tasks))'
+plant generated-one-more-asked reference.c 'if (set_len < generated_words(tasks))' 'if (set_len <= generated_words(tasks))'
+plant generated-6-with-too-few reference.c 'return refusal(6, generated_words(tasks));' 'return refusal(6, generated_words(tasks) - 1);'
+plant generated-6-with-what-lacks reference.c 'return refusal(6, generated_words(tasks));' 'return refusal(6, generated_words(tasks) - set_len);'
+plant generated-31-bytes-allowed reference.c 'return results_len < RESULT_BYTES ?' 'return results_len < RESULT_BYTES - 1 ?'
+plant generated-length-one-short reference.c 'answer->value[0] = answer->set_words;' 'answer->value[0] = answer->set_words - 1;'
+plant generated-n-for-length reference.c 'answer->value[0] = answer->set_words;' 'answer->value[0] = tasks;'
+plant generated-second-result reference.c 'answer->value[0] = answer->set_words;' 'answer->value[0] = answer->set_words;
+    answer->value[1] = tasks;'
+
 # What is written
 plant plan-word-past-n standin.c 'memcpy(plan, answer.plan, answer.plan_words * sizeof *plan);' 'memcpy(plan, answer.plan, (answer.plan_words + 1) * sizeof *plan);'
 plant plan-untouched standin.c 'memcpy(plan, answer.plan, answer.plan_words * sizeof *plan);' ''
@@ -152,6 +223,16 @@ plant set-changed standin.c 'memset(work, 0, answer.work_words * sizeof *work);'
     ((uint32_t *)set)[set_len - 1] ^= 1;'
 plant walk-plan-changed standin.c 'expect_walk(set, set_len, plan, plan_len, results_len, &answer);' 'expect_walk(set, set_len, plan, plan_len, results_len, &answer);
     ((uint32_t *)plan)[plan_len] = 0;'
+plant generated-word-past standin.c 'memcpy(set, answer.set, answer.set_words * sizeof *set);' 'memcpy(set, answer.set, (answer.set_words + (answer.set_words > 0)) * sizeof *set);'
+plant generated-word-less standin.c 'memcpy(set, answer.set, answer.set_words * sizeof *set);' 'memcpy(set, answer.set, (answer.set_words - (answer.set_words > 0)) * sizeof *set);'
+plant generated-room-cleared standin.c 'memcpy(set, answer.set, answer.set_words * sizeof *set);' 'if (answer.code == 0) memset(set, 0, set_len * sizeof *set);
+    memcpy(set, answer.set, answer.set_words * sizeof *set);'
+plant generated-when-refusing standin.c 'memcpy(set, answer.set, answer.set_words * sizeof *set);' 'if (answer.code >> 32 == 6 && set_len > 0) set[0] = 100;
+    memcpy(set, answer.set, answer.set_words * sizeof *set);'
+plant generated-results-refusing standin.c 'if (answer.set_words > 0)' 'if (answer.set_words > 0 || (results_len >= 32 && answer.code >> 32 == 6))'
+plant generated-results-untouched standin.c 'if (answer.set_words > 0)' 'if (0)'
+plant generated-reads-its-room standin.c 'memcpy(set, answer.set, answer.set_words * sizeof *set);' 'if (answer.code == 0) answer.set[9] += set[9] == 0;
+    memcpy(set, answer.set, answer.set_words * sizeof *set);'
 
 echo "$planted errors planted, $missed not found"
 [ "$missed" -eq 0 ]

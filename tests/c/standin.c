@@ -1,4 +1,4 @@
-/* The two entries over the reference, in the archive's place: what selftest.sh plants errors in, to see that the test
+/* The three entries over the reference, in the archive's place: what selftest.sh plants errors in, to see that the test
    finds them. No part of the test itself. */
 
 #include <string.h>
@@ -33,6 +33,18 @@ uint64_t seedspell_walk(const uint32_t *set, size_t set_len, const uint32_t *pla
 
     expect_walk(set, set_len, plan, plan_len, results_len, &answer);
     if (answer.code == 0)
+        put_results(answer.value, results);
+    return answer.code;
+}
+
+uint64_t seedspell_generate(uint32_t seed, uint32_t n, uint32_t *set, size_t set_len,
+                            uint8_t *results, size_t results_len)
+{
+    struct answer answer;
+
+    expect_generate(seed, n, set_len, results_len, &answer);
+    memcpy(set, answer.set, answer.set_words * sizeof *set);
+    if (answer.set_words > 0)
         put_results(answer.value, results);
     return answer.code;
 }
