@@ -41,13 +41,15 @@ extern "C" {
  * order is the one returned. No call from C returns 1: it is of texts, which the program reads. */
 #define SEEDSPELL_REFUSED_TEXT_DEPARTS 1          /* a text departs from the form; offset of its first byte that does */
 #define SEEDSPELL_REFUSED_BAD_SET_WORD 2          /* a set word out of its range, missing or left over; its place, or
-                                                     the list's length if it is missing */
+                                                     the list's length if it is missing. Of the generator, a number
+                                                     of tasks that is not 1 to 32; 0 */
 #define SEEDSPELL_REFUSED_RATE_NOT_ABOVE 3        /* a rate not above the one before it; its place */
 #define SEEDSPELL_REFUSED_HYPER_PERIOD_TOO_LONG 4 /* the hyper-period passes 10,000,000; the place of the first period
                                                      at which it does */
 #define SEEDSPELL_REFUSED_WORKING_LIST_SHORT 5    /* fewer working words than the set needs; the words needed, W */
-#define SEEDSPELL_REFUSED_RECEIVING_LIST_SHORT 6  /* no room for the plan, or for the results; the words needed for the
-                                                     plan, or the bytes for the results */
+#define SEEDSPELL_REFUSED_RECEIVING_LIST_SHORT 6  /* no room for the plan, for the generator's set, or for the results;
+                                                     the words needed for the plan or the set, or the bytes for the
+                                                     results */
 #define SEEDSPELL_REFUSED_NO_PLAN_FITS 7          /* no plan keeps every deadline; 0 */
 #define SEEDSPELL_REFUSED_BAD_WALK_PLAN 8         /* the plan that the walk is given; the lowest place of a word that is
                                                      not 1 to M, or its length if it is short, or N if it is long */
@@ -108,7 +110,8 @@ uint64_t seedspell_walk(const uint32_t *set, size_t set_len, const uint32_t *pla
 uint64_t seedspell_plan(const uint32_t *set, size_t set_len, uint32_t *plan, size_t plan_len,
                         uint32_t *work, size_t work_len, uint8_t *results, size_t results_len);
 
-/* The load generator: a set for the bench, the same wherever it is made from the same seed and N.
+/* The generator: a set for benchmarks and tests, the same wherever it is made from the same seed and N. How it is drawn
+ * from the seed is in docs/CALLS.md.
  *
  * seed                  any word
  * n                     the number of tasks N, 1 to 32
@@ -116,10 +119,10 @@ uint64_t seedspell_plan(const uint32_t *set, size_t set_len, uint32_t *plan, siz
  * results, results_len  receives the results, at least 32 bytes
  *
  * Returns 0 and leaves in the first 8 + 7 x N words of set a set of five rates and N tasks, which passes checks 2, 3
- * and 4; and in the first 32 bytes of results
+ * and 4 and whose hyper-period divides 400, but may have no plan; and in the first 32 bytes of results
  *   length, 0, 0, 0                             the set's length, 8 + 7 x N;
  * or refuses: 2 with 0 for N outside 1 to 32, 6 with 8 + 7 x N for the set list, and then 6 with 32 for the results, in
- * this order. */
+ * this order. On a refusal nothing is changed. */
 uint64_t seedspell_generate(uint32_t seed, uint32_t n, uint32_t *set, size_t set_len,
                             uint8_t *results, size_t results_len);
 
