@@ -18,8 +18,10 @@ use Rattle.capi.specs.Entry.{resultBytes, resultSize, EntryGives, walkEn
 -- ---- every entry. l₁ and l₂ are the other lists as two answers give them back: equal where the call's own answers make
 -- them so, and where both leave them as they were.
 module _ {L A : Type 0} (cs : List Check) (single : AllSingle cs) (Gives : L → A → Type 0) (values : A → List ℕ) (Unchanged : L → Type 0)
-    (one : (l₁ l₂ : L) (a b : A) → Gives l₁ a → Gives l₂ b → (a ≡ b) × (l₁ ≡ l₂)) (same : (l₁ l₂ : L) → Unchanged l₁ → Unchanged l₂ → l₁ ≡ l₂) where
-  pub entry-unique : (l₁ l₂ : L) (d d₁ d₂ : List ℕ) (x y : ℕ) → EntryGives cs (Gives l₁) values (Unchanged l₁) d d₁ x → EntryGives cs (Gives l₂) values (Unchanged l₂) d d₂ y
+    (one : (l₁ l₂ : L) (a b : A) → Gives l₁ a → Gives l₂ b → (a ≡ b) × (l₁ ≡ l₂))
+    (same : (l₁ l₂ : L) → Unchanged l₁ → Unchanged l₂ → l₁ ≡ l₂) where
+  pub entry-unique : (l₁ l₂ : L) (d d₁ d₂ : List ℕ) (x y : ℕ)
+      → EntryGives cs (Gives l₁) values (Unchanged l₁) d d₁ x → EntryGives cs (Gives l₂) values (Unchanged l₂) d d₂ y
       → (x ≡ y) × (l₁ ≡ l₂) × (d₁ ≡ d₂)
   entry-unique l₁ l₂ d d₁ d₂ x y =
       ⊎-elim
@@ -30,7 +32,9 @@ module _ {L A : Type 0} (cs : List Check) (single : AllSingle cs) (Gives : L →
       (λ h. absurd (not-both cs (number (h .0)) (second (h .0)) (g .1) (h .1))))
       (λ g. ⊎-elim
       (λ h. absurd (not-both cs (number (g .0)) (second (g .0)) (h .1) (g .1)))
-      (λ h. (g .2 ∙ ap code (refusal-unique cs single (g .0) (h .0) (g .1) (h .1)) ∙ sym (h .2), same l₁ l₂ (g .3) (h .3), g .4 ∙ sym (h .4))))
+      (λ h.
+      let r = refusal-unique cs single (g .0) (h .0) (g .1) (h .1) in
+      (g .2 ∙ ap code r ∙ sym (h .2), same l₁ l₂ (g .3) (h .3), g .4 ∙ sym (h .4))))
 
 -- ---- the walk
 entry-single : (s P : List ℕ) (size : ℕ) → AllSingle (walkEntryChecks s P size)
@@ -39,7 +43,8 @@ entry-single s P size =
 
 pub walk-entry-unique : (s P d d₁ d₂ : List ℕ) (x y : ℕ) → WalkEntryGives s P d d₁ x → WalkEntryGives s P d d₂ y → (x ≡ y) × (d₁ ≡ d₂)
 walk-entry-unique s P d d₁ d₂ x y g h =
-    let u = entry-unique {L = Unit {0}} (walkEntryChecks s P (length d)) (entry-single s P (length d)) (λ _. WalkAnswers s P) walkValues (λ _. Unit {0})
+    let u = entry-unique {L = Unit {0}} (walkEntryChecks s P (length d)) (entry-single s P (length d))
+    (λ _. WalkAnswers s P) walkValues (λ _. Unit {0})
     (λ l₁ l₂ a b p q. (walk-unique s P a b p q, refl)) (λ l₁ l₂ p q. refl) tt tt d d₁ d₂ x y g h in
     (u .0, u .2)
 
@@ -65,9 +70,11 @@ pub record SameEntry (x y : ℕ) (plan₁ work₁ results₁ plan₂ work₂ res
   pub results : results₁ ≡ results₂
 
 pub plan-entry-unique : (s plan work d plan₁ work₁ d₁ plan₂ work₂ d₂ : List ℕ) (x y : ℕ)
-    → PlanEntryGives s plan work d plan₁ work₁ d₁ x → PlanEntryGives s plan work d plan₂ work₂ d₂ y → SameEntry x y plan₁ work₁ d₁ plan₂ work₂ d₂
+    → PlanEntryGives s plan work d plan₁ work₁ d₁ x → PlanEntryGives s plan work d plan₂ work₂ d₂ y
+    → SameEntry x y plan₁ work₁ d₁ plan₂ work₂ d₂
 plan-entry-unique s plan work d plan₁ work₁ d₁ plan₂ work₂ d₂ x y g h =
-    let u = entry-unique {L = Lent} (planEntryChecks s (length plan) (length work) (length d)) (plan-entry-single s (length plan) (length work) (length d))
+    let u = entry-unique {L = Lent} (planEntryChecks s (length plan) (length work) (length d))
+    (plan-entry-single s (length plan) (length work) (length d))
     (λ l. PlannerGives s plan work (l .plan) (l .work)) plannerValues (λ l. (l .plan ≡ plan) × (l .work ≡ work))
     (λ l₁ l₂ a b p q.
     let z = planner-unique s plan work (l₁ .plan) (l₁ .work) (l₂ .plan) (l₂ .work) a b p q in
@@ -81,8 +88,10 @@ generate-entry-single : (seed n setLength size : ℕ) → AllSingle (generateEnt
 generate-entry-single seed n sl size =
     single-next (generatorChecks seed n sl) (roomCheck resultSize size) (generator-single seed n sl) (short-single resultSize size)
 
-pub generate-entry-unique : (seed n : ℕ) (s d s₁ d₁ s₂ d₂ : List ℕ) (x y : ℕ) → GenerateEntryGives seed n s d s₁ d₁ x → GenerateEntryGives seed n s d s₂ d₂ y
+pub generate-entry-unique : (seed n : ℕ) (s d s₁ d₁ s₂ d₂ : List ℕ) (x y : ℕ)
+    → GenerateEntryGives seed n s d s₁ d₁ x → GenerateEntryGives seed n s d s₂ d₂ y
     → (x ≡ y) × (s₁ ≡ s₂) × (d₁ ≡ d₂)
 generate-entry-unique seed n s d s₁ d₁ s₂ d₂ =
-    entry-unique (generateEntryChecks seed n (length s) (length d)) (generate-entry-single seed n (length s) (length d)) (GeneratorGives seed n s) generatorValues (λ l. l ≡ s)
+    entry-unique (generateEntryChecks seed n (length s) (length d)) (generate-entry-single seed n (length s) (length d))
+    (GeneratorGives seed n s) generatorValues (λ l. l ≡ s)
     (λ l₁ l₂ a b p q. let z = generator-unique seed n s l₁ l₂ a b p q in (z .answer, z .list)) (λ l₁ l₂ p q. p ∙ sym q) s₁ s₂ d d₁ d₂

@@ -106,7 +106,8 @@ generatorValues (NotCopied r) = []
 -- set and results are the lists as lent, set′ and results′ as given back.
 abbrev pub GenerateEntryGives : (seed n : ℕ) (set results set′ results′ : List ℕ) → ℕ → Type 0
 GenerateEntryGives seed n set results set′ =
-    EntryGives (generateEntryChecks seed n (length set) (length results)) (GeneratorGives seed n set set′) generatorValues (set′ ≡ set) results
+    EntryGives (generateEntryChecks seed n (length set) (length results)) (GeneratorGives seed n set set′) generatorValues
+    (set′ ≡ set) results
 
 -- The entry's contract: the above; and again over the words and the bytes, where 0 is returned: the first value says how
 -- many words in front are the generator's, and they pass checks 2, 3 and 4.

@@ -50,7 +50,8 @@ module _ (n lent : ℕ) where
     pub room-enough : k ≤ lent → RoomAfter n lent (Enough k)
     room-enough h seed =
         let size = set-size seed n in
-        (accepts-next (countCheck n ∷ []) (roomCheck (length (generated seed n)) lent) counted (λ j f. omega (arith, f .0)), needed ∙ sym size)
+        let room = roomCheck (length (generated seed n)) lent in
+        (accepts-next (countCheck n ∷ []) room counted (λ j f. omega (arith, f .0)), needed ∙ sym size)
 
 -- A second number is small.
 pub second-small : (seed n lent m k : ℕ) → Refuses (generatorChecks seed n lent) m k → k < 2 ^ 32

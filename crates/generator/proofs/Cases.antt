@@ -20,7 +20,8 @@ pub record Cases : Type 0 where
   pub entries : drawnPeriod 0 ∷ drawnPeriod 7 ∷ drawnPeriod 8 ∷ drawnPeriod 15470 ∷ [] ≡ 10 ∷ 400 ∷ 10 ∷ 200 ∷ []
   -- Whole sets.
   pub set-0-1 : generated 0 1 ≡ 100 ∷ 5 ∷ 100 ∷ 200 ∷ 300 ∷ 400 ∷ 500 ∷ 1 ∷ 200 ∷ 257 ∷ 7 ∷ 28 ∷ 63 ∷ 112 ∷ 175 ∷ []
-  pub set-7-2 : generated 7 2 ≡ 100 ∷ 5 ∷ 100 ∷ 200 ∷ 300 ∷ 400 ∷ 500 ∷ 2 ∷ 10 ∷ 867 ∷ 2 ∷ 8 ∷ 18 ∷ 32 ∷ 50 ∷ 200 ∷ 234 ∷ 7 ∷ 28 ∷ 63 ∷ 112 ∷ 175 ∷ []
+  pub set-7-2 : generated 7 2
+      ≡ 100 ∷ 5 ∷ 100 ∷ 200 ∷ 300 ∷ 400 ∷ 500 ∷ 2 ∷ 10 ∷ 867 ∷ 2 ∷ 8 ∷ 18 ∷ 32 ∷ 50 ∷ 200 ∷ 234 ∷ 7 ∷ 28 ∷ 63 ∷ 112 ∷ 175 ∷ []
   pub set-highest-seed : generated 4294967295 1 ≡ 100 ∷ 5 ∷ 100 ∷ 200 ∷ 300 ∷ 400 ∷ 500 ∷ 1 ∷ 100 ∷ 312 ∷ 8 ∷ 32 ∷ 72 ∷ 128 ∷ 200 ∷ []
   -- Task counts of 0 and 33 are refused, also where the list is short, with place 0.
   pub no-task : Refuses (generatorChecks 7 0 0) 2 0

@@ -13,7 +13,7 @@ use Rattle.layout.specs.declared.Layout.the-variants.{Ordinary}
 use Rattle.layout.proofs.Layouts.{slack-in-head}
 use Rattle.taskset.proofs.Writing.{placed, written, written-none, written-front, length-written, extend}
 use Rattle.taskset.proofs.Stores.{stored-alone}
-use Rattle.generator.specs.Generated.{next, stateAfter, draw, drawnPeriod, fiveRates, headWords, rateOf, taskWords, frontWords, generated}
+use Rattle.generator.specs.Generated.{next, stateAfter, draw, drawnPeriod, fiveRates, headWords, rateOf, taskWords, tasksWords, frontWords, generated}
 use Rattle.generator.proofs.States.{state-none, state-add, task-from}
 use Rattle.generator.proofs.Sizes.{head-length, front-size, tasks-size}
 
@@ -47,17 +47,22 @@ pub record Drawn (seed n : ℕ) (d : List ℕ) (t state : ℕ) (e : List ℕ) : 
   pub few : t ≤ n
   pub same : length e ≡ length d
   pub stands : state ≡ stateAfter seed (3 * t)
-  pub is : e ≡ written (tasksPlace Ordinary fiveRates) (joined (taskWords seed) (each (λ t. t) 0 t)) d
+  pub is : e ≡ written (tasksPlace Ordinary fiveRates) (tasksWords seed t) d
 
 pub none-drawn : (seed n : ℕ) (d : List ℕ) → Drawn seed n d 0 seed d
-none-drawn seed n d = record { few = omega arith; same = refl; stands = sym (state-none seed); is = written-none d (tasksPlace Ordinary fiveRates) }
+none-drawn seed n d = record {
+  few = omega arith;
+  same = refl;
+  stands = sym (state-none seed);
+  is = written-none d (tasksPlace Ordinary fiveRates);
+}
 
 module _ {seed n : ℕ} {d : List ℕ} {t state : ℕ} {e : List ℕ} (h : Drawn seed n d t state e) where
   pub one-drawn : (x : ℕ) (e′ : List ℕ) → t < n → tasksPlace Ordinary fiveRates ≤ length d → length e′ ≡ length e
       → x ≡ stateAfter state 3 → e′ ≡ written (periodPlace Ordinary fiveRates t) (taskWords state 0) e → Drawn seed n d (t + 1) x e′
   one-drawn x e′ l room same s w =
       let next : 3 * t + 3 ≡ 3 * (t + 1) = omega arith in
-      let before : List ℕ = joined (taskWords seed) (each (λ t. t) 0 t) in
+      let before : List ℕ = tasksWords seed t in
       let more : each (λ (t : ℕ). t) 0 (t + 1) ≡ each (λ (t : ℕ). t) 0 t ++ (t ∷ []) =
       each-more (λ (t : ℕ). t) 0 t ∙ ap (λ (k : ℕ). each (λ (t : ℕ). t) 0 t ++ (k ∷ [])) (zero-add t) in
       let words : taskWords state 0 ≡ taskWords seed t = ap (λ (y : ℕ). taskWords y 0) (h .stands) ∙ sym (task-from seed t) in
@@ -65,23 +70,26 @@ module _ {seed n : ℕ} {d : List ℕ} {t state : ℕ} {e : List ℕ} (h : Drawn
         few = omega arith;
         same = same ∙ h .same;
         stands = s ∙ ap (λ (y : ℕ). stateAfter y 3) (h .stands) ∙ sym (state-add seed (3 * t) 3) ∙ ap (stateAfter seed) next;
-        is = extend before (taskWords seed t) d e e′ (tasksPlace Ordinary fiveRates) (periodPlace Ordinary fiveRates t) (omega (arith, tasks-size seed 0 t)) room (h .is)
+        is = extend before (taskWords seed t) d e e′ (tasksPlace Ordinary fiveRates) (periodPlace Ordinary fiveRates t)
+            (omega (arith, tasks-size seed 0 t)) room (h .is)
             (w ∙ ap (λ (ws : List ℕ). written (periodPlace Ordinary fiveRates t) ws e) words)
             ∙ ap (λ (ws : List ℕ). written (tasksPlace Ordinary fiveRates) ws d)
             (sym (ap (joined (taskWords seed)) more ∙ joined-one (taskWords seed) (each (λ t. t) 0 t) t));
       }
 
-  pub all-drawn : n ≤ t → e ≡ written (tasksPlace Ordinary fiveRates) (joined (taskWords seed) (each (λ t. t) 0 n)) d
+  pub all-drawn : n ≤ t → e ≡ written (tasksPlace Ordinary fiveRates) (tasksWords seed n) d
   all-drawn l =
       let z : t ≡ n = omega (arith, h .few) in
-      h .is ∙ ap (λ (k : ℕ). written (tasksPlace Ordinary fiveRates) (joined (taskWords seed) (each (λ t. t) 0 k)) d) z
+      h .is ∙ ap (λ (k : ℕ). written (tasksPlace Ordinary fiveRates) (tasksWords seed k) d) z
 
 -- There is room for one more.
-pub task-room : (n t l : ℕ) → t < n → periodPlace Ordinary fiveRates n ≤ l → periodPlace Ordinary fiveRates t + taskSize Ordinary fiveRates ≤ l
+pub task-room : (n t l : ℕ) → t < n → periodPlace Ordinary fiveRates n ≤ l
+    → periodPlace Ordinary fiveRates t + taskSize Ordinary fiveRates ≤ l
 task-room n t l h room = omega (arith, mul-le-mul-right (taskSize Ordinary fiveRates) h, suc-mul t (taskSize Ordinary fiveRates))
 
 -- ---- the words before them: the slack, zeros, the rate count, the rates, the task count
-pub front-written : (n h k : ℕ) (d e₁ e₂ : List ℕ) → h ≡ headSize Ordinary → k ≡ taskCountPlace Ordinary fiveRates → tasksPlace Ordinary fiveRates ≤ length d
+pub front-written : (n h k : ℕ) (d e₁ e₂ : List ℕ) → h ≡ headSize Ordinary → k ≡ taskCountPlace Ordinary fiveRates
+    → tasksPlace Ordinary fiveRates ≤ length d
     → e₁ ≡ written 1 (replicate (h - 1) 0) (set d 0 100) → e₂ ≡ written (h + 1) (each rateOf 1 fiveRates) (set e₁ h fiveRates)
     → set e₂ k n ≡ written 0 (frontWords n) d
 unfolding frontWords
@@ -89,7 +97,8 @@ front-written n h k d e₁ e₂ size place room q r =
     let some = slack-in-head Ordinary in
     let rates : List ℕ = each rateOf 1 fiveRates in
     let one : set d 0 100 ≡ written 0 (100 ∷ []) d = stored-alone (100 ∷ []) d 0 (omega arith) in
-    let head : e₁ ≡ written 0 headWords d = extend (100 ∷ []) (replicate (headSize Ordinary - 1) 0) d (set d 0 100) e₁ 0 1 refl (omega arith) one (rw size at q) in
+    let head : e₁ ≡ written 0 headWords d =
+    extend (100 ∷ []) (replicate (headSize Ordinary - 1) 0) d (set d 0 100) e₁ 0 1 refl (omega arith) one (rw size at q) in
     let size₁ : length e₁ ≡ length d = ap length head ∙ length-written headWords d 0 (omega (arith, head-length)) in
     let count : set e₁ h fiveRates ≡ written 0 (headWords ++ (fiveRates ∷ [])) d =
     extend headWords (fiveRates ∷ []) d e₁ (set e₁ h fiveRates) 0 h (omega (arith, head-length)) (omega arith) head
@@ -105,8 +114,8 @@ front-written n h k d e₁ e₂ size place room q r =
 
 -- ---- all of it
 pub set-written : (seed n : ℕ) (d e₁ e₂ : List ℕ) → e₁ ≡ written 0 (frontWords n) d
-    → e₂ ≡ written (tasksPlace Ordinary fiveRates) (joined (taskWords seed) (each (λ t. t) 0 n)) e₁ → e₂ ≡ placed (generated seed n) d
+    → e₂ ≡ written (tasksPlace Ordinary fiveRates) (tasksWords seed n) e₁ → e₂ ≡ placed (generated seed n) d
 unfolding generated
 set-written seed n d e₁ e₂ q r =
-    extend (frontWords n) (joined (taskWords seed) (each (λ t. t) 0 n)) d e₁ e₂ 0 (tasksPlace Ordinary fiveRates) (omega (arith, front-size n)) (omega arith) q r ∙
+    extend (frontWords n) (tasksWords seed n) d e₁ e₂ 0 (tasksPlace Ordinary fiveRates) (omega (arith, front-size n)) (omega arith) q r ∙
     written-front (generated seed n) d

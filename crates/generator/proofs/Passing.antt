@@ -65,7 +65,8 @@ module _ (seed n : ℕ) (some : 1 ≤ n) (few : n ≤ 32) where
       let m = rates-is seed n in
       let k = tasks-is seed n in
       record {
-        size = set-size seed n ∙ ap (λ (j : ℕ). periodPlace Ordinary j n) (sym m) ∙ ap (periodPlace Ordinary (rateCount Ordinary s)) (sym k);
+        size = set-size seed n ∙ ap (λ (j : ℕ). periodPlace Ordinary j n) (sym m)
+            ∙ ap (periodPlace Ordinary (rateCount Ordinary s)) (sym k);
         rates-range = (omega arith, omega arith);
         tasks-range = (omega arith, omega arith);
         head-word = head-word;

@@ -3,15 +3,15 @@
 use Prim.Native.Nat.{ℕ, suc, _+_, _-_, _*_, _≤_, _<_}
 use mathlib.Core.Path.{_≡_, refl, sym, ap, _∙_}
 use mathlib.Core.List.{List, [], _∷_, _++_, append-assoc}
-use native.Mathlib.Nat.{zero-add}
+use native.Mathlib.Nat.{zero-add, add-zero}
 use native.Mathlib.Omega.{arith}
 use lib.ListN.{length, replicate, length-replicate, getD-replicate, List·getD-append}
 use lib.Seq.{getD-append-add}
-use Rattle.numbers.specs.Numbers.{each, joined}
+use Rattle.numbers.specs.Numbers.{each}
 use Rattle.numbers.proofs.Lists.{each-at, joined-at}
 use Rattle.layout.specs.Words.{headSize, extraSize, word, slack, rateCount, taskCount, ratePlace, taskCountPlace, taskSize, periodPlace, rate, period, cycles, energy}
 use Rattle.layout.specs.declared.Layout.the-variants.{Ordinary}
-use Rattle.generator.specs.Generated.{draw, drawnPeriod, drawnCycles, drawnEnergy, fiveRates, headWords, rateOf, taskWords, frontWords, generated}
+use Rattle.generator.specs.Generated.{draw, drawnPeriod, drawnCycles, drawnEnergy, fiveRates, headWords, rateOf, taskWords, tasksWords, frontWords, generated}
 use Rattle.generator.proofs.Sizes.{head-length, task-size}
 
 module _ (seed n : ℕ) where
@@ -22,7 +22,7 @@ module _ (seed n : ℕ) where
   rates = each rateOf 1 fiveRates
 
   abbrev tasks : List ℕ
-  tasks = joined (taskWords seed) (each (λ t. t) 0 n)
+  tasks = tasksWords seed n
 
   -- ---- the head, and what stands behind it
   parts : s ≡ headWords ++ (fiveRates ∷ (rates ++ (n ∷ tasks)))
@@ -67,7 +67,8 @@ module _ (seed n : ℕ) where
 
   module _ (t : ℕ) (h : t < n) where
     -- Word k of the task at t.
-    pub task-word : (k : ℕ) → k < taskSize Ordinary fiveRates → word s (periodPlace Ordinary (rateCount Ordinary s) t + k) ≡ word (taskWords seed t) k
+    pub task-word : (k : ℕ) → k < taskSize Ordinary fiveRates
+        → word s (periodPlace Ordinary (rateCount Ordinary s) t + k) ≡ word (taskWords seed t) k
     task-word k l =
         ap (λ (m : ℕ). word s (periodPlace Ordinary m t + k)) rates-is ∙
         behind (periodPlace Ordinary fiveRates t + k) (7 + (t * taskSize Ordinary fiveRates + k)) (omega arith) ∙
@@ -76,7 +77,7 @@ module _ (seed n : ℕ) where
         ap (λ (j : ℕ). word (taskWords seed j) k) (zero-add t)
 
     pub period-is : period Ordinary s t ≡ drawnPeriod (draw seed (3 * t))
-    period-is = let e : periodPlace Ordinary (rateCount Ordinary s) t ≡ periodPlace Ordinary (rateCount Ordinary s) t + 0 = omega arith in ap (word s) e ∙ task-word 0 (omega arith)
+    period-is = ap (word s) (sym (add-zero (periodPlace Ordinary (rateCount Ordinary s) t))) ∙ task-word 0 (omega arith)
 
     pub cycles-is : cycles Ordinary s t ≡ drawnCycles (draw seed (3 * t + 1))
     cycles-is = task-word 1 (omega arith)
@@ -87,7 +88,8 @@ module _ (seed n : ℕ) where
     -- Behind the period and the cycles.
     behind-two : (k : ℕ) → word (taskWords seed t) (2 + k) ≡ word (replicate (extraSize Ordinary) 0 ++ energies) k
     behind-two k =
-        getD-append-add (drawnPeriod (draw seed (3 * t)) ∷ drawnCycles (draw seed (3 * t + 1)) ∷ []) (replicate (extraSize Ordinary) 0 ++ energies) k 0
+        getD-append-add (drawnPeriod (draw seed (3 * t)) ∷ drawnCycles (draw seed (3 * t + 1)) ∷ [])
+        (replicate (extraSize Ordinary) 0 ++ energies) k 0
 
     pub extra-zero : (k : ℕ) → k < extraSize Ordinary → word s (periodPlace Ordinary (rateCount Ordinary s) t + (2 + k)) ≡ 0
     extra-zero k l =
@@ -98,7 +100,8 @@ module _ (seed n : ℕ) where
     pub energy-is : (r : ℕ) → 1 ≤ r → r ≤ fiveRates → energy Ordinary s t r ≡ drawnEnergy (draw seed (3 * t + 2)) r
     energy-is r a b =
         let zeros : List ℕ = replicate (extraSize Ordinary) 0 in
-        let place : 1 + extraSize Ordinary + r ≡ 2 + (length zeros + (r - 1)) = omega (arith, length-replicate {A = ℕ} (extraSize Ordinary) 0) in
+        let place : 1 + extraSize Ordinary + r ≡ 2 + (length zeros + (r - 1)) =
+        omega (arith, length-replicate {A = ℕ} (extraSize Ordinary) 0) in
         let number : 1 + (r - 1) ≡ r = omega arith in
         task-word (1 + extraSize Ordinary + r) (omega arith) ∙ ap (word (taskWords seed t)) place ∙
         behind-two (length zeros + (r - 1)) ∙ getD-append-add zeros energies (r - 1) 0 ∙

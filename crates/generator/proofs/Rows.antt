@@ -24,7 +24,8 @@ module _ {f : ℕ → ℕ} {n at : ℕ} {d : List ℕ} {k : ℕ} {e : List ℕ} 
   row-more v room h is = record {
     few = omega arith;
     same = length-set e (at + k) v ∙ r .same;
-    is = extend (each f 1 k) (v ∷ []) d e (set e (at + k) v) at (at + k) (ap (λ (l : ℕ). at + l) (sym (each-length f 1 k))) (omega arith) (r .is)
+    is = extend (each f 1 k) (v ∷ []) d e (set e (at + k) v) at (at + k)
+        (ap (λ (l : ℕ). at + l) (sym (each-length f 1 k))) (omega arith) (r .is)
         (stored-alone (v ∷ []) e (at + k) (omega (arith, r .same)))
         ∙ ap (λ (x : ℕ). written at (each f 1 k ++ (x ∷ [])) d) is ∙ ap (λ (l : List ℕ). written at l d) (sym (each-more f 1 k));
   }

@@ -10,7 +10,7 @@ use Rattle.numbers.proofs.Lists.{each-length}
 use Rattle.layout.specs.Words.{headSize, tasksPlace, taskSize, periodPlace}
 use Rattle.layout.specs.declared.Layout.the-variants.{Ordinary}
 use Rattle.layout.proofs.Layouts.{slack-in-head}
-use Rattle.generator.specs.Generated.{fiveRates, headWords, taskWords, frontWords, generated}
+use Rattle.generator.specs.Generated.{fiveRates, headWords, taskWords, tasksWords, frontWords, generated}
 
 pub task-size : (seed t : ℕ) → length (taskWords seed t) ≡ taskSize Ordinary fiveRates
 task-size seed t = simp (length-append, length-replicate, each-length) (omega arith)
@@ -32,4 +32,4 @@ tasks-size seed i (suc n) =
 pub set-size : (seed n : ℕ) → length (generated seed n) ≡ periodPlace Ordinary fiveRates n
 unfolding generated
 set-size seed n =
-    length-append (frontWords n) (joined (taskWords seed) (each (λ t. t) 0 n)) ∙ omega (arith, front-size n, tasks-size seed 0 n)
+    length-append (frontWords n) (tasksWords seed n) ∙ omega (arith, front-size n, tasks-size seed 0 n)

@@ -17,5 +17,6 @@ generator-single seed n lent =
     let size : ℕ = length (generated seed n) in
     single-next (countCheck n ∷ []) (roomCheck size lent) ((λ j k x y. x .1 ∙ sym (y .1)), tt) (short-single size lent)
 
-pub generator-unique : (seed n : ℕ) (d d₁ d₂ : List ℕ) (a b : CopyAnswer) → GeneratorGives seed n d d₁ a → GeneratorGives seed n d d₂ b → SameCopied a b d₁ d₂
+pub generator-unique : (seed n : ℕ) (d d₁ d₂ : List ℕ) (a b : CopyAnswer)
+    → GeneratorGives seed n d d₁ a → GeneratorGives seed n d d₂ b → SameCopied a b d₁ d₂
 generator-unique seed n d = copy-unique (generatorChecks seed n (length d)) (generator-single seed n (length d)) (generated seed n) d

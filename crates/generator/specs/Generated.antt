@@ -56,9 +56,12 @@ taskWords seed t =
     drawnPeriod (draw seed (3 * t)) ∷ drawnCycles (draw seed (3 * t + 1)) ∷
     (replicate (extraSize Ordinary) 0 ++ each (drawnEnergy (draw seed (3 * t + 2))) 1 fiveRates)
 
--- The words before the tasks, and all of them: n tasks, those at 0 to n - 1.
+-- The words of n tasks, those at 0 to n - 1; the words before them; and all of them.
+abbrev pub tasksWords : ℕ → ℕ → List ℕ
+tasksWords seed n = joined (taskWords seed) (each (λ t. t) 0 n)
+
 unfoldable pub frontWords : ℕ → List ℕ
 frontWords n = headWords ++ (fiveRates ∷ (each rateOf 1 fiveRates ++ (n ∷ [])))
 
 unfoldable pub generated : ℕ → ℕ → List ℕ
-generated seed n = frontWords n ++ joined (taskWords seed) (each (λ t. t) 0 n)
+generated seed n = frontWords n ++ tasksWords seed n

@@ -3,12 +3,12 @@
 ghost use mathlib.Core.Path.{_≡_};
 ghost use Prim.Native.Nat.{_+_, _*_, _/_, _%_, _^_, _≤_};
 ghost use lib.ListN.{length, replicate};
-ghost use Rattle.numbers.specs.Numbers.{each, joined};
+ghost use Rattle.numbers.specs.Numbers.{each};
 ghost use Rattle.layout.specs.Words.{mostTasks, tasksPlace, taskSize, periodPlace};
 ghost use Rattle.layout.specs.declared.Layout.the-variants.{Ordinary};
 ghost use Rattle.taskset.proofs.Writing.{placed, written};
 ghost use Rattle.generator.specs.Generated;
-ghost use Rattle.generator.specs.Generated.{stateAfter, drawnPeriod, rateOf, taskWords, frontWords, generated};
+ghost use Rattle.generator.specs.Generated.{stateAfter, drawnPeriod, rateOf, taskWords, tasksWords, frontWords, generated};
 ghost use Rattle.generator.specs.Calls.{GeneratorCall};
 ghost use Rattle.generator.specs.Steps.{RoomAfter};
 use layout::Layout;
@@ -117,7 +117,7 @@ fn put_task(list: &mut [u32], at: usize, state: u32) -> u32
 // The words of n tasks, to the list, where they stand behind the rates.
 fn put_tasks(list: &mut [u32], seed: u32, n: usize)
     requires { ⌜ (n ≤ mostTasks) × (periodPlace Ordinary 5 n ≤ length (now list)) ⌝ }
-    ensures { λ r. ⌜ now (list .exit) ≡ written (tasksPlace Ordinary 5) (joined (taskWords seed) (each (λ t. t) 0 n)) (now (list .entry)) ⌝ }
+    ensures { λ r. ⌜ now (list .exit) ≡ written (tasksPlace Ordinary 5) (tasksWords seed n) (now (list .entry)) ⌝ }
 {
     let mut state = seed;
     let mut t: usize = 0;

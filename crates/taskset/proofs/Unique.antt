@@ -118,7 +118,8 @@ module _ (cs : List Check) (single : AllSingle cs) (layout : Layout) (s : List �
   set-unique (NotGood q) (NotGood r) x y = ap NotGood (refusal-unique cs single q r x y)
 
 -- ---- a call that copies, after checks that each hold with one second number at most.
-pub copy-unique : (cs : List Check) → AllSingle cs → (ws d d₁ d₂ : List ℕ) (a b : CopyAnswer) → CopyGives cs ws d d₁ a → CopyGives cs ws d d₂ b → SameCopied a b d₁ d₂
+pub copy-unique : (cs : List Check) → AllSingle cs → (ws d d₁ d₂ : List ℕ) (a b : CopyAnswer)
+    → CopyGives cs ws d d₁ a → CopyGives cs ws d d₂ b → SameCopied a b d₁ d₂
 copy-unique cs single ws d d₁ d₂ (Wrote n) (Wrote k) x y = copied-one ws d d₁ d₂ (Wrote n) (Wrote k) (x .1) (y .1)
 copy-unique cs single ws d d₁ d₂ (Wrote n) (NotCopied r) x y = absurd (not-both cs (number r) (second r) (x .0) (y .0))
 copy-unique cs single ws d d₁ d₂ (NotCopied r) (Wrote n) x y = absurd (not-both cs (number r) (second r) (y .0) (x .0))

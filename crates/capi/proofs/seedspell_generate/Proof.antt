@@ -80,7 +80,8 @@ generated-results c =
     let e = p .before .before in
     let k = e .before .before in
     let a = start (checked k) .args in
-    entry-generated (a .seed) (a .n) (a .set .now) (a .results .now) _ (enough k) _ _ (e .if1 .left) (search needs) (p .put-set .ensures) (v .put-values .ensures .bytes)
+    entry-generated (a .seed) (a .n) (a .set .now) (a .results .now) _ (enough k) _ _ (e .if1 .left) (search needs)
+    (p .put-set .ensures) (v .put-values .ensures .bytes)
 
 pub seedspell-generate-spec : {M : Type 1} → statement M
 seedspell-generate-spec =

@@ -81,8 +81,8 @@ front-stored c =
     let r = c .before .before .before in
     let z = zeros r in
     let s = start (head z) in
-    front-written (s .args .n) _ _ (now (s .args .list)) _ _ (head z .head-size .ensures) (c .task-count-place .ensures) (s .pre .1) (z .put-zeros .ensures)
-    (r .put-rates .ensures)
+    front-written (s .args .n) _ _ (now (s .args .list)) _ _ (head z .head-size .ensures) (c .task-count-place .ensures) (s .pre .1)
+    (z .put-zeros .ensures) (r .put-rates .ensures)
 
 pub put-front-spec : {M : Type 1} → statement M
 put-front-spec =

@@ -100,12 +100,13 @@ task-stored c =
     let a = start k .args in
     let one = s .before .before .next .ensures in
     let two = s .before .next2 .ensures in
-    let three = s .next3 .ensures in (
+    let three = s .next3 .ensures in
+    let front = z .before .before .before-energies .ensures in (
       state-behind (a .state) _ _ _ one two three,
-      task-written _ _ _ _ (now (a .list)) _ _ (a .at) (z .before .before .before-energies .ensures) (omega (arith, start k .pre, z .before .before .before-energies .ensures))
-          (z .put-zeros .ensures) (x .put-energies .ensures)
+      task-written _ _ _ _ (now (a .list)) _ _ (a .at) front (omega (arith, start k .pre)) (z .put-zeros .ensures) (x .put-energies .ensures)
           ∙ ap (λ (ws : List ℕ). written (a .at) ws (now (a .list)))
-          (task-words (a .state) _ _ _ one two three _ _ _ _ (k .before .before .before .draw .ensures) (k .before .draw2 .ensures) (k .draw3 .ensures) (k .before .before .period .ensures)),
+          (task-words (a .state) _ _ _ one two three _ _ _ _ (k .before .before .before .draw .ensures) (k .before .draw2 .ensures)
+          (k .draw3 .ensures) (k .before .before .period .ensures)),
     )
 
 pub put-task-spec : {M : Type 1} → statement M
