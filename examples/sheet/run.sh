@@ -5,5 +5,5 @@
 set -u
 cd "$(dirname "$0")/../.." || exit 2
 
-bash examples/sheet/build.sh </dev/null >&2 || exit 2
+bash examples/build.sh sheet </dev/null >&2 || exit 2
 exec target/examples/sheet "$@"
