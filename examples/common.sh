@@ -29,7 +29,7 @@ hold_case() {
     "$program" "$@" <"$(stored "$name.in")" >"$out/$name.out" 2>"$out/$name.err" || status=$?
     if [ "$status" -ne "$wanted" ]; then
         fail "$name ends with $status and not with $wanted: $(cat "$out/$name.err")"
-    elif ! diff "$(stored "$name.out")" "$out/$name.out" >&2 || ! diff "$(stored "$name.err")" "$out/$name.err" >&2; then
+    elif ! { diff "$(stored "$name.out")" "$out/$name.out" && diff "$(stored "$name.err")" "$out/$name.err"; } >&2; then
         fail "$name is not as stored in $cases"
     else
         held=$((held + 1))
@@ -51,12 +51,13 @@ hold_cases() {
 
 # gives_up NAME WORDS COMMAND..: it ends with 2 and prints nothing, and what it says begins with `EXAMPLE: WORDS`.
 gives_up() {
-    local name=$1 words=$2 status=0
+    local name=$1 words=$2 said status=0
     shift 2
     "$@" >"$out/printed" 2>"$out/said" || status=$?
+    said=$(cat "$out/said")
     [ "$status" -eq 2 ] || fail "$name: ends with $status and not with 2"
     [ ! -s "$out/printed" ] || fail "$name: prints something"
-    [[ $(cat "$out/said") == "$example: $words"* ]] || fail "$name: says '$(cat "$out/said")' and not '$example: $words'"
+    [[ $said == "$example: $words"* ]] || fail "$name: says '$said' and not '$example: $words'"
 }
 
 # hold_run NAME ARGUMENT..: run.sh builds a program again that is older than its source, by two runs at once too.

@@ -1,0 +1,9 @@
+#!/usr/bin/env bash
+# Prints the words of a generated set, and builds the program first where that is needed:
+#     bash examples/generate/run.sh SEED N
+# generate.c says more, and how it ends. Where it cannot be built the run ends with 2.
+set -u
+cd "$(dirname "$0")/../.." || exit 2
+
+bash examples/build.sh generate </dev/null >&2 || exit 2
+exec target/examples/generate "$@"
