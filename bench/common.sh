@@ -1,3 +1,4 @@
+# shellcheck shell=bash
 # What the benchmarks share; sourced from the repository's root.
 
 . scripts/build.sh # build_archive, which builds the archive for C and sets `archive` to its place

@@ -8,8 +8,15 @@
    working words allow. Where that last number stays about the same from line
    to line, the time grows as N x N x M / slack.
 
-   The repetitions can be given as an argument, and then the seed of the random
-   sets; without them there are 5, and the seed is 1. */
+       bench [REPETITIONS [SEED]]
+       bench --generated SEED N [REPETITIONS]
+
+   The first times all cases; SEED is that of the random sets, which are drawn
+   here, and is 1 where none is given. Its last lines, `seed S`, are of the sets
+   that the archive's generator makes of S and N (generated.c has which). The
+   second times the one set of a seed that the generator makes, and nothing
+   else; where that set has no plan, it says so and times nothing. There are 5
+   repetitions where no number of them is given. */
 
 #include <inttypes.h>
 #include <stddef.h>
@@ -20,6 +27,7 @@
 #include <time.h>
 
 #include "../../include/seedspell.h"
+#include "../generated.h"
 
 /* plan.c */
 uint64_t plain_plan(const uint32_t *set, size_t set_len, uint32_t *plan, size_t plan_len,
@@ -34,6 +42,7 @@ typedef uint64_t planner(const uint32_t *, size_t, uint32_t *, size_t, uint32_t 
 #define MOST_WORK (33 * 128001)         /* W of 32 tasks at slack 1 */
 #define SPARE 8                         /* words lent beyond those needed */
 #define MOST_SETS 64
+#define NO_PLAN ((uint64_t)SEEDSPELL_REFUSED_NO_PLAN_FITS << 32)
 
 struct list {
     uint32_t set[MOST_WORDS];
@@ -222,7 +231,7 @@ static int measure(const char *name, int count, int repetitions)
         archive_time += archive.best;
         plain_time += plain.best;
     }
-    printf("%-10s %3" PRIu32 " %2" PRIu32 " %5" PRIu32 " %4d %11.1f %11.1f %6.2f %8.3f\n", name,
+    printf("%-15s %3" PRIu32 " %2" PRIu32 " %5" PRIu32 " %4d %11.1f %11.1f %6.2f %8.3f\n", name,
            tasks, rates, slack, count, archive_time / count / 1e3, plain_time / count / 1e3,
            archive_time / plain_time, archive_time / count / steps);
     fflush(stdout);
@@ -237,63 +246,107 @@ static int random_sets(const char *name, uint32_t tasks, uint32_t rates, uint32_
     return measure(name, count, repetitions);
 }
 
-int main(int argc, char **argv)
+/* The cases that are made here. */
+static int own_cases(int repetitions)
 {
     static const uint32_t slacks[] = {1, 10, 100, 1000};
     static const uint32_t more_slacks[] = {1, 2, 5, 10, 20, 50, 100, 200, 500, 1000};
     static const uint32_t counts[] = {4, 8, 16, 32}, rates[] = {2, 4, 8};
-    int repetitions = argc > 1 ? atoi(argv[1]) : 5;
+
+    for (int i = 0; i < 4; i++)
+        if (!random_sets("random", 32, 8, slacks[i], slacks[i] < 10 ? 16 : 64, repetitions))
+            return 0;
+    for (int i = 0; i < 4; i++) {
+        limit_set(&sets[0], 32, 8, slacks[i]);
+        if (!measure("limits", 1, repetitions))
+            return 0;
+        widest_set(&sets[0], 32, 8, slacks[i]);
+        if (!measure("widest", 1, repetitions))
+            return 0;
+    }
+    for (int i = 0; i < 4; i++)
+        if (!random_sets("against-n", counts[i], 8, 10, 32, repetitions))
+            return 0;
+    for (int i = 0; i < 3; i++)
+        if (!random_sets("against-m", 32, rates[i], 10, 32, repetitions))
+            return 0;
+    for (int i = 0; i < 10; i++)
+        if (!random_sets("against-g", 32, 8, more_slacks[i], more_slacks[i] < 10 ? 8 : 32,
+                         repetitions))
+            return 0;
+    /* The widest tables again, where only N, M and the slack decide the time. */
+    for (int i = 0; i < 4; i++) {
+        widest_set(&sets[0], counts[i], 8, 10);
+        if (!measure("widest-n", 1, repetitions))
+            return 0;
+    }
+    for (int i = 0; i < 3; i++) {
+        widest_set(&sets[0], 32, rates[i], 10);
+        if (!measure("widest-m", 1, repetitions))
+            return 0;
+    }
+    for (int i = 0; i < 10; i++) {
+        widest_set(&sets[0], 32, 8, more_slacks[i]);
+        if (!measure("widest-g", 1, repetitions))
+            return 0;
+    }
+    return 1;
+}
+
+/* One set of the archive's generator. */
+static int generated_case(struct seeded which, int repetitions)
+{
+    size_t needed;
+    char name[32];
+
+    sets[0].len = generate(which, sets[0].set);
+    needed = work_needed(which.tasks, sets[0].set[0]);
+    run(&archive, seedspell_plan, &sets[0], which.tasks, needed, 1);
+    run(&plain, plain_plan, &sets[0], which.tasks, needed, 1);
+    if (archive.code == NO_PLAN && plain.code == NO_PLAN) {
+        say_no_plan(which);
+        return 1;
+    }
+    snprintf(name, sizeof name, "seed %" PRIu32, which.seed);
+    return measure(name, 1, repetitions);
+}
+
+static int generated_cases(int repetitions)
+{
+    for (int i = 0; i < SEEDED_COUNT; i++)
+        if (!generated_case(seeded[i], repetitions))
+            return 0;
+    return 1;
+}
+
+static void print_heading(int repetitions)
+{
+    printf("best of %d\n%-15s %3s %2s %5s %4s %11s %11s %6s %8s\n", repetitions, "case", "N", "M",
+           "slack", "sets", "archive us", "plain us", "ratio", "ns/step");
+}
+
+int main(int argc, char **argv)
+{
+    struct seeded which;
+    int asked = asked_for_generated(argc, argv, &which), at = asked ? 4 : 1;
+    int repetitions = argc > at ? atoi(argv[at]) : 5;
 
     if (repetitions < 1) {
         fprintf(stderr, "bench: the repetitions are a number from 1\n");
         return 2;
     }
-    state = argc > 2 ? strtoull(argv[2], NULL, 10) : 1;
     archive.work = malloc((MOST_WORK + SPARE) * sizeof *archive.work);
     plain.work = malloc((MOST_WORK + SPARE) * sizeof *plain.work);
     if (archive.work == NULL || plain.work == NULL) {
         fprintf(stderr, "bench: no memory for the working words\n");
         return 2;
     }
-    printf("seed %" PRIu64 ", best of %d\n", state, repetitions);
-    printf("%-10s %3s %2s %5s %4s %11s %11s %6s %8s\n", "case", "N", "M", "slack", "sets",
-           "archive us", "plain us", "ratio", "ns/step");
-    for (int i = 0; i < 4; i++)
-        if (!random_sets("random", 32, 8, slacks[i], slacks[i] < 10 ? 16 : 64, repetitions))
-            return 1;
-    for (int i = 0; i < 4; i++) {
-        limit_set(&sets[0], 32, 8, slacks[i]);
-        if (!measure("limits", 1, repetitions))
-            return 1;
-        widest_set(&sets[0], 32, 8, slacks[i]);
-        if (!measure("widest", 1, repetitions))
-            return 1;
+    if (asked) {
+        print_heading(repetitions);
+        return generated_case(which, repetitions) ? 0 : 1;
     }
-    for (int i = 0; i < 4; i++)
-        if (!random_sets("against-n", counts[i], 8, 10, 32, repetitions))
-            return 1;
-    for (int i = 0; i < 3; i++)
-        if (!random_sets("against-m", 32, rates[i], 10, 32, repetitions))
-            return 1;
-    for (int i = 0; i < 10; i++)
-        if (!random_sets("against-g", 32, 8, more_slacks[i], more_slacks[i] < 10 ? 8 : 32,
-                         repetitions))
-            return 1;
-    /* The widest tables again, where only N, M and the slack decide the time. */
-    for (int i = 0; i < 4; i++) {
-        widest_set(&sets[0], counts[i], 8, 10);
-        if (!measure("widest-n", 1, repetitions))
-            return 1;
-    }
-    for (int i = 0; i < 3; i++) {
-        widest_set(&sets[0], 32, rates[i], 10);
-        if (!measure("widest-m", 1, repetitions))
-            return 1;
-    }
-    for (int i = 0; i < 10; i++) {
-        widest_set(&sets[0], 32, 8, more_slacks[i]);
-        if (!measure("widest-g", 1, repetitions))
-            return 1;
-    }
-    return 0;
+    state = argc > 2 ? strtoull(argv[2], NULL, 10) : 1;
+    printf("random sets of seed %" PRIu64 ", ", state);
+    print_heading(repetitions);
+    return own_cases(repetitions) && generated_cases(repetitions) ? 0 : 1;
 }
