@@ -6,15 +6,18 @@
        bench [REPETITIONS]
        bench --generated SEED N [REPETITIONS]
 
-   The first times all cases. Its last lines, `seed S`, are of the sets that the
+   The first times all cases. Its lines `seed S` are of the sets that the
    archive's generator makes of S and N (generated.c has which), each with the
    archive's plan for it. The second times the one set of a seed that the
    generator makes, and nothing else; where that set has no plan, it says so and
    times nothing. There are 5 repetitions where no number of them is given.
 
    A generated set's hyper-period is at most 400 ticks, so a repetition walks it
-   many times over. The archive checks the set and works out its job times on
-   each of these walks; the plain walk is given them. */
+   many times over, and the processor comes to know its branches, which no walk
+   finds that is made once. So the lines `in-turn` are of MANY generated sets, of
+   the first seeds from 1 on that have a plan, walked one after the other; L is
+   their longest. The archive checks the set and works out its job times on each
+   walk; the plain walk is given them. */
 
 #include <inttypes.h>
 #include <stddef.h>
@@ -31,7 +34,8 @@
 #define MOST_TASKS 32
 #define RATES 2
 #define MOST_WORK (33 * 1281)   /* W of 32 tasks at slack 100, a generated set's */
-#define SHORT_WALKS 2500        /* of a generated set, in one repetition */
+#define MANY 300                /* sets that are walked in turn */
+#define SHORT_WALKS 2400        /* of generated sets, in one repetition */
 #define NO_PLAN ((uint64_t)SEEDSPELL_REFUSED_NO_PLAN_FITS << 32)
 
 /* walk.c */
@@ -51,6 +55,17 @@ struct list {
     uint32_t plan[MOST_TASKS];
     size_t plan_len;
 };
+
+/* What is walked, and what the walks said of it. */
+struct work {
+    struct list list;
+    struct tasks tasks;
+    uint64_t code;
+    uint8_t results[SEEDSPELL_RESULT_BYTES];
+    uint64_t plain[4];
+};
+
+static struct work works[MANY];
 
 /* Short periods and job times of a few ticks. The last task has the whole of L
    for its period and takes what the others leave, so it is broken often. */
@@ -153,14 +168,15 @@ static void make_tasks(struct tasks *t, const struct list *list, uint32_t span)
 }
 
 /* The generator's set, with the planner's plan for it: 0 where it has none. */
-static int make_generated(struct list *list, struct tasks *t, struct seeded which)
+static int make_generated(struct work *work, struct seeded which)
 {
-    static uint32_t work[MOST_WORK];
+    static uint32_t words[MOST_WORK];
     uint8_t results[SEEDSPELL_RESULT_BYTES];
+    struct list *list = &work->list;
     uint64_t code;
 
     list->set_len = generate(which, list->set);
-    code = seedspell_plan(list->set, list->set_len, list->plan, MOST_TASKS, work, MOST_WORK,
+    code = seedspell_plan(list->set, list->set_len, list->plan, MOST_TASKS, words, MOST_WORK,
                           results, sizeof results);
     if (code == NO_PLAN)
         return 0;
@@ -170,28 +186,30 @@ static int make_generated(struct list *list, struct tasks *t, struct seeded whic
         exit(1);
     }
     list->plan_len = which.tasks;
-    make_tasks(t, list, (uint32_t)eight_bytes(results + 16));
+    make_tasks(&work->tasks, list, (uint32_t)eight_bytes(results + 16));
     return 1;
 }
 
 /* Whether the archive's call went well and says what the plain walk says. */
-static int agree(const char *name, uint32_t count, uint64_t code,
-                 const uint8_t *results, const uint64_t plain[4])
+static int agree(const char *name, const struct work *work)
 {
-    if (code != 0) {
-        fprintf(stderr, "bench: %s, %" PRIu32 " tasks: refusal %" PRIu64 " with %" PRIu64 "\n",
-                name, count, code >> 32, code & UINT32_MAX);
+    uint32_t count = work->tasks.count;
+
+    if (work->code != 0) {
+        fprintf(stderr, "bench: %s, %" PRIu32 " tasks: refusal %" PRIu32 " with %" PRIu32 "\n", name,
+                count, SEEDSPELL_REFUSAL(work->code), SEEDSPELL_SECOND(work->code));
         return 0;
     }
     for (int i = 0; i < 4; i++) {
-        uint64_t value = eight_bytes(results + 8 * i);
-        if (value != plain[i]) {
+        uint64_t value = eight_bytes(work->results + 8 * i);
+        if (value != work->plain[i]) {
             fprintf(stderr, "bench: %s, %" PRIu32 " tasks: result %d is %" PRIu64
-                    " and %" PRIu64 " of the plain walk\n", name, count, i, value, plain[i]);
+                    " and %" PRIu64 " of the plain walk\n", name, count, i, value,
+                    work->plain[i]);
             return 0;
         }
     }
-    if (plain[0] != 1) {
+    if (work->plain[0] != 1) {
         /* A miss ends the walk early, and the time a tick would be wrong. */
         fprintf(stderr, "bench: %s, %" PRIu32 " tasks: not kept\n", name, count);
         return 0;
@@ -199,77 +217,107 @@ static int agree(const char *name, uint32_t count, uint64_t code,
     return 1;
 }
 
-/* Each repetition is `walks` walks of the archive, then as many of the plain one. */
-static int measure(const char *name, const struct list *list, const struct tasks *t, int walks,
-                   int repetitions)
+static void walk_archive(struct work *work)
 {
-    double best_archive = 0, best_plain = 0, ticks = (double)t->span * walks;
+    const struct list *list = &work->list;
 
-    for (int i = 0; i < repetitions; i++) {
-        uint8_t results[SEEDSPELL_RESULT_BYTES] = {0};
-        uint64_t plain[4] = {0}, code = 0;
-        double start, middle, end;
+    work->code = seedspell_walk(list->set, list->set_len, list->plan, list->plan_len,
+                                work->results, sizeof work->results);
+}
 
-        start = now();
-        for (int w = 0; w < walks; w++)
-            code = seedspell_walk(list->set, list->set_len, list->plan, list->plan_len, results,
-                                  sizeof results);
-        middle = now();
-        for (int w = 0; w < walks; w++)
-            plain_walk(t->count, t->period, t->time, t->span, plain);
-        end = now();
+static void walk_plain(struct work *work)
+{
+    const struct tasks *t = &work->tasks;
 
-        if (!agree(name, t->count, code, results, plain))
-            return 0;
-        if (i == 0 || middle - start < best_archive)
-            best_archive = middle - start;
-        if (i == 0 || end - middle < best_plain)
-            best_plain = end - middle;
+    plain_walk(t->count, t->period, t->time, t->span, work->plain);
+}
+
+/* Nanoseconds of so many rounds over the first `count` works. */
+static double time_rounds(void (*walk)(struct work *), int count, int rounds)
+{
+    double start = now();
+
+    for (int r = 0; r < rounds; r++)
+        for (int k = 0; k < count; k++)
+            walk(&works[k]);
+    return now() - start;
+}
+
+/* The first `count` works, all of as many tasks: in each repetition so many
+   rounds over them by the archive, then as many by the plain walk. */
+static int measure(const char *name, int count, int rounds, int repetitions)
+{
+    double best_archive = 0, best_plain = 0, ticks = 0;
+    uint32_t longest = 0;
+
+    for (int k = 0; k < count; k++) {
+        uint32_t span = works[k].tasks.span;
+        ticks += (double)span * rounds;
+        if (span > longest)
+            longest = span;
     }
-    printf("%-15s %3" PRIu32 " %9" PRIu32 " %9.2f %9.2f %7.2f\n", name, t->count, t->span,
-           best_archive / ticks, best_plain / ticks, best_archive / best_plain);
+    for (int i = 0; i < repetitions; i++) {
+        double archive = time_rounds(walk_archive, count, rounds);
+        double plain = time_rounds(walk_plain, count, rounds);
+
+        for (int k = 0; k < count; k++)
+            if (!agree(name, &works[k]))
+                return 0;
+        if (i == 0 || archive < best_archive)
+            best_archive = archive;
+        if (i == 0 || plain < best_plain)
+            best_plain = plain;
+    }
+    printf("%-15s %3" PRIu32 " %9" PRIu32 " %9.2f %9.2f %7.2f\n", name, works[0].tasks.count,
+           longest, best_archive / ticks, best_plain / ticks, best_archive / best_plain);
     fflush(stdout);
     return 1;
 }
 
-static int own_case(const char *name, const struct tasks *t, int repetitions)
+static int own_case(const char *name, int repetitions)
 {
-    struct list list;
-
-    make_list(&list, t);
-    return measure(name, &list, t, 1, repetitions);
+    make_list(&works[0].list, &works[0].tasks);
+    return measure(name, 1, 1, repetitions);
 }
 
 static int own_cases(int repetitions)
 {
     static const uint32_t counts[] = {32, 16, 8, 4};
-    struct tasks t;
+    struct tasks *t = &works[0].tasks;
 
     for (size_t i = 0; i < sizeof counts / sizeof counts[0]; i++) {
-        many_releases(&t, counts[i]);
-        if (!own_case("many-releases", &t, repetitions))
+        many_releases(t, counts[i]);
+        if (!own_case("many-releases", repetitions))
             return 0;
-        few_releases(&t, counts[i]);
-        if (!own_case("few-releases", &t, repetitions))
+        few_releases(t, counts[i]);
+        if (!own_case("few-releases", repetitions))
             return 0;
     }
     /* One task has one period, and that is L: there are no many releases. */
-    few_releases(&t, 1);
-    return own_case("few-releases", &t, repetitions);
+    few_releases(t, 1);
+    return own_case("few-releases", repetitions);
 }
 
 static int generated_case(struct seeded which, int repetitions)
 {
-    struct list list;
-    struct tasks t;
     char name[32];
 
-    if (!make_generated(&list, &t, which)) {
+    if (!make_generated(&works[0], which)) {
         say_no_plan(which);
         return 1;
     }
     snprintf(name, sizeof name, "seed %" PRIu32, which.seed);
-    return measure(name, &list, &t, SHORT_WALKS, repetitions);
+    return measure(name, 1, SHORT_WALKS, repetitions);
+}
+
+static int in_turn(uint32_t tasks, int repetitions)
+{
+    struct seeded next = {1, tasks};
+
+    for (int k = 0; k < MANY; next.seed++)
+        if (make_generated(&works[k], next))
+            k++;
+    return measure("in-turn", MANY, SHORT_WALKS / MANY, repetitions);
 }
 
 static int generated_cases(int repetitions)
@@ -277,7 +325,7 @@ static int generated_cases(int repetitions)
     for (int i = 0; i < SEEDED_COUNT; i++)
         if (!generated_case(seeded[i], repetitions))
             return 0;
-    return 1;
+    return in_turn(16, repetitions) && in_turn(24, repetitions) && in_turn(32, repetitions);
 }
 
 int main(int argc, char **argv)
