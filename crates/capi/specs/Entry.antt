@@ -48,7 +48,8 @@ resultSize = 32
 -- order; Gives says which answer it may have, with the other lists lent as they are given back; values are the four
 -- numbers of an answer; results and results′ are the lent bytes before and after. On success only the first 32 of them
 -- change; on refusal nothing does, and Unchanged says so of the other lists.
-abbrev pub EntryGives : {A : Type 0} → List Check → (A → Type 0) → (A → List ℕ) → Type 0 → (results results′ : List ℕ) → ℕ → Type 0
+abbrev pub EntryGives : {A : Type 0} → List Check → (A → Type 0) → (A → List ℕ) → Type 0 → (results results′ : List ℕ) → ℕ
+    → Type 0
 EntryGives {A} cs Gives values Unchanged results results′ returned =
     ((a : A) × Accepts cs × Gives a × (returned ≡ 0) × (results′ ≡ resultBytes (values a) ++ drop resultSize results)) ⊎
     ((r : Refusal) × Refuses cs (number r) (second r) × (returned ≡ code r) × Unchanged × (results′ ≡ results))
@@ -110,7 +111,7 @@ GenerateEntryGives seed n set results set′ =
     (set′ ≡ set) results
 
 -- The entry's contract: the above; and again over the words and the bytes, where 0 is returned: the first value says how
--- many words in front are the generator's, and they pass checks 2, 3 and 4.
+-- many of the first words are the generator's, and they pass checks 2, 3 and 4.
 pub record GenerateEntry (seed n : ℕ) (set results set′ results′ : List ℕ) (returned : ℕ) : Type 0 where
   pub gives : GenerateEntryGives seed n set results set′ results′ returned
   pub words-are : returned ≡ 0 → take (resultAt results′ 0) set′ ≡ generated seed n

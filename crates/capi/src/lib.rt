@@ -138,7 +138,7 @@ pub extern "C" fn seedspell_generate(seed: u32, n: u32, set: &mut [u32], results
             if lent < 32 {
                 return code_of(Refusal::TooShort(32));
             }
-            generator::put_set(seed, n as usize, set);
+            generator::put_set(seed, n, set);
             put_values(results, needed as u64, 0, 0, 0);
             0
         }

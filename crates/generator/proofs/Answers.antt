@@ -31,7 +31,7 @@ in-count : (n : ℕ) → Passes (countCheck n) → (1 ≤ n) × (n ≤ mostTasks
 in-count n pass =
     ⊎-elim
     (λ (e : between 1 mostTasks n ≡ true). between-true 1 mostTasks n e)
-    (λ (e : between 1 mostTasks n ≡ false). absurd (pass 0 (e, refl)))
+    (λ (e : between 1 mostTasks n ≡ false). absurd (pass _ (e, refl)))
     (bool-cases (between 1 mostTasks n))
 
 module _ (n lent : ℕ) where

@@ -1,5 +1,5 @@
--- Figures of note 1, worked out elsewhere and computed here of the definitions: the first states and draws of seed 0, whole
--- sets, and either side of each refusal.
+-- Figures by the rule of note 1, worked out in Python and computed here of the definitions: the first states and draws of
+-- seed 0, whole sets, and either side of each refusal.
 -- Assumes nothing.
 use mathlib.Core.Path.{_≡_, refl}
 use mathlib.Core.Bool.{true≢false}

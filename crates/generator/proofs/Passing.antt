@@ -35,15 +35,17 @@ period-divides : (x : ℕ) → drawnPeriod x ∣ 400
 period-divides x =
     dvd-of-mod-eq-zero (drawnPeriod x) (eqb-true (400 % drawnPeriod x) 0 (and-true (between 1 400 (drawnPeriod x)) _ (period-good x) .1))
 
--- An energy is at least 2, and at most 10 times 25.
-energy-range : (x r : ℕ) → 1 ≤ r → r ≤ fiveRates → (1 ≤ drawnEnergy x r) × (drawnEnergy x r ≤ 1000000)
-energy-range x r a b =
-    let f : ℕ = 2 + x % 9 in
-    let low : 1 * 1 ≤ f * r = mul-le-mul {n₁ = 1} {m₁ = 1} {n₂ = f} {m₂ = r} (omega arith) a in
-    let high : f * r ≤ 10 * 5 = mul-le-mul {n₁ = f} {m₁ = r} {n₂ = 10} {m₂ = 5} (omega arith) b in (
+-- An energy is at least 1, and at most 10 times 25: for any factor of 1 to 10.
+product-range : (f r : ℕ) → 1 ≤ f → f ≤ 10 → 1 ≤ r → r ≤ fiveRates → (1 ≤ f * r * r) × (f * r * r ≤ 1000000)
+product-range f r low high a b =
+    let least : 1 * 1 ≤ f * r = mul-le-mul {n₁ = 1} {m₁ = 1} {n₂ = f} {m₂ = r} low a in
+    let most : f * r ≤ 10 * 5 = mul-le-mul {n₁ = f} {m₁ = r} {n₂ = 10} {m₂ = 5} high b in (
       mul-le-mul {n₁ = 1} {m₁ = 1} {n₂ = f * r} {m₂ = r} (omega arith) a,
       omega (arith, mul-le-mul {n₁ = f * r} {m₁ = r} {n₂ = 50} {m₂ = 5} (omega arith) b),
     )
+
+energy-range : (x r : ℕ) → 1 ≤ r → r ≤ fiveRates → (1 ≤ drawnEnergy x r) × (drawnEnergy x r ≤ 1000000)
+energy-range x r = product-range _ r (omega arith) (omega arith)
 
 module _ (seed n : ℕ) (some : 1 ≤ n) (few : n ≤ 32) where
   abbrev s : List ℕ
@@ -76,7 +78,10 @@ module _ (seed n : ℕ) (some : 1 ≤ n) (few : n ≤ 32) where
             let g = period-range (draw seed (3 * t)) in
             (omega arith, omega arith);
         cycles-range = λ t h. let e = cycles-is seed n t (task t h) in (omega arith, omega arith);
-        extra-word = λ t j h l. zero-in-extra s _ j l (extra-zero seed n t (task t h) j l);
+        extra-word = λ t j h l.
+            let e = period-is seed n t (task t h) in
+            let g = period-range (draw seed (3 * t)) in
+            zero-in-extra s (periodPlace Ordinary (rateCount Ordinary s) t) j (omega arith) l (extra-zero seed n t (task t h) j l);
         energy-range = λ t r h a b.
             let e = energy-is seed n t (task t h) r a (omega arith) in
             let g = energy-range (draw seed (3 * t + 2)) r a (omega arith) in

@@ -1,5 +1,6 @@
 // The generator of task sets for the bench: a seed and a task count in, a set's list of words out, the same on every
-// machine. What its sets are planned or walked for is left to others.
+// machine. It draws by a linear congruential generator of 32 bits. What its sets are planned or walked for is left to
+// others.
 ghost use mathlib.Core.Path.{_≡_};
 ghost use Prim.Native.Nat.{_+_, _*_, _/_, _%_, _^_, _≤_};
 ghost use lib.ListN.{length, replicate};
@@ -21,6 +22,11 @@ pub enum Room {
     Refused(Refusal),
 }
 
+// The numbers of a step of the state.
+const MULTIPLIER: u32 = 1_664_525;
+
+const INCREMENT: u32 = 1_013_904_223;
+
 // The rates of every set.
 const RATES: usize = 5;
 
@@ -39,11 +45,11 @@ fn wrapping_mul(a: u32, b: u32) -> u32
 fn next(state: u32) -> u32
     ensures { λ r. ⌜ r ≡ Generated.next state ⌝ }
 {
-    let product = wrapping_mul(state, 1_664_525);
-    std::num::wrapping_add_u32(product, 1_013_904_223)
+    let product = wrapping_mul(state, MULTIPLIER);
+    std::num::wrapping_add_u32(product, INCREMENT)
 }
 
-// The draw that a new state gives.
+// The draw that a new state gives: its high half, since the low bits of such a generator soon repeat.
 fn draw(state: u32) -> u32
     ensures { λ r. ⌜ r ≡ state / 65536 ⌝ }
 {
@@ -57,7 +63,8 @@ fn period(x: u32) -> u32
     PERIODS[(x % 8) as usize]
 }
 
-// Zeros, count of them, to the list from a place on: what a list has beside the words of the note.
+// Zeros, count of them, to the list from a place on: for the words of a layout that the rule of the draws does not name.
+// Document 01's list has none, and then count is 0.
 fn put_zeros(list: &mut [u32], at: usize, count: usize)
     requires { ⌜ at + count ≤ length (now list) ⌝ }
     ensures { λ r. ⌜ now (list .exit) ≡ written at (replicate count 0) (now (list .entry)) ⌝ }
@@ -108,9 +115,9 @@ fn put_task(list: &mut [u32], at: usize, state: u32) -> u32
     let factor = 2 + draw(third) % 9;
     list[at] = p;
     list[at + 1] = c;
-    let front = layout::before_energies(Layout::Ordinary);
-    put_zeros(list, at + 2, front - 2);
-    put_energies(list, at + front, factor);
+    let before = layout::before_energies(Layout::Ordinary);
+    put_zeros(list, at + 2, before - 2);
+    put_energies(list, at + before, factor);
     third
 }
 
@@ -129,8 +136,8 @@ fn put_tasks(list: &mut [u32], seed: u32, n: usize)
 }
 
 // The words before the tasks, to the front of the list.
-fn put_front(list: &mut [u32], n: usize)
-    requires { ⌜ (n ≤ mostTasks) × (tasksPlace Ordinary 5 ≤ length (now list)) ⌝ }
+fn put_front(list: &mut [u32], n: u32)
+    requires { ⌜ tasksPlace Ordinary 5 ≤ length (now list) ⌝ }
     ensures { λ r. ⌜ now (list .exit) ≡ written 0 (frontWords n) (now (list .entry)) ⌝ }
 {
     let head = layout::head_size(Layout::Ordinary);
@@ -138,14 +145,14 @@ fn put_front(list: &mut [u32], n: usize)
     put_zeros(list, 1, head - 1);
     list[head] = RATES as u32;
     put_rates(list, head + 1);
-    list[layout::task_count_place(Layout::Ordinary, RATES)] = n as u32;
+    list[layout::task_count_place(Layout::Ordinary, RATES)] = n;
 }
 
 // Checks 2 and 6: how many words a set of n tasks has, or a refusal. lent is the length of the list.
 pub fn ready(n: u32, lent: usize) -> Room
     ensures { λ r. ⌜ RoomAfter n lent r ⌝ }
 {
-    if !numbers::is_between(1, 32, n as u64) {
+    if !numbers::is_between(1, layout::MOST_TASKS as u64, n as u64) {
         return Room::Refused(Refusal::BadWord(0));
     }
     let needed = layout::period_place(Layout::Ordinary, RATES, n as usize);
@@ -156,12 +163,12 @@ pub fn ready(n: u32, lent: usize) -> Room
 }
 
 // A set's words, to the front of a list that has passed the checks.
-pub fn put_set(seed: u32, n: usize, list: &mut [u32])
+pub fn put_set(seed: u32, n: u32, list: &mut [u32])
     requires { ⌜ (n ≤ mostTasks) × (length (generated seed n) ≤ length (now list)) ⌝ }
     ensures { λ r. ⌜ now (list .exit) ≡ placed (generated seed n) (now (list .entry)) ⌝ }
 {
     put_front(list, n);
-    put_tasks(list, seed, n);
+    put_tasks(list, seed, n as usize);
 }
 
 // The set of a seed and a task count, to the front of the list lent: refusal 2 or 6, or how many words were written.
@@ -172,7 +179,7 @@ pub fn generate(seed: u32, n: u32, list: &mut [u32]) -> CopyAnswer
     match room {
         Room::Refused(r) => CopyAnswer::Refused(r),
         Room::Enough(needed) => {
-            put_set(seed, n as usize, list);
+            put_set(seed, n, list);
             CopyAnswer::Wrote(needed)
         }
     }

@@ -1,6 +1,6 @@
 -- What holds of every layout: each law goes through the layouts, one by one.
 -- Assumes nothing.
-use Prim.Native.Nat.{ℕ, _*_, _≤_, _<_}
+use Prim.Native.Nat.{ℕ, _+_, _*_, _≤_, _<_}
 use mathlib.Core.Path.{_≡_, refl}
 use mathlib.Core.Bool.{true}
 use mathlib.Core.List.{List}
@@ -48,11 +48,12 @@ words-few m n a b =
     )
 
 -- What the ordinary list has beside document 01's words may be 0: in its head, behind the slack, and between a task's
--- cycles and its energies. Document 01 has no such word.
+-- cycles and its energies, p being the place of its period. Document 01 has no such word.
 pub zero-in-head : (s : List ℕ) (q : ℕ) → 0 < q → q < headSize Ordinary → word s q ≡ 0 → allows s q (headKind Ordinary q) ≡ true
 unfolding headKinds
 zero-in-head s q some h e = absurd (omega arith)
 
-pub zero-in-extra : (s : List ℕ) (q k : ℕ) → k < extraSize Ordinary → word s q ≡ 0 → allows s q (kindIn (extraKinds Ordinary) k) ≡ true
+pub zero-in-extra : (s : List ℕ) (p k : ℕ) → 1 ≤ word s p → k < extraSize Ordinary → word s (p + (2 + k)) ≡ 0
+    → allows s (p + (2 + k)) (kindIn (extraKinds Ordinary) k) ≡ true
 unfolding extraKinds
-zero-in-extra s q k h e = absurd (omega arith)
+zero-in-extra s p k some h e = absurd (omega arith)

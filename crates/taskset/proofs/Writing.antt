@@ -1,4 +1,5 @@
--- Writing to the front of a list, and from a place on, part by part: words by the reader, bytes by the writer.
+-- Writing to the front of a list, and from a place on, part by part: words by the reader and the generator, bytes by the
+-- writer.
 -- Assumes nothing.
 use Prim.Native.Nat.{ℕ, suc, _+_, _≤_, _<_}
 use mathlib.Core.Path.{_≡_, refl, sym, ap, _∙_}

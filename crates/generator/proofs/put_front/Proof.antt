@@ -38,7 +38,7 @@ sub-put-zeros : tie.Need-sub-put-zeros
 sub-put-zeros c = omega (arith, c .before .head-size .ensures, slack-in-head Ordinary)
 
 put-zeros-requires : tie.Need-put-zeros-requires
-put-zeros-requires c κs = simp length-set (omega (arith, start (c .before) .pre .1, c .before .head-size .ensures, slack-in-head Ordinary))
+put-zeros-requires c κs = simp length-set (omega (arith, start (c .before) .pre, c .before .head-size .ensures, slack-in-head Ordinary))
 
 cast-list : tie.Need-cast-list
 cast-list c = search needs
@@ -49,7 +49,7 @@ mul-list c = search needs
 slice-write-list-2 : tie.Need-slice-write-list-2
 slice-write-list-2 c =
     let z = c .before .before in
-    omega (arith, same z, start (head z) .pre .1, head z .head-size .ensures)
+    omega (arith, same z, start (head z) .pre, head z .head-size .ensures)
 
 add-put-rates : tie.Need-add-put-rates
 add-put-rates c = omega (arith, head (c .before .before .before) .head-size .ensures, head-few Ordinary)
@@ -57,10 +57,7 @@ add-put-rates c = omega (arith, head (c .before .before .before) .head-size .ens
 put-rates-requires : tie.Need-put-rates-requires
 put-rates-requires c κs =
     let z = c .before .before .before in
-    simp length-set (omega (arith, same z, start (head z) .pre .1, head z .head-size .ensures))
-
-cast-list-2 : tie.Need-cast-list-2
-cast-list-2 c = let z = zeros (c .before .before) in omega (arith, start (head z) .pre .0)
+    simp length-set (omega (arith, same z, start (head z) .pre, head z .head-size .ensures))
 
 task-count-place-requires : tie.Need-task-count-place-requires
 task-count-place-requires c κs = search needs
@@ -71,7 +68,7 @@ mul-list-2 c = search needs
 slice-write-list-3 : tie.Need-slice-write-list-3
 slice-write-list-3 c =
     let r = c .before .before .before in
-    omega (arith, same-rates r, start (head (zeros r)) .pre .1, c .task-count-place .ensures)
+    omega (arith, same-rates r, start (head (zeros r)) .pre, c .task-count-place .ensures)
 
 same-length : tie.Need-same-length
 same-length c = simp length-set (same-rates (c .before .before .before))
@@ -81,7 +78,7 @@ front-stored c =
     let r = c .before .before .before in
     let z = zeros r in
     let s = start (head z) in
-    front-written (s .args .n) _ _ (now (s .args .list)) _ _ (head z .head-size .ensures) (c .task-count-place .ensures) (s .pre .1)
+    front-written (s .args .n) _ _ (now (s .args .list)) _ _ (head z .head-size .ensures) (c .task-count-place .ensures) (s .pre)
     (z .put-zeros .ensures) (r .put-rates .ensures)
 
 pub put-front-spec : {M : Type 1} → statement M
@@ -97,7 +94,6 @@ put-front-spec =
     slice-write-list-2
     add-put-rates
     put-rates-requires
-    cast-list-2
     task-count-place-requires
     mul-list-2
     slice-write-list-3

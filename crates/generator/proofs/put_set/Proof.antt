@@ -18,7 +18,7 @@ start c = c .before .before
 put-front-requires : tie.Need-put-front-requires
 put-front-requires c κs =
     let s = start c in
-    (s .pre .0, omega (arith, s .pre .1, set-size (s .args .seed) (s .args .n)))
+    omega (arith, s .pre .1, set-size (s .args .seed) (s .args .n))
 
 put-tasks-requires : tie.Need-put-tasks-requires
 put-tasks-requires c κs =
