@@ -48,8 +48,8 @@ static size_t length_of(const uint8_t *results)
 size_t generate(struct seeded which, uint32_t *set)
 {
     uint8_t results[SEEDSPELL_RESULT_BYTES];
-    uint64_t code = seedspell_generate(which.seed, which.tasks, set, GENERATED_WORDS, results,
-                                       sizeof results);
+    uint64_t code = seedspell_generate(which.seed, which.tasks, set,
+                                       SEEDSPELL_GENERATED_WORDS, results, sizeof results);
 
     if (code != 0) {
         fprintf(stderr, "bench: the generator refuses %" PRIu32 " tasks: refusal %" PRIu32

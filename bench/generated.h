@@ -6,8 +6,6 @@
 #include <stddef.h>
 #include <stdint.h>
 
-#define GENERATED_WORDS (3 + 5 + 32 * (2 + 5))  /* of five rates and 32 tasks */
-
 struct seeded {
     uint32_t seed, tasks;
 };
@@ -21,8 +19,8 @@ extern const struct seeded seeded[SEEDED_COUNT];
    is. Ends the run with 2 where it begins so and SEED or N is no number. */
 int asked_for_generated(int argc, char **argv, struct seeded *which);
 
-/* Writes the set to a list of GENERATED_WORDS words, and returns its length.
-   Ends the run with 2 where the generator refuses. */
+/* Writes the set to a list of SEEDSPELL_GENERATED_WORDS words, and returns its
+   length. Ends the run with 2 where the generator refuses. */
 size_t generate(struct seeded which, uint32_t *set);
 
 /* Says of a set that it has no plan, and so is not timed. */

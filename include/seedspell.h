@@ -13,7 +13,7 @@
  * - On a refusal no lent word or byte has changed. On success only those that the call names have.
  * - Calls keep nothing from one to the next, take no memory of their own beyond the stack, and always return.
  * - Calls share nothing: calls of several threads may run at once, as long as none is lent a list that another may
- *   write. A list that is only read, such as a set, may be lent to all of them.
+ *   write. A list that is only read, such as the set that is planned, may be lent to all of them.
  *
  * NUMBERS AND PLACES
  *
@@ -66,6 +66,9 @@ extern "C" {
 /* Bytes of results that a call leaves: four values of eight bytes each, lowest byte first. */
 #define SEEDSPELL_RESULT_BYTES 32
 
+/* The most words of a generated set, one of 32 tasks. */
+#define SEEDSPELL_GENERATED_WORDS 232
+
 /* The walk: every tick from 0 to the hyper-period, all tasks released at 0, the earliest deadline first and of equal
  * deadlines the lower task number.
  *
@@ -115,7 +118,7 @@ uint64_t seedspell_plan(const uint32_t *set, size_t set_len, uint32_t *plan, siz
  *
  * seed                  any word
  * n                     the number of tasks N, 1 to 32
- * set, set_len          receives the set, at least 8 + 7 x N words: 232 are enough for every N
+ * set, set_len          receives the set, at least 8 + 7 x N words: SEEDSPELL_GENERATED_WORDS are enough for every N
  * results, results_len  receives the results, at least 32 bytes
  *
  * Returns 0 and leaves in the first 8 + 7 x N words of set a set of five rates and N tasks, which passes checks 2, 3

@@ -50,7 +50,7 @@ struct tasks {
 };
 
 struct list {
-    uint32_t set[GENERATED_WORDS];      /* five rates: more than any other case has */
+    uint32_t set[SEEDSPELL_GENERATED_WORDS]; /* five rates: more than any other case has */
     size_t set_len;
     uint32_t plan[MOST_TASKS];
     size_t plan_len;

@@ -18,9 +18,8 @@
 #define MOST_TASKS 32
 #define RATES 5                                         /* of every generated set */
 #define TASK_WORDS (2 + RATES)
-#define MOST_WORDS (3 + RATES + MOST_TASKS * TASK_WORDS)
 
-static uint32_t set[MOST_WORDS];
+static uint32_t set[SEEDSPELL_GENERATED_WORDS];
 
 static _Noreturn void give_up(const char *why)
 {
@@ -96,7 +95,7 @@ int main(int argc, char **argv)
     if (!read_number(argv[2], &tasks))
         give_up("the number of tasks is a plain number, 1 to 32");
 
-    returned = seedspell_generate(seed, tasks, set, MOST_WORDS, results, sizeof results);
+    returned = seedspell_generate(seed, tasks, set, SEEDSPELL_GENERATED_WORDS, results, sizeof results);
     if (returned != 0)
         explain(SEEDSPELL_REFUSAL(returned), SEEDSPELL_SECOND(returned), tasks);
     print_set(read_length(results), tasks);

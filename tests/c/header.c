@@ -14,9 +14,10 @@
 #define ROOM 3                          /* of the plan list, a word more than S has tasks */
 #define WORK 243                        /* W of S */
 #define GENERATED 22                    /* words of a generated set of 2 tasks */
+#define MOST SEEDSPELL_GENERATED_WORDS
 
 static const uint32_t S[WORDS] = {100, 3, 2, 4, 8, 2, 10, 12, 4, 9, 20, 15, 20, 7, 15, 30};
-static uint32_t set[WORDS], plan[ROOM], work[WORK], generated[GENERATED];
+static uint32_t set[WORDS], plan[ROOM], work[WORK], generated[MOST];
 static uint8_t results[SEEDSPELL_RESULT_BYTES];
 static int failures;
 
@@ -75,13 +76,18 @@ int main(void)
         failures++;
     }
     expect("33 tasks", generate(33, GENERATED, sizeof results), SEEDSPELL_REFUSED_BAD_SET_WORD, 0);
-    expect("a word short", generate(2, GENERATED - 1, sizeof results), SEEDSPELL_REFUSED_RECEIVING_LIST_SHORT, GENERATED);
+    expect("a word short", generate(2, GENERATED - 1, sizeof results), SEEDSPELL_REFUSED_RECEIVING_LIST_SHORT,
+           GENERATED);
     expect("31 bytes for the length", generate(2, GENERATED, 31), SEEDSPELL_REFUSED_RECEIVING_LIST_SHORT, 32);
+    expect("a word short of 32 tasks", generate(32, MOST - 1, sizeof results), SEEDSPELL_REFUSED_RECEIVING_LIST_SHORT,
+           MOST);
+    expect("32 tasks", generate(32, MOST, sizeof results), 0, 0);
     expect("2 tasks", generate(2, GENERATED, sizeof results), 0, 0);
     if (results[0] != GENERATED || generated[GENERATED - 1] != 225) {
         printf("tests/header: the generated set is another\n");
         failures++;
     }
-    expect("the generated set", seedspell_plan(generated, GENERATED, plan, ROOM, work, WORK, results, sizeof results), 0, 0);
+    expect("the generated set", seedspell_plan(generated, GENERATED, plan, ROOM, work, WORK, results, sizeof results),
+           0, 0);
     return failures > 0;
 }
