@@ -102,7 +102,8 @@ fn put_energies(list: &mut [u32], at: usize, factor: u32)
     }
 }
 
-// The words of a task, drawn from a state on, to the list from a place on; returns the state after its three draws.
+// The words of a task, drawn from a state on, to the list from a place on: the period and the cycles are the first words
+// of a task in every layout, and its energies the last. Returns the state after the three draws.
 fn put_task(list: &mut [u32], at: usize, state: u32) -> u32
     requires { ⌜ at + taskSize Ordinary 5 ≤ length (now list) ⌝ }
     ensures { λ r. ⌜ (r ≡ stateAfter state 3) × (now (list .exit) ≡ written at (taskWords state 0) (now (list .entry))) ⌝ }
@@ -135,7 +136,7 @@ fn put_tasks(list: &mut [u32], seed: u32, n: usize)
     }
 }
 
-// The words before the tasks, to the front of the list.
+// The words before the tasks, to the front of the list: the slack is the first word in every layout.
 fn put_front(list: &mut [u32], n: u32)
     requires { ⌜ tasksPlace Ordinary 5 ≤ length (now list) ⌝ }
     ensures { λ r. ⌜ now (list .exit) ≡ written 0 (frontWords n) (now (list .entry)) ⌝ }
