@@ -14,8 +14,8 @@ use Rattle.taskset.specs.declared.CopyAnswer.the-variants.{Wrote}
 use Rattle.taskset.proofs.Checks.{accepts-next, refuses-next, refuses-before}
 use Rattle.taskset.proofs.Copied.{front-is}
 use Rattle.taskset.proofs.Writing.{placed}
-use Rattle.generator.specs.Generated.{generated}
-use Rattle.generator.specs.Calls.{generatorChecks, PassesChecks}
+use Rattle.draws.specs.Generated.{generated}
+use Rattle.draws.specs.Calls.{generatorChecks, PassesChecks}
 use Rattle.generator.specs.Steps.{RoomAfter}
 use Rattle.generator.specs.declared.Room.the-variants.{Enough, Refused}
 use Rattle.generator.proofs.Answers.{second-small, wrote}

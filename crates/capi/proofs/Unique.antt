@@ -11,8 +11,8 @@ use Rattle.taskset.specs.Refusals.{number, second, Check, roomCheck, noneCheck,
 use Rattle.taskset.specs.Calls.{code, plannerValues, walkValues, PlannerGives, WalkAnswers}
 use Rattle.taskset.proofs.Checks.{AllSingle, not-both}
 use Rattle.taskset.proofs.Unique.{short-single, none-single, single-next, ready-single, walk-single, planner-unique, walk-unique, refusal-unique}
-use Rattle.generator.specs.Calls.{generatorChecks, GeneratorGives}
-use Rattle.generator.proofs.Unique.{generator-single, generator-unique}
+use Rattle.draws.specs.Calls.{generatorChecks, GeneratorGives}
+use Rattle.draws.proofs.Unique.{generator-single, generator-unique}
 use Rattle.capi.specs.Entry.{resultBytes, resultSize, EntryGives, walkEntryChecks, WalkEntryGives, beforeSeven, planEntryChecks, PlanEntryGives, generateEntryChecks, generatorValues, GenerateEntryGives}
 
 -- ---- every entry. l₁ and l₂ are the other lists as two answers give them back: equal where the call's own answers make

@@ -15,8 +15,8 @@ use Rattle.taskset.specs.declared.Refusal.{Refusal}
 use Rattle.taskset.specs.declared.CopyAnswer.{CopyAnswer}
 use Rattle.taskset.specs.declared.CopyAnswer.the-variants.{Wrote, Refused as NotCopied}
 use Rattle.planner.specs.Answers.{RateNumber}
-use Rattle.generator.specs.Generated.{generated}
-use Rattle.generator.specs.Calls.{generatorChecks, GeneratorGives, PassesChecks}
+use Rattle.draws.specs.Generated.{generated}
+use Rattle.draws.specs.Calls.{generatorChecks, GeneratorGives, PassesChecks}
 
 -- "It leaves its results, eight bytes each, lowest byte first": the first k bytes of a value, and the bytes of a list
 -- of values.

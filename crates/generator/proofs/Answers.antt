@@ -19,12 +19,12 @@ use Rattle.taskset.specs.declared.CopyAnswer.the-variants.{Wrote, Refused as No
 use Rattle.taskset.proofs.Checks.{accepts-next, refuses-next, refuses-before}
 use Rattle.taskset.proofs.Copied.{copied, front-is}
 use Rattle.taskset.proofs.Writing.{placed}
-use Rattle.generator.specs.Generated.{fiveRates, generated}
-use Rattle.generator.specs.Calls.{countCheck, generatorChecks, PassesChecks, GeneratorCall}
+use Rattle.draws.specs.Generated.{fiveRates, generated}
+use Rattle.draws.specs.Calls.{countCheck, generatorChecks, PassesChecks, GeneratorCall}
 use Rattle.generator.specs.Steps.{RoomAfter}
 use Rattle.generator.specs.declared.Room.the-variants.{Enough, Refused}
-use Rattle.generator.proofs.Sizes.{set-size}
-use Rattle.generator.proofs.Passing.{passes-checks}
+use Rattle.draws.proofs.Sizes.{set-size}
+use Rattle.draws.proofs.Passing.{passes-checks}
 
 -- ---- the checks
 in-count : (n : ℕ) → Passes (countCheck n) → (1 ≤ n) × (n ≤ mostTasks)

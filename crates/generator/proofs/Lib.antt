@@ -1,9 +1,3 @@
-pub mod States
 pub mod Rows
-pub mod Sizes
 pub mod Parts
-pub mod Places
-pub mod Passing
 pub mod Answers
-pub mod Unique
-pub mod Cases

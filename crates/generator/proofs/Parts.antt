@@ -13,9 +13,9 @@ use Rattle.layout.specs.declared.Layout.the-variants.{Ordinary}
 use Rattle.layout.proofs.Layouts.{slack-in-head}
 use Rattle.taskset.proofs.Writing.{placed, written, written-none, written-front, length-written, extend}
 use Rattle.taskset.proofs.Stores.{stored-alone}
-use Rattle.generator.specs.Generated.{next, stateAfter, draw, drawnPeriod, fiveRates, headWords, rateOf, taskWords, tasksWords, frontWords, generated}
-use Rattle.generator.proofs.States.{state-none, state-add, task-from}
-use Rattle.generator.proofs.Sizes.{head-length, front-size, tasks-size}
+use Rattle.draws.specs.Generated.{next, stateAfter, draw, drawnPeriod, fiveRates, headWords, rateOf, taskWords, tasksWords, frontWords, generated}
+use Rattle.draws.proofs.States.{state-none, state-add, task-from}
+use Rattle.draws.proofs.Sizes.{head-length, front-size, tasks-size}
 
 -- ---- a task
 -- The words that three steps from a state give.

@@ -3,8 +3,8 @@ use Prim.Native.Nat.{ℕ}
 use mathlib.Core.Path.{_≡_}
 use lib.ListN.{length}
 use Rattle.taskset.specs.Refusals.{number, second, Accepts, Refuses}
-use Rattle.generator.specs.Generated.{generated}
-use Rattle.generator.specs.Calls.{generatorChecks}
+use Rattle.draws.specs.Generated.{generated}
+use Rattle.draws.specs.Calls.{generatorChecks}
 use Rattle.generator.specs.declared.Room.{Room}
 use Rattle.generator.specs.declared.Room.the-variants.{Enough, Refused}
 

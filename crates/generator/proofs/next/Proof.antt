@@ -1,6 +1,6 @@
 -- One step: the product, then the sum, each wrapping.
 -- Assumes nothing.
-use Rattle.generator.specs.Generated.{next}
+use Rattle.draws.specs.Generated.{next}
 use borrow.Author.Needs.{needs}
 use Rattle.generator.proofs.next.Statement.{statement}
 use Rattle.generator.proofs.next.Tie as tie

@@ -3,7 +3,7 @@
 use Prim.Native.Nat.{_-_}
 use mathlib.Core.Path.{refl}
 use native.Mathlib.Omega.{arith}
-use Rattle.generator.specs.Generated.{rateOf}
+use Rattle.draws.specs.Generated.{rateOf}
 use Rattle.generator.proofs.Rows.{Row, row-none, row-more, row-all}
 use borrow.Author.Needs.{needs}
 use Rattle.generator.proofs.put_rates.Statement.{statement}

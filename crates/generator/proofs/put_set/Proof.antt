@@ -2,7 +2,7 @@
 -- Assumes nothing.
 use native.Mathlib.Omega.{arith}
 use denote.Ref.{now}
-use Rattle.generator.proofs.Sizes.{set-size}
+use Rattle.draws.proofs.Sizes.{set-size}
 use Rattle.generator.proofs.Parts.{set-written}
 use borrow.Author.Needs.{needs}
 use Rattle.generator.proofs.put_set.Statement.{statement}

@@ -10,7 +10,7 @@ use Rattle.numbers.proofs.Lists.{each-length}
 use Rattle.layout.specs.Words.{headSize, tasksPlace, taskSize, periodPlace}
 use Rattle.layout.specs.declared.Layout.the-variants.{Ordinary}
 use Rattle.layout.proofs.Layouts.{slack-in-head}
-use Rattle.generator.specs.Generated.{fiveRates, headWords, taskWords, tasksWords, frontWords, generated}
+use Rattle.draws.specs.Generated.{fiveRates, headWords, taskWords, tasksWords, frontWords, generated}
 
 pub task-size : (seed t : ℕ) → length (taskWords seed t) ≡ taskSize Ordinary fiveRates
 task-size seed t = simp (length-append, length-replicate, each-length) (omega arith)

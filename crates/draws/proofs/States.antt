@@ -3,7 +3,7 @@
 use Prim.Native.Nat.{ℕ, zero, suc, _+_, _*_, _/_}
 use mathlib.Core.Path.{_≡_, refl, sym, ap, _∙_}
 use native.Mathlib.Nat.{add-zero, add-suc}
-use Rattle.generator.specs.Generated.{next, stateAfter, draw, taskWords}
+use Rattle.draws.specs.Generated.{next, stateAfter, draw, taskWords}
 
 -- The state before the first step is the seed.
 pub state-none : (seed : ℕ) → stateAfter seed 0 ≡ seed

@@ -8,8 +8,8 @@ use mathlib.Core.Logic.{inl, inr}
 use native.Mathlib.Omega.{arith}
 use Rattle.layout.specs.Words.{headKinds, extraKinds}
 use Rattle.taskset.specs.Refusals.{Accepts, Refuses}
-use Rattle.generator.specs.Generated.{next, stateAfter, draw, drawnPeriod, frontWords, generated}
-use Rattle.generator.specs.Calls.{generatorChecks}
+use Rattle.draws.specs.Generated.{next, stateAfter, draw, drawnPeriod, frontWords, generated}
+use Rattle.draws.specs.Calls.{generatorChecks}
 
 pub record Cases : Type 0 where
   -- The product and the sum wrap, the product first.

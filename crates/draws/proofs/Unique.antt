@@ -9,8 +9,8 @@ use Rattle.taskset.specs.declared.CopyAnswer.{CopyAnswer}
 use Rattle.taskset.proofs.Checks.{AllSingle}
 use Rattle.taskset.proofs.Unique.{short-single, single-next, copy-unique}
 use Rattle.taskset.proofs.Copied.{SameCopied}
-use Rattle.generator.specs.Generated.{generated}
-use Rattle.generator.specs.Calls.{countCheck, generatorChecks, GeneratorGives}
+use Rattle.draws.specs.Generated.{generated}
+use Rattle.draws.specs.Calls.{countCheck, generatorChecks, GeneratorGives}
 
 pub generator-single : (seed n lent : ℕ) → AllSingle (generatorChecks seed n lent)
 generator-single seed n lent =

@@ -11,8 +11,8 @@ use Rattle.numbers.specs.Numbers.{each}
 use Rattle.numbers.proofs.Lists.{each-at, joined-at}
 use Rattle.layout.specs.Words.{headSize, extraSize, word, slack, rateCount, taskCount, ratePlace, taskCountPlace, taskSize, periodPlace, rate, period, cycles, energy}
 use Rattle.layout.specs.declared.Layout.the-variants.{Ordinary}
-use Rattle.generator.specs.Generated.{draw, drawnPeriod, drawnCycles, drawnEnergy, fiveRates, headWords, rateOf, taskWords, tasksWords, frontWords, generated}
-use Rattle.generator.proofs.Sizes.{head-length, task-size}
+use Rattle.draws.specs.Generated.{draw, drawnPeriod, drawnCycles, drawnEnergy, fiveRates, headWords, rateOf, taskWords, tasksWords, frontWords, generated}
+use Rattle.draws.proofs.Sizes.{head-length, task-size}
 
 module _ (seed n : ℕ) where
   abbrev s : List ℕ

@@ -12,7 +12,7 @@ use Rattle.taskset.specs.Refusals.{Check, check, Accepts, _▹_, roomCheck, wor
 use Rattle.taskset.specs.Calls.{CopyGives}
 use Rattle.taskset.specs.declared.CopyAnswer.{CopyAnswer}
 use Rattle.taskset.specs.declared.CopyAnswer.the-variants.{Wrote, Refused as NotCopied}
-use Rattle.generator.specs.Generated.{generated}
+use Rattle.draws.specs.Generated.{generated}
 
 -- "Errors: 2 with place 0 for N outside 1 to 32, then 6." lent is the length of the list; 6 is of all the words of the
 -- set.

@@ -16,10 +16,10 @@ use Rattle.layout.specs.declared.Layout.the-variants.{Ordinary}
 use Rattle.layout.proofs.Layouts.{slack-kind, zero-in-head, zero-in-extra}
 use Rattle.layout.proofs.Whole.{IsWhole}
 use Rattle.taskset.proofs.Sets.{hyper-divides, set-passes}
-use Rattle.generator.specs.Generated.{draw, periods, drawnPeriod, drawnEnergy, fiveRates, generated}
-use Rattle.generator.specs.Calls.{PassesChecks}
-use Rattle.generator.proofs.Sizes.{set-size}
-use Rattle.generator.proofs.Places.{slack-is, head-zero, rates-is, rate-is, tasks-is, period-is, cycles-is, extra-zero, energy-is}
+use Rattle.draws.specs.Generated.{draw, periods, drawnPeriod, drawnEnergy, fiveRates, generated}
+use Rattle.draws.specs.Calls.{PassesChecks}
+use Rattle.draws.proofs.Sizes.{set-size}
+use Rattle.draws.proofs.Places.{slack-is, head-zero, rates-is, rate-is, tasks-is, period-is, cycles-is, extra-zero, energy-is}
 
 -- ---- the table of periods: each is in its range and divides 400
 abbrev good : ℕ → Bool

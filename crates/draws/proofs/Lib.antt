@@ -1,0 +1,6 @@
+pub mod States
+pub mod Sizes
+pub mod Places
+pub mod Passing
+pub mod Unique
+pub mod Cases
