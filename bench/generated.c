@@ -24,7 +24,7 @@ static int read_word(const char *text, uint32_t *word)
     return isdigit((unsigned char)*text) && *end == '\0' && value <= UINT32_MAX;
 }
 
-int asked_for_generated(int argc, char **argv, struct seeded *which)
+static int asked_for_generated(int argc, char **argv, struct seeded *which)
 {
     if (argc < 2 || strcmp(argv[1], "--generated") != 0)
         return 0;
@@ -33,6 +33,18 @@ int asked_for_generated(int argc, char **argv, struct seeded *which)
         exit(2);
     }
     return 1;
+}
+
+int read_arguments(int argc, char **argv, struct seeded *which, int *repetitions)
+{
+    int asked = asked_for_generated(argc, argv, which), at = asked ? 4 : 1;
+
+    *repetitions = argc > at ? atoi(argv[at]) : 5;
+    if (*repetitions < 1) {
+        fprintf(stderr, "bench: the repetitions are a number from 1\n");
+        exit(2);
+    }
+    return asked;
 }
 
 /* The first of the results, lowest byte first. */

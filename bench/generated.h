@@ -16,8 +16,9 @@ struct seeded {
 extern const struct seeded seeded[SEEDED_COUNT];
 
 /* Whether the command line begins with --generated SEED N, and which set that
-   is. Ends the run with 2 where it begins so and SEED or N is no number. */
-int asked_for_generated(int argc, char **argv, struct seeded *which);
+   is; and the repetitions, the argument behind it or the first, 5 where there
+   is none. Ends the run with 2 where one of these is no number. */
+int read_arguments(int argc, char **argv, struct seeded *which, int *repetitions);
 
 /* Writes the set to a list of SEEDSPELL_GENERATED_WORDS words, and returns its
    length. Ends the run with 2 where the generator refuses. */

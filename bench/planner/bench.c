@@ -328,13 +328,8 @@ static void print_heading(int repetitions)
 int main(int argc, char **argv)
 {
     struct seeded which;
-    int asked = asked_for_generated(argc, argv, &which), at = asked ? 4 : 1;
-    int repetitions = argc > at ? atoi(argv[at]) : 5;
+    int repetitions, asked = read_arguments(argc, argv, &which, &repetitions);
 
-    if (repetitions < 1) {
-        fprintf(stderr, "bench: the repetitions are a number from 1\n");
-        return 2;
-    }
     archive.work = malloc((MOST_WORK + SPARE) * sizeof *archive.work);
     plain.work = malloc((MOST_WORK + SPARE) * sizeof *plain.work);
     if (archive.work == NULL || plain.work == NULL) {

@@ -331,13 +331,8 @@ static int generated_cases(int repetitions)
 int main(int argc, char **argv)
 {
     struct seeded which;
-    int asked = asked_for_generated(argc, argv, &which), at = asked ? 4 : 1;
-    int repetitions = argc > at ? atoi(argv[at]) : 5;
+    int repetitions, asked = read_arguments(argc, argv, &which, &repetitions);
 
-    if (repetitions < 1) {
-        fprintf(stderr, "bench: the repetitions are a number from 1\n");
-        return 2;
-    }
     printf("%-15s %3s %9s %9s %9s %7s\n", "case", "N", "L", "archive", "plain", "ratio");
     if (asked)
         return generated_case(which, repetitions) ? 0 : 1;
