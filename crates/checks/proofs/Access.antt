@@ -1,12 +1,10 @@
 -- What the accessors rest on: the words of a task are in the list, and in their ranges.
 -- Assumes nothing.
-use Prim.Native.Nat.{ℕ, _+_, _*_, _≤_, _<_}
+use Prim.Native.Nat.{ℕ, _+_, _≤_, _<_}
 use mathlib.Core.Path.{_≡_, refl, sym, subst}
 use mathlib.Core.List.{List}
 use native.Mathlib.Omega.{arith}
 use lib.ListN.{length}
-use Rattle.numbers.specs.Numbers.{ceil}
-use Rattle.numbers.proofs.Rounding.{ceil-least}
 use Rattle.layout.specs.Words.{mostRates, mostTasks, extraSize, word, ratePlace, periodPlace, cyclesPlace, energyPlace, rate, period, cycles, energy}
 use Rattle.layout.specs.declared.Layout.{Layout}
 use Rattle.checks.specs.Steps.{OfTask}
@@ -43,10 +41,3 @@ located {layout} {m} {t} {s} o =
       cycles-range = w .cycles-range t (o .task);
       rate-range = w .rate-range;
     })
-
--- A job time is at most the job's cycles.
-pub job-time-fits : (c f : ℕ) → 1 ≤ f → c ≤ 4000000000 → ceil c f ≤ 4000000000
-job-time-fits c f p h = ceil-least c f 4000000000 p (scaled f p)
-  where
-    scaled : (f : ℕ) → 1 ≤ f → c ≤ f * 4000000000
-    scaled f p = omega arith

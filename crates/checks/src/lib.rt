@@ -238,14 +238,14 @@ fn rate_of(s: &[u32], layout: Layout, m: usize, t: usize, r: usize) -> u32
     s[at]
 }
 
-// The job time of the task at place t at rate number r: cycles over rate, rounded up.
+// The job time of the task at place t at rate number r.
 pub fn job_time(s: &[u32], layout: Layout, m: usize, t: usize, r: usize) -> u32
     requires { ⌜ OfTask layout m t (now s) × (1 ≤ r) × (r ≤ m) ⌝ }
     ensures { λ x. ⌜ x ≡ jobTime layout (now (s .entry)) t r ⌝ }
 {
-    let c = cycles_of(s, layout, m, t) as u64;
-    let f = rate_of(s, layout, m, t, r) as u64;
-    ((c + (f - 1)) / f) as u32
+    let c = cycles_of(s, layout, m, t);
+    let f = rate_of(s, layout, m, t, r);
+    taskset::job_ticks(c, f)
 }
 
 // The energy of one job of the task at place t at rate number r.

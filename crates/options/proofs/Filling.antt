@@ -9,10 +9,10 @@ use native.Mathlib.Nat.{eq-or-lt-of-le, div-le-self, mul-le-mul}
 use native.Mathlib.Omega.{arith}
 use lib.ListN.{getD, set, length-set, replicate, length-replicate}
 use lib.Seq.{getD-set-same, getD-set-other}
-use Rattle.layout.specs.Words.{mostRates, mostTasks, rateCount, period, energy}
+use Rattle.numbers.proofs.Rounding.{ceil-small}
+use Rattle.layout.specs.Words.{mostRates, mostTasks, rateCount, rate, period, cycles, energy}
 use Rattle.layout.specs.declared.Layout.{Layout}
 use Rattle.taskset.specs.Quantities.{hyperLimit, jobTime, taskLoad, taskEnergy}
-use Rattle.checks.proofs.Access.{job-time-fits}
 use Rattle.taskset.proofs.Sets.{IsSet, task-energy-small}
 use Rattle.choice.proofs.Choosing.{zeros-at}
 use Rattle.options.specs.Options.{Laid, LaidBoth, TaskGiven}
@@ -98,7 +98,7 @@ module _ {layout : Layout} {m l t : ℕ} {s : List ℕ} (g : TaskGiven layout m 
           omega (
             arith,
             mul-le-mul {n₁ = l / p} {m₁ = x} {n₂ = hyperLimit} {m₂ = 4000000000} jobs-few
-                (omega (arith, x-is, job-time-fits _ _ f c)),
+                (omega (arith, x-is, ceil-small (cycles layout s t) (rate layout s r) f)),
           )
 
       pub energy-fits : y ≡ energy layout s t r → l / p * y ≤ hyperLimit * 1000000

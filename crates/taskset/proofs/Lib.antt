@@ -7,5 +7,6 @@ pub mod DemandThree
 pub mod Copied
 pub mod Writing
 pub mod Stores
+pub mod Rows
 pub mod Unique
 pub mod Cases

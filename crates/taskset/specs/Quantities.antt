@@ -14,10 +14,14 @@ use Rattle.layout.specs.declared.Layout.the-variants.{Ordinary}
 abbrev pub hyperLimit : ℕ
 hyperLimit = 10000000
 
+-- "Job time at rate f: c / f rounded up to whole ticks": of a job of so many cycles.
+abbrev pub jobTicks : ℕ → ℕ → ℕ
+jobTicks c f = ceil c f
+
 module _ (layout : Layout) (s : List ℕ) where
-  -- "Job time at rate f: c / f rounded up to whole ticks."
+  -- The job time of the task at t at rate number r.
   abbrev pub jobTime : ℕ → ℕ → ℕ
-  jobTime t r = ceil (cycles layout s t) (rate layout s r)
+  jobTime t r = jobTicks (cycles layout s t) (rate layout s r)
 
   -- "Hyper-period L: the least common multiple of the periods"
   abbrev pub hyperPeriod : ℕ

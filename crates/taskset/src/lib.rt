@@ -1,7 +1,9 @@
-// What a task set comes to and what each call answers. Here are the types of the answers, and the table of refusals in
-// code; specs/ defines what document 01 says of each, proofs/ has the theory. What stands where in a set's list is left
+// What a task set comes to and what each call answers. Here are the types of the answers, and in code the table of
+// refusals and the job time; specs/ defines what document 01 says of each, proofs/ has the theory. What stands where in a set's list is left
 // to the crate layout, the checks in code, tables and texts to the crates above.
 ghost use mathlib.Core.Path.{_≡_};
+ghost use Prim.Native.Nat.{_≤_};
+ghost use Rattle.taskset.specs.Quantities.{jobTicks};
 ghost use Rattle.taskset.specs.Refusals.{number, second};
 
 // Why a call declines: a case for each row of document 01's table, numbers 1 to 8 in this order, with what is returned
@@ -55,6 +57,16 @@ pub fn second_of(f: Refusal) -> u64
         Refusal::NoPlan => 0,
         Refusal::BadPlan(k) => k as u64,
     }
+}
+
+// The ticks of a job of so many cycles at a rate: cycles over rate, rounded up.
+pub fn job_ticks(cycles: u32, rate: u32) -> u32
+    requires { ⌜ 1 ≤ rate ⌝ }
+    ensures { λ r. ⌜ r ≡ jobTicks cycles rate ⌝ }
+{
+    let c = cycles as u64;
+    let f = rate as u64;
+    ((c + (f - 1)) / f) as u32
 }
 
 // What checks answer that do not look at periods: rate count and task count of a list, or a refusal.

@@ -6,7 +6,7 @@ use mathlib.Core.Path.{refl, ap, _∙_}
 use native.Mathlib.Omega.{arith}
 use denote.Ref.{now}
 use Rattle.taskset.proofs.Writing.{written}
-use Rattle.generator.proofs.Rows.{Row, row-none, row-more, row-all, none, zeros}
+use Rattle.taskset.proofs.Rows.{Row, row-none, row-more, row-all, none, zeros}
 use borrow.Author.Needs.{needs}
 use Rattle.generator.proofs.put_zeros.Statement.{statement}
 use Rattle.generator.proofs.put_zeros.Tie as tie
