@@ -32,7 +32,7 @@ headSize layout = length (headKinds layout)
 abbrev pub extraSize : Layout → ℕ
 extraSize layout = length (extraKinds layout)
 
--- The most rates, tasks and words of the ordinary list, and the longest period.
+-- The most rates, tasks and words of the ordinary list, the longest period and the largest energy.
 abbrev pub mostRates : ℕ
 mostRates = 8
 
@@ -44,6 +44,9 @@ mostWords = 331
 
 abbrev pub longestPeriod : ℕ
 longestPeriod = 10000000
+
+abbrev pub mostEnergy : ℕ
+mostEnergy = 1000000
 
 -- PLACES. "Tasks and rates are numbered from 1, places in lists and texts from 0."
 
@@ -146,7 +149,7 @@ allows s q Rate = between 1 1000000 (word s q)
 allows s q TaskCount = between 1 mostTasks (word s q)
 allows s q Period = between 1 longestPeriod (word s q)
 allows s q Cycles = between 1 4000000000 (word s q)
-allows s q Energy = between 1 1000000 (word s q)
+allows s q Energy = between 1 mostEnergy (word s q)
 allows s q LeftOver = false
 
 -- The word at place q is out of its range.

@@ -28,6 +28,9 @@ pub const MOST_TASKS: usize = 32;
 
 pub const MOST_WORDS: usize = 331;
 
+// The largest energy of a job.
+pub const MOST_ENERGY: u64 = 1_000_000;
+
 // The place of the slack in every list.
 pub const SLACK_PLACE: usize = 0;
 
@@ -87,7 +90,7 @@ pub fn is_allowed(s: &[u32], q: usize, k: Kind) -> bool
         Kind::TaskCount => numbers::is_between(1, 32, w),
         Kind::Period => numbers::is_between(1, 10_000_000, w),
         Kind::Cycles => numbers::is_between(1, 4_000_000_000, w),
-        Kind::Energy => numbers::is_between(1, 1_000_000, w),
+        Kind::Energy => numbers::is_between(1, MOST_ENERGY, w),
         Kind::LeftOver => false,
     }
 }
