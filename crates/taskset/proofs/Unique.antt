@@ -17,7 +17,7 @@ use Rattle.taskset.specs.Quantities.{problem, workNeeded}
 use Rattle.taskset.specs.Refusals.{number, second, IsShort, NoneOk, Check, Refuses, _▹_, wordChecks, hyperCheck, workCheck, roomCheck, noneCheck, planCheck, readyChecks, plannerChecks, walkChecks}
 use Rattle.taskset.specs.Calls.{CopyGives, CountsAfter, SetAfter, Selected, PlannerGives, WalkAnswers}
 use Rattle.taskset.specs.declared.Refusal.{Refusal}
-use Rattle.taskset.specs.declared.Refusal.the-variants.{TextDeparts, BadWord, NotAbove, TooLong, WorkShort, TooShort, NoPlan, BadPlan}
+use Rattle.taskset.specs.declared.Refusal.the-variants.{TextDeparts, BadWord, NotAbove, TooLong, WorkShort, TooShort, NoPlan, BadPlan, EnergyOver}
 use Rattle.taskset.specs.declared.Shape.{Shape}
 use Rattle.taskset.specs.declared.Shape.the-variants.{Whole, Refused as NotWhole}
 use Rattle.taskset.specs.declared.Checked.{Checked}
@@ -40,7 +40,8 @@ refusal n k =
     (cond (eqb n 4) (TooLong k)
     (cond (eqb n 5) (WorkShort k)
     (cond (eqb n 6) (TooShort k)
-    (cond (eqb n 7) NoPlan (BadPlan k)))))))
+    (cond (eqb n 7) NoPlan
+    (cond (eqb n 8) (BadPlan k) (EnergyOver k))))))))
 
 refusal-of : (r : Refusal) → refusal (number r) (second r) ≡ r
 unfolding refusal
@@ -52,6 +53,7 @@ refusal-of (WorkShort w) = refl
 refusal-of (TooShort w) = refl
 refusal-of NoPlan = refl
 refusal-of (BadPlan k) = refl
+refusal-of (EnergyOver k) = refl
 
 -- A refusal's number is above 0, and small.
 pub number-range : (r : Refusal) → (1 ≤ number r) × (number r ≤ 100)
@@ -64,6 +66,7 @@ number-range (WorkShort w) = (le-by-compare _ _ tt, le-by-compare _ _ tt)
 number-range (TooShort w) = (le-by-compare _ _ tt, le-by-compare _ _ tt)
 number-range NoPlan = (le-by-compare _ _ tt, le-by-compare _ _ tt)
 number-range (BadPlan k) = (le-by-compare _ _ tt, le-by-compare _ _ tt)
+number-range (EnergyOver k) = (le-by-compare _ _ tt, le-by-compare _ _ tt)
 
 -- Two refusals of the same checks are one.
 pub refusal-unique : (cs : List Check) → AllSingle cs → (p r : Refusal) → Refuses cs (number p) (second p) → Refuses cs (number r) (second r) → p ≡ r

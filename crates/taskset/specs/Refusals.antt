@@ -13,9 +13,10 @@ use Rattle.layout.specs.declared.Layout.{Layout}
 use Rattle.layout.specs.declared.Layout.the-variants.{Ordinary}
 use Rattle.taskset.specs.Quantities.{hyperLimit, problem, workNeeded}
 use Rattle.taskset.specs.declared.Refusal.{Refusal}
-use Rattle.taskset.specs.declared.Refusal.the-variants.{TextDeparts, BadWord, NotAbove, TooLong, WorkShort, TooShort, NoPlan, BadPlan}
+use Rattle.taskset.specs.declared.Refusal.the-variants.{TextDeparts, BadWord, NotAbove, TooLong, WorkShort, TooShort, NoPlan, BadPlan, EnergyOver}
 
--- The column 'Number', and the column 'Returned with it'.
+-- The column 'Number', and the column 'Returned with it'; of document 02, "9, an energy worked out here is over
+-- 1,000,000, with the first such task's number".
 abbrev pub number : Refusal → ℕ
 number (TextDeparts o) = 1
 number (BadWord q) = 2
@@ -25,6 +26,7 @@ number (WorkShort w) = 5
 number (TooShort w) = 6
 number NoPlan = 7
 number (BadPlan k) = 8
+number (EnergyOver k) = 9
 
 abbrev pub second : Refusal → ℕ
 second (TextDeparts o) = o
@@ -35,6 +37,7 @@ second (WorkShort w) = w
 second (TooShort w) = w
 second NoPlan = 0
 second (BadPlan k) = k
+second (EnergyOver k) = k
 
 -- CAUSES. Each says when it holds with a second number k.
 

@@ -6,8 +6,8 @@ ghost use Prim.Native.Nat.{_≤_};
 ghost use Rattle.taskset.specs.Quantities.{jobTicks};
 ghost use Rattle.taskset.specs.Refusals.{number, second};
 
-// Why a call declines: a case for each row of document 01's table, numbers 1 to 8 in this order, with what is returned
-// beside the number.
+// Why a call declines: a case for each row of document 01's table, numbers 1 to 8 in this order, and then for those of
+// document 02's notes, with what is returned beside the number.
 pub enum Refusal {
     // The text departs from the form: offset.
     TextDeparts(usize),
@@ -25,6 +25,8 @@ pub enum Refusal {
     NoPlan,
     // The walk's plan: the lowest of three numbers.
     BadPlan(usize),
+    // An energy worked out by a chip's tables over the largest: task number.
+    EnergyOver(usize),
 }
 
 // The number of a refusal.
@@ -40,6 +42,7 @@ pub fn number_of(f: Refusal) -> u64
         Refusal::TooShort(_) => 6,
         Refusal::NoPlan => 7,
         Refusal::BadPlan(_) => 8,
+        Refusal::EnergyOver(_) => 9,
     }
 }
 
@@ -56,6 +59,7 @@ pub fn second_of(f: Refusal) -> u64
         Refusal::TooShort(k) => k as u64,
         Refusal::NoPlan => 0,
         Refusal::BadPlan(k) => k as u64,
+        Refusal::EnergyOver(k) => k as u64,
     }
 }
 
