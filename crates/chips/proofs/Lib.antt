@@ -1,0 +1,3 @@
+pub mod Rising
+pub mod Tables
+pub mod Cases
