@@ -50,7 +50,7 @@ plan =
     }
 
 pub example-printed : Prints example printed
-unfolding S headKinds extraKinds
+unfolding S headKinds extraKinds scriptOf
 example-printed =
-    planned (scriptOf (S 100)) (2 ∷ 1 ∷ []) 1 29 30 41 29 1 1 (record { accepts = takes (scriptOf (S 100)) example setLent example-text (words-length (scriptOf (S 100)) (example-text .script)); text = example-text })
+    planned (scriptOf (S 100)) (2 ∷ 1 ∷ []) 1 29 30 41 29 1 1 (record { accepts = takes (scriptOf (S 100)) example setLent example-text (λ w. absurd w) (words-length (scriptOf (S 100)) (example-text .script)); text = example-text })
     (subst (λ (w : List ℕ). PrintsPlan w (2 ∷ 1 ∷ []) printed 1 29 30 41 29 1 1) (sym example-words) plan)

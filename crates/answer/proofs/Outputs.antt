@@ -116,6 +116,17 @@ bad-early t o f =
 long-bad : (t : List ℕ) → 8192 < length t → WellFormed t → ⊥
 long-bad t l w = omega (arith, text-length (w .0) t (w .1))
 
+-- A text that is not well formed is refused with 1: every other cause is of the script that it says.
+departs-only : (t : List ℕ) → (WellFormed t → ⊥) → (n k : ℕ) → Refuses (readerChecks t setLent) n k → (n ≡ 1) × FirstBad WellFormed t k
+departs-only t none n k r =
+    ⊎-elim
+    (λ x. x)
+    (λ x. ⊎-elim
+    (λ y. absurd (none (y .1 .0, y .1 .1)))
+    (λ y. ⊎-elim (λ z. absurd (none (z .1 .0, z .1 .1))) (λ z. absurd (z .1)) (y .1))
+    (x .1))
+    r
+
 module _ (t : List ℕ) (long : 8192 < length t) where
   cut : length (take 8192 t) ≡ 8192
   cut = length-take-le 8192 t (omega arith)
@@ -150,8 +161,8 @@ module _ (t : List ℕ) (long : 8192 < length t) where
   -- Neither is read, and where the one departs from the form the other does too.
   same-refusal : (n k : ℕ) → Refuses (readerChecks (take 8192 t) setLent) n k ↔ Refuses (readerChecks t setLent) n k
   same-refusal n k = (
-    λ r. ⊎-elim (λ x. inl (x .0, bad-whole k (x .1))) (λ x. ⊎-elim (λ y. absurd (cut-bad (y .1 .0, y .1 .1))) (λ y. absurd (y .1)) (x .1)) r,
-    λ r. ⊎-elim (λ x. inl (x .0, bad-cut k (x .1))) (λ x. ⊎-elim (λ y. absurd (long-bad t long (y .1 .0, y .1 .1))) (λ y. absurd (y .1)) (x .1)) r,
+    λ r. let x = departs-only (take 8192 t) cut-bad n k r in inl (x .0, bad-whole k (x .1)),
+    λ r. let x = departs-only t (long-bad t long) n k r in inl (x .0, bad-cut k (x .1)),
   )
 
   long-same : (out : List ℕ) → Prints (take 8192 t) out ↔ Prints t out

@@ -13,17 +13,35 @@ use lib.Seq.{append-snoc}
 use Rattle.numbers.specs.Numbers.{joined}
 use Rattle.numbers.proofs.Tests.{lt-or-le}
 use Rattle.numbers.proofs.Lists.{joined-one}
-use Rattle.text.proofs.Reading.{Res, got, bad, mapRes, seq, many, starts, readAt}
+use Rattle.text.proofs.Reading.{Res, got, bad, ext, mapRes, seq, many, starts, readAt}
 use Rattle.taskset.proofs.Writing.{written, written-none, extend}
-use Rattle.scanner.specs.declared.Read.{Read}
-use Rattle.scanner.specs.declared.Read.the-variants.{Got, Bad}
-use Rattle.scanner.specs.Steps.{ofRead}
+use Rattle.scanner.specs.Steps.{noValue}
 use Rattle.scanner.proofs.Places.{seq-at, map-id}
 use Rattle.forms.specs.Forms.{Gives, plain}
 
 -- The text departs, and the answer says so.
-pub departs : {A : Type 0} {value : A → ℕ} {words : A → List ℕ} {k : ℕ} {d e : List ℕ} {x : Res A} {r : Read} {o : ℕ} → x ≡ bad o → r ≡ Bad o → Gives value words k d e x r
-departs z told = record { answers = rw z (ap ofRead told); wrote = rw z tt }
+pub departs : {A B : Type 0} {value : A → B} {words : A → List ℕ} {k : ℕ} {d e : List ℕ} {x : Res A} {y : Res B} {o : ℕ}
+    → x ≡ bad o → y ≡ bad o → Gives value words k d e x y
+departs z told = record { answers = rw z told; wrote = rw z tt }
+
+pub departs-at : {A B C : Type 0} {value : A → B} {words : A → List ℕ} {k : ℕ} {d e : List ℕ} {x : Res A} {y : Res C} {o p : ℕ}
+    → x ≡ bad o → p ≡ ext y → y ≡ bad o → Gives value words k d e x (bad p)
+departs-at z at told = departs z (ap bad (at ∙ ap ext told))
+
+-- It was read, and the answer and the list say so.
+pub gives : {A B : Type 0} {value : A → B} {words : A → List ℕ} {k : ℕ} {d e : List ℕ} {x : Res A} {y : Res B} {a : A} {i : ℕ}
+    → x ≡ got a i → y ≡ got (value a) i → e ≡ written k (words a) d → Gives value words k d e x y
+gives z told w = record { answers = rw z told; wrote = rw z w }
+
+-- What is left is a fixed string: then the words stand there.
+pub closed : {A : Type 0} {words : A → List ℕ} {k : ℕ} {d e : List ℕ} (a : A) (y : Res (Unit {0})) {r : Res ℕ}
+    → r ≡ mapRes noValue y → e ≡ written k (words a) d → Gives noValue words k d e (mapRes (λ _. a) y) r
+closed a (got u i) q w = record { answers = q; wrote = w }
+closed a (bad o) q w = record { answers = q; wrote = tt }
+
+pub map-map : {A B C : Type 0} (f : B → C) (g : A → B) (x : Res A) → mapRes f (mapRes g x) ≡ mapRes (λ a. f (g a)) x
+map-map f g (got a i) = refl
+map-map f g (bad o) = refl
 
 -- The items so far in front of those that are left.
 abbrev pub behind : {A : Type 0} → List A → Res (List A) → Res (List A)
@@ -42,7 +60,7 @@ joined-alone [] = refl
 joined-alone (x ∷ xs) = ap (λ (ys : List ℕ). x ∷ ys) (joined-alone xs)
 
 -- The words of numbers, one by one, are the numbers.
-pub plainly : {k : ℕ} {d e : List ℕ} {x : Res (List ℕ)} {r : Read} → Gives length (joined alone) k d e x r → Gives length plain k d e x r
+pub plainly : {k : ℕ} {d e : List ℕ} {x : Res (List ℕ)} {y : Res ℕ} → Gives length (joined alone) k d e x y → Gives length plain k d e x y
 plainly {x = got xs i} g = record { answers = g .answers; wrote = rw joined-alone at (g .wrote) }
 plainly {x = bad o} g = record { answers = g .answers; wrote = tt }
 
@@ -112,13 +130,13 @@ module _ {A : Type 0} {p : List ℕ → Res A} {c low spare : ℕ} {f : A → Li
     pub refused : (o : ℕ) → readAt p s i ≡ bad o → readAt (many p c low spare) s at ≡ bad o
     refused o q = h .rest ∙ rw (turn, seq-at, q)
 
-  ended : readAt (left p c low spare n) s i ≡ got [] i → Gives length (joined f) k d e (readAt (many p c low spare) s at) (Got n i)
+  ended : readAt (left p c low spare n) s i ≡ got [] i → Gives length (joined f) k d e (readAt (many p c low spare) s at) (got n i)
   ended q =
       let a : readAt (many p c low spare) s at ≡ got (h .items) i = h .rest ∙ rw (q, append-nil) in
       record { answers = rw a (ap (λ (z : ℕ). got z i) (sym (h .count))); wrote = rw a (h .in-place) }
 
   -- No item stands here, and none must.
-  pub stopped : low ≤ n → starts c (drop i s) ≡ false → Gives length (joined f) k d e (readAt (many p c low spare) s at) (Got n i)
+  pub stopped : low ≤ n → starts c (drop i s) ≡ false → Gives length (joined f) k d e (readAt (many p c low spare) s at) (got n i)
   unfolding many readAt
   stopped l none =
       let a : low - n ≡ 0 = omega arith in
@@ -129,7 +147,7 @@ module _ {A : Type 0} {p : List ℕ → Res A} {c low spare : ℕ} {f : A → Li
       go (suc m) = rw (none, add-zero)
 
   -- There may be no more.
-  pub full : low + spare ≤ n → Gives length (joined f) k d e (readAt (many p c low spare) s at) (Got n i)
+  pub full : low + spare ≤ n → Gives length (joined f) k d e (readAt (many p c low spare) s at) (got n i)
   unfolding many readAt
   full l =
       let a : low - n ≡ 0 = omega arith in

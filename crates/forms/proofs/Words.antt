@@ -1,17 +1,22 @@
 -- The words of a task and of a set: as many as the layout says, and stored where it says.
 -- Assumes nothing.
-use Prim.Native.Nat.{ℕ, _+_, _≤_}
-use mathlib.Core.Path.{_≡_, refl, ap, _∙_}
+use Prim.Native.Nat.{ℕ, zero, suc, _+_, _≤_}
+use mathlib.Core.Path.{_≡_, refl, sym, ap, _∙_}
 use mathlib.Core.List.{List, [], _∷_, _++_}
+use native.Mathlib.Nat.{add-zero}
 use native.Mathlib.Omega.{arith}
 use lib.ListN.{length, set}
-use Rattle.layout.specs.Words.{headKinds, extraKinds, headSize, taskCountPlace, tasksPlace, taskSize}
+use Rattle.numbers.specs.Numbers.{joined}
+use Rattle.layout.specs.Words.{mostRates, headKinds, extraKinds, headSize, taskCountPlace, tasksPlace, taskSize}
 use Rattle.layout.specs.declared.Layout.the-variants.{Ordinary}
-use Rattle.text.specs.Text.{TaskLine, Script, headWords, extraWords, taskWords, words}
-use Rattle.text.proofs.Reading.{got, readTask, readAt}
+use Rattle.chips.proofs.Tables.{count-range, rates-length, energies-length}
+use Rattle.text.specs.Text.{bytes, TaskLine, Clock, rates, chip, Script, ClockOk, energyCount, TaskLineOk, ratesOf, headWords, extraWords, taskWords, words}
+use Rattle.text.proofs.Reading.{got, skip, upTo, numbers, readEnergies, readTask, readAt}
 use Rattle.text.proofs.Grammar.{dom-of, task-piece}
 use Rattle.taskset.proofs.Writing.{written, written-then, length-written}
-use Rattle.forms.specs.Forms.{allWords}
+use Rattle.forms.specs.Forms.{clockOf, ratesIn, energiesIn, Fits, wordsBy}
+use Rattle.forms.specs.declared.Clock as code
+use Rattle.forms.specs.declared.Clock.the-variants.{Rates, Named}
 use Rattle.taskset.proofs.Stores.{stored, in-front}
 
 -- The words in front of the rate count, and of a task's energies.
@@ -23,26 +28,63 @@ pub task-front : (t : TaskLine) → length (t .period ∷ t .cycles ∷ extraWor
 unfolding extraKinds
 task-front t = refl
 
--- A task that was read has as many energies as asked.
-pub task-words : (m : ℕ) (s : List ℕ) (at i : ℕ) (t : TaskLine) → readAt (readTask m) s at ≡ got t i → length (taskWords t) ≡ taskSize Ordinary m
+-- The clock that the code has, of the clock of a script: as many rates and energies, and the same words.
+pub rates-in : (k : Clock) → ratesIn (clockOf k) ≡ length (ratesOf k)
+rates-in (rates fs) = refl
+rates-in (chip c) = sym (rates-length c)
+
+pub energies-in : (k : Clock) → energiesIn (clockOf k) ≡ energyCount k
+energies-in (rates fs) = refl
+energies-in (chip c) = refl
+
+pub words-by : (k : Clock) → wordsBy (clockOf k) ≡ taskWords k
+words-by (rates fs) = refl
+words-by (chip c) = refl
+
+-- A clock that was read has some rates, and not too many.
+pub fits : (k : Clock) → ClockOk k → Fits (clockOf k)
+fits (rates fs) d = (omega (arith, d .least), d .most)
+fits (chip c) d = tt
+
+pub few-rates : (k : code.Clock) → Fits k → ratesIn k ≤ mostRates
+few-rates (Rates m) f = f .1
+few-rates (Named c) f = count-range c .1
+
+-- What is read where a line has energies, and where it has none.
+pub some-energies : (m : ℕ) → 1 ≤ m → readEnergies m ≡ skip (bytes " (energy") (upTo (numbers m 0) (bytes ")"))
+some-energies zero h = absurd (omega arith)
+some-energies (suc m) h = refl
+
+pub no-energies : (s : List ℕ) (at : ℕ) → readAt (readEnergies 0) s at ≡ got [] at
+unfolding readAt
+no-energies s at = rw add-zero
+
+-- A task that was read has as many energies as rates.
+pub task-words : (k : code.Clock) (s : List ℕ) (at i : ℕ) (t : TaskLine) → readAt (readTask (energiesIn k)) s at ≡ got t i
+    → length (wordsBy k t) ≡ taskSize Ordinary (ratesIn k)
 unfolding extraKinds
-task-words m s at i t e = let h = dom-of (task-piece m) s at i t e in omega (arith, h .energies .least, h .energies .most)
+task-words k s at i t e = go k (dom-of (task-piece (energiesIn k)) s at i t e)
+  where
+    go : (k : code.Clock) → TaskLineOk (energiesIn k) t → length (wordsBy k t) ≡ taskSize Ordinary (ratesIn k)
+    go (Rates m) h = omega (arith, h .energies .least, h .energies .most)
+    go (Named c) h = omega (arith, energies-length c (t .cycles))
 
 -- The rates and the tasks stand in their places, and the counts and the head go in front of them, from the back to the
 -- front.
 pub set-words : (s : Script) (d e : List ℕ) (h k m n : ℕ) → h ≡ headSize Ordinary → k ≡ taskCountPlace Ordinary m
-    → length (s .rates) ≡ m → length (s .tasks) ≡ n → tasksPlace Ordinary m ≤ length d
-    → e ≡ written (tasksPlace Ordinary m) (allWords (s .tasks)) (written (h + 1) (s .rates) d)
+    → length (ratesOf (s .clock)) ≡ m → length (s .tasks) ≡ n → tasksPlace Ordinary m ≤ length d
+    → e ≡ written (tasksPlace Ordinary m) (joined (taskWords (s .clock)) (s .tasks)) (written (h + 1) (ratesOf (s .clock)) d)
     → stored 0 (headWords s) (set (set e k n) h m) ≡ written 0 (words s) d
 unfolding words
 set-words s d e h k m n hs ks ms ns room q =
-    let ts : List ℕ = allWords (s .tasks) in
-    let rs : List ℕ = written (h + 1) (s .rates) d in
-    let l : length rs ≡ length d = length-written (s .rates) d (h + 1) (omega arith) in
-    let counted : set e k n ≡ written (h + 1) (s .rates ++ n ∷ ts) d =
+    let ts : List ℕ = joined (taskWords (s .clock)) (s .tasks) in
+    let fs : List ℕ = ratesOf (s .clock) in
+    let rs : List ℕ = written (h + 1) fs d in
+    let l : length rs ≡ length d = length-written fs d (h + 1) (omega arith) in
+    let counted : set e k n ≡ written (h + 1) (fs ++ n ∷ ts) d =
     ap (λ (z : List ℕ). set z k n) q ∙ in-front (n ∷ []) ts rs k (tasksPlace Ordinary m) (omega arith) (omega arith)
-    ∙ written-then (s .rates) (n ∷ ts) d (h + 1) k (omega arith) (omega arith) in
+    ∙ written-then fs (n ∷ ts) d (h + 1) k (omega arith) (omega arith) in
     ap (λ (z : List ℕ). stored 0 (headWords s) (set z h m)) counted
-    ∙ ap (stored 0 (headWords s)) (in-front (m ∷ []) (s .rates ++ n ∷ ts) d h (h + 1) refl (omega arith))
-    ∙ in-front (headWords s) (m ∷ (s .rates ++ n ∷ ts)) d 0 h (omega (arith, head-front s)) (omega arith)
+    ∙ ap (stored 0 (headWords s)) (in-front (m ∷ []) (fs ++ n ∷ ts) d h (h + 1) refl (omega arith))
+    ∙ in-front (headWords s) (m ∷ (fs ++ n ∷ ts)) d 0 h (omega (arith, head-front s)) (omega arith)
     ∙ rw (ms, ns)

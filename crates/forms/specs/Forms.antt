@@ -1,15 +1,25 @@
 -- What the functions that read a form give: what the form reads as at a place, and the words that stand written after
 -- it. Not part of what a reader must believe: the reader's contract speaks of scripts and their texts.
-use Prim.Native.Nat.{ℕ}
+use Prim.Native.Nat.{ℕ, _≤_}
 use mathlib.Core.Path.{_≡_}
-use mathlib.Core.List.{List}
+use mathlib.Core.List.{List, _∷_, _++_}
 use lib.ListN.{length}
-use Rattle.numbers.specs.Numbers.{joined}
-use Rattle.text.specs.Text.{bytes, TaskLine, Script, taskWords, words}
+use Rattle.layout.specs.Words.{mostRates}
+use Rattle.chips.specs.Chips.{chipCount, chipEnergies}
+use Rattle.chips.specs.declared.Chip.{Chip}
+use Rattle.text.specs.Text as Text
+use Rattle.text.specs.Text.{bytes, TaskLine, Script, ratesOf, extraWords, words}
 use Rattle.text.proofs.Reading.{Res, got, bad, mapRes, field}
 use Rattle.taskset.proofs.Writing.{written}
-use Rattle.scanner.specs.Steps.{ofRead}
-use Rattle.scanner.specs.declared.Read.{Read}
+use Rattle.forms.specs.declared.Clock.{Clock}
+use Rattle.forms.specs.declared.Clock.the-variants.{Rates, Named}
+use Rattle.forms.specs.declared.ChipRead.{ChipRead}
+use Rattle.forms.specs.declared.ChipRead.the-variants.{Got as NameGot, Bad as NameBad}
+use Rattle.forms.specs.declared.ClockRead.{ClockRead}
+use Rattle.forms.specs.declared.ClockRead.the-variants.{Got as LineGot, Bad as LineBad}
+use Rattle.forms.specs.declared.Said.{Said}
+use Rattle.forms.specs.declared.SetRead.{SetRead}
+use Rattle.forms.specs.declared.SetRead.the-variants.{Got as SetGot, Bad as SetBad}
 
 -- A space and a number.
 abbrev pub spacedNumber : List ℕ → Res ℕ
@@ -21,18 +31,56 @@ abbrev pub Wrote : {A : Type 0} → (A → List ℕ) → ℕ → List ℕ → Li
 Wrote f k d e (got a i) = e ≡ written k (f a) d
 Wrote f k d e (bad o) = Unit {0}
 
--- What the reader of a form gives, where x is what the form reads as: the value of what was read, and its words in the
--- list.
-pub record Gives {A : Type 0} (value : A → ℕ) (words : A → List ℕ) (k : ℕ) (d e : List ℕ) (x : Res A) (r : Read) : Type 0 where
-  pub answers : ofRead r ≡ mapRes value x
+-- What the reader of a form gives, where x is what the form reads as and y the code's answer: the value of what was
+-- read, and its words in the list.
+pub record Gives {A B : Type 0} (value : A → B) (words : A → List ℕ) (k : ℕ) (d e : List ℕ) (x : Res A) (y : Res B) : Type 0 where
+  pub answers : y ≡ mapRes value x
   pub wrote : Wrote words k d e x
 
 -- A list of numbers is its own words.
 abbrev pub plain : List ℕ → List ℕ
 plain xs = xs
 
-abbrev pub allWords : List TaskLine → List ℕ
-allWords = joined taskWords
+-- The answers about a chip's name, the line behind the slack's, and a set.
+abbrev pub ofChip : ChipRead → Res Chip
+ofChip (NameGot c i) = got c i
+ofChip (NameBad o) = bad o
 
-abbrev pub wordCount : Script → ℕ
-wordCount s = length (words s)
+abbrev pub ofClock : ClockRead → Res Clock
+ofClock (LineGot k i) = got k i
+ofClock (LineBad o) = bad o
+
+abbrev pub ofSet : SetRead → Res Said
+ofSet (SetGot v i) = got v i
+ofSet (SetBad o) = bad o
+
+-- The clock as the code has it: of a line of rates their number.
+abbrev pub clockOf : Text.Clock → Clock
+clockOf (Text.rates fs) = Rates (length fs)
+clockOf (Text.chip c) = Named c
+
+-- How many rates it has, and how many energies each task's line.
+abbrev pub ratesIn : Clock → ℕ
+ratesIn (Rates m) = m
+ratesIn (Named c) = chipCount c
+
+abbrev pub energiesIn : Clock → ℕ
+energiesIn (Rates m) = m
+energiesIn (Named c) = 0
+
+-- A line of rates has some, and not too many.
+abbrev pub Fits : Clock → Type 0
+Fits (Rates m) = (1 ≤ m) × (m ≤ mostRates)
+Fits (Named c) = Unit {0}
+
+-- The energies of a job of so many cycles: those that stand in the line, or the chip's; and all words of the line.
+abbrev pub energiesBy : Clock → ℕ → List ℕ → List ℕ
+energiesBy (Rates m) cycles es = es
+energiesBy (Named c) cycles es = chipEnergies c cycles
+
+abbrev pub wordsBy : Clock → TaskLine → List ℕ
+wordsBy k t = t .period ∷ t .cycles ∷ (extraWords t ++ energiesBy k (t .cycles) (t .energies))
+
+-- What reading a set tells of its script.
+abbrev pub saidOf : Script → Said
+saidOf s = record { clock = clockOf (s .clock); rates = length (ratesOf (s .clock)); tasks = length (s .tasks); words = length (words s) }

@@ -3,16 +3,50 @@
 ghost use mathlib.Core.Path.{_≡_};
 ghost use Prim.Native.Nat.{_+_, _≤_};
 ghost use lib.ListN.{length, drop};
+ghost use Rattle.numbers.specs.Numbers.{joined};
 ghost use Rattle.layout.specs.Words.{mostRates, mostTasks, mostWords, tasksPlace, taskSize, periodPlace};
 ghost use Rattle.layout.specs.declared.Layout.the-variants.{Ordinary};
 ghost use Rattle.text.specs.Text;
 ghost use Rattle.text.proofs.Reading;
-ghost use Rattle.text.proofs.Reading.{readAt, starts};
+ghost use Rattle.text.proofs.Reading.{ext, mapRes, mapped, skip, readAt, starts};
 ghost use Rattle.scanner.specs.Steps.{ofRead, noValue};
-ghost use Rattle.forms.specs.Forms.{spacedNumber, Gives, plain, allWords, wordCount};
+ghost use Rattle.forms.specs.Forms.{spacedNumber, Gives, plain, ofChip, ofClock, ofSet, clockOf, ratesIn, energiesIn, Fits, energiesBy, wordsBy, saidOf};
+use chips::Chip;
 use layout::Layout;
 use scanner::Class;
 use scanner::Read;
+
+// What stands behind the slack's line: so many rates, or a chip by its name.
+pub enum Clock {
+    Rates(usize),
+    Named(Chip),
+}
+
+// What reading a chip's name gives, and the line behind the slack's: it and the place after it, or the offset at which
+// the text departs.
+pub enum ChipRead {
+    Got(Chip, usize),
+    Bad(usize),
+}
+
+pub enum ClockRead {
+    Got(Clock, usize),
+    Bad(usize),
+}
+
+// What a text says, beside its words in the list: the clock, and how many rates, tasks and words there are.
+pub struct Said {
+    pub clock: Clock,
+    pub rates: usize,
+    pub tasks: usize,
+    pub words: usize,
+}
+
+// What reading a set gives.
+pub enum SetRead {
+    Got(Said, usize),
+    Bad(usize),
+}
 
 // A space and a number. A function of its own: a byte string in a loop would be part of the loop's invariant.
 fn spaced(s: &[u8], at: usize) -> Read
@@ -24,7 +58,7 @@ fn spaced(s: &[u8], at: usize) -> Read
 // At least low numbers and up to spare more, each behind a space, to the list from k on.
 fn numbers(s: &[u8], at: usize, out: &mut [u32], k: usize, low: usize, spare: usize) -> Read
     requires { ⌜ (low + spare ≤ mostRates) × (k + (low + spare) ≤ length (now out)) ⌝ }
-    ensures { λ r. ⌜ Gives length plain k (now (out .entry)) (now (out .exit)) (readAt (Reading.numbers low spare) (now (s .entry)) at) r ⌝ }
+    ensures { λ r. ⌜ Gives length plain k (now (out .entry)) (now (out .exit)) (readAt (Reading.numbers low spare) (now (s .entry)) at) (ofRead r) ⌝ }
 {
     let mut i = at;
     let mut n = 0;
@@ -45,11 +79,125 @@ fn numbers(s: &[u8], at: usize, out: &mut [u32], k: usize, low: usize, spare: us
     Read::Got(n as u32, i)
 }
 
-// A task's line, with m energies, to the list from k on: the period and the cycles are the first words of a task in
-// every layout.
-fn task(s: &[u8], at: usize, out: &mut [u32], k: usize, m: usize) -> Read
-    requires { ⌜ (m ≤ mostRates) × (k + taskSize Ordinary m ≤ length (now out)) ⌝ }
-    ensures { λ r. ⌜ Gives noValue Text.taskWords k (now (out .entry)) (now (out .exit)) (readAt (Reading.readTask m) (now (s .entry)) at) r ⌝ }
+// The name of a chip, once it is known which it must be.
+fn named(s: &[u8], at: usize, name: &[u8], chip: Chip) -> ChipRead
+    ensures { λ r. ⌜ ofChip r ≡ readAt (mapped (λ _. chip) (Reading.literal (now (name .entry)))) (now (s .entry)) at ⌝ }
+{
+    match scanner::literal(s, at, name) {
+        Read::Got(_, i) => ChipRead::Got(chip, i),
+        Read::Bad(o) => ChipRead::Bad(o),
+    }
+}
+
+// The name of a chip: an x begins the one.
+fn chip_name(s: &[u8], at: usize) -> ChipRead
+    ensures { λ r. ⌜ ofChip r ≡ readAt Reading.readChip (now (s .entry)) at ⌝ }
+{
+    if scanner::is_letter(s, at, b'x') {
+        return named(s, at, b"xscale", Chip::Xscale);
+    }
+    named(s, at, b"ppc405lp", Chip::Ppc405lp)
+}
+
+// A chip's line from its name on: the chip's rates, to the list from k on.
+fn chip_line(s: &[u8], at: usize, out: &mut [u32], k: usize) -> ClockRead
+    requires { ⌜ k + mostRates ≤ length (now out) ⌝ }
+    ensures { λ r. ⌜ Gives clockOf Text.ratesOf k (now (out .entry)) (now (out .exit)) (readAt (mapped Text.chip (skip (Text.bytes "chip ") Reading.readChip)) (now (s .entry)) at) (ofClock r) ⌝ }
+{
+    let line = scanner::literal(s, at, b"chip ");
+    let Read::Got(_, i) = line else {
+        return ClockRead::Bad(scanner::place_of(line));
+    };
+    match chip_name(s, i) {
+        ChipRead::Got(chip, j) => {
+            chips::put_rates(out, k, chip);
+            ClockRead::Got(Clock::Named(chip), j)
+        }
+        ChipRead::Bad(o) => ClockRead::Bad(o),
+    }
+}
+
+// A line of rates from its name on: the rates, to the list from k on.
+fn rates_line(s: &[u8], at: usize, out: &mut [u32], k: usize) -> ClockRead
+    requires { ⌜ k + mostRates ≤ length (now out) ⌝ }
+    ensures { λ r. ⌜ Gives clockOf Text.ratesOf k (now (out .entry)) (now (out .exit)) (readAt (mapped Text.rates (skip (Text.bytes "rates") (Reading.numbers 2 6))) (now (s .entry)) at) (ofClock r) ⌝ }
+{
+    let line = scanner::literal(s, at, b"rates");
+    let Read::Got(_, i) = line else {
+        return ClockRead::Bad(scanner::place_of(line));
+    };
+    match numbers(s, i, out, k, 2, 6) {
+        Read::Got(n, j) => ClockRead::Got(Clock::Rates(n as usize), j),
+        Read::Bad(o) => ClockRead::Bad(o),
+    }
+}
+
+// The line behind the slack's, from its name on: a c begins the chip's.
+fn clock_line(s: &[u8], at: usize, out: &mut [u32], k: usize) -> ClockRead
+    requires { ⌜ k + mostRates ≤ length (now out) ⌝ }
+    ensures { λ r. ⌜ Gives clockOf Text.ratesOf k (now (out .entry)) (now (out .exit)) (readAt Reading.readClock (now (s .entry)) at) (ofClock r) ⌝ }
+{
+    if scanner::is_letter(s, at, b'c') {
+        return chip_line(s, at, out, k);
+    }
+    rates_line(s, at, out, k)
+}
+
+// The place that an answer about that line names.
+fn place_of(r: ClockRead) -> usize
+    ensures { λ x. ⌜ x ≡ ext (ofClock r) ⌝ }
+{
+    match r {
+        ClockRead::Got(_, i) => i,
+        ClockRead::Bad(o) => o,
+    }
+}
+
+// How many rates a clock has.
+fn rate_count(clock: Clock) -> usize
+    ensures { λ r. ⌜ r ≡ ratesIn clock ⌝ }
+{
+    match clock {
+        Clock::Rates(m) => m,
+        Clock::Named(chip) => chips::rate_count(chip),
+    }
+}
+
+// The energy form of a task's line, with m energies, to the list from k on.
+fn energy_form(s: &[u8], at: usize, out: &mut [u32], k: usize, m: usize) -> Read
+    requires { ⌜ (1 ≤ m) × (m ≤ mostRates) × (k + m ≤ length (now out)) ⌝ }
+    ensures { λ r. ⌜ Gives noValue plain k (now (out .entry)) (now (out .exit)) (readAt (Reading.readEnergies m) (now (s .entry)) at) (ofRead r) ⌝ }
+{
+    let form = scanner::literal(s, at, b" (energy");
+    let Read::Got(_, i) = form else {
+        return form;
+    };
+    let energies = numbers(s, i, out, k, m, 0);
+    let Read::Got(_, j) = energies else {
+        return energies;
+    };
+    scanner::literal(s, j, b")")
+}
+
+// The energies of a job of so many cycles, to the list from k on: under a chip the line has none, and they are worked
+// out.
+fn energies(s: &[u8], at: usize, out: &mut [u32], k: usize, clock: Clock, cycles: u32) -> Read
+    requires { ⌜ Fits clock × (k + ratesIn clock ≤ length (now out)) ⌝ }
+    ensures { λ r. ⌜ Gives noValue (energiesBy clock cycles) k (now (out .entry)) (now (out .exit)) (readAt (Reading.readEnergies (energiesIn clock)) (now (s .entry)) at) (ofRead r) ⌝ }
+{
+    match clock {
+        Clock::Rates(m) => energy_form(s, at, out, k, m),
+        Clock::Named(chip) => {
+            chips::put_energies(out, k, chip, cycles);
+            Read::Got(0, at)
+        }
+    }
+}
+
+// A task's line, to the list from k on: the period and the cycles are the first words of a task in every layout.
+fn task(s: &[u8], at: usize, out: &mut [u32], k: usize, clock: Clock) -> Read
+    requires { ⌜ Fits clock × (k + taskSize Ordinary (ratesIn clock) ≤ length (now out)) ⌝ }
+    ensures { λ r. ⌜ Gives noValue (wordsBy clock) k (now (out .entry)) (now (out .exit)) (readAt (Reading.readTask (energiesIn clock)) (now (s .entry)) at) (ofRead r) ⌝ }
 {
     let period = scanner::field(s, at, b"(task (period ");
     let Read::Got(p, i) = period else {
@@ -59,18 +207,18 @@ fn task(s: &[u8], at: usize, out: &mut [u32], k: usize, m: usize) -> Read
     let Read::Got(c, i) = cycles else {
         return cycles;
     };
-    let opened = scanner::literal(s, i, b") (energy");
-    let Read::Got(_, i) = opened else {
-        return opened;
+    let closed = scanner::literal(s, i, b")");
+    let Read::Got(_, i) = closed else {
+        return closed;
     };
     let first = k + layout::before_energies(Layout::Ordinary);
-    let energies = numbers(s, i, out, first, m, 0);
-    let Read::Got(_, i) = energies else {
-        return energies;
+    let form = energies(s, i, out, first, clock, c);
+    let Read::Got(_, i) = form else {
+        return form;
     };
     out[k] = p;
     out[k + 1] = c;
-    scanner::literal(s, i, b"))\n")
+    scanner::literal(s, i, b")\n")
 }
 
 // Whether an opening bracket stands at a place.
@@ -83,11 +231,12 @@ fn opens(s: &[u8], at: usize) -> bool
     }
 }
 
-// The tasks, one to 32, to the list, where they stand behind m rates.
-fn tasks(s: &[u8], at: usize, out: &mut [u32], m: usize) -> Read
-    requires { ⌜ (m ≤ mostRates) × (periodPlace Ordinary m mostTasks ≤ length (now out)) ⌝ }
-    ensures { λ r. ⌜ Gives length allWords (tasksPlace Ordinary m) (now (out .entry)) (now (out .exit)) (readAt (Reading.readTasks m) (now (s .entry)) at) r ⌝ }
+// The tasks, one to 32, to the list, where they stand behind the clock's rates.
+fn tasks(s: &[u8], at: usize, out: &mut [u32], clock: Clock) -> Read
+    requires { ⌜ Fits clock × (periodPlace Ordinary (ratesIn clock) mostTasks ≤ length (now out)) ⌝ }
+    ensures { λ r. ⌜ Gives length (joined (wordsBy clock)) (tasksPlace Ordinary (ratesIn clock)) (now (out .entry)) (now (out .exit)) (readAt (Reading.readTasks (energiesIn clock)) (now (s .entry)) at) (ofRead r) ⌝ }
 {
+    let m = rate_count(clock);
     let mut i = at;
     let mut n = 0;
     while n < layout::MOST_TASKS {
@@ -96,7 +245,13 @@ fn tasks(s: &[u8], at: usize, out: &mut [u32], m: usize) -> Read
                 return Read::Got(n as u32, i);
             }
         }
-        let r = task(s, i, out, layout::period_place(Layout::Ordinary, m, n), m);
+        let r = task(
+            s,
+            i,
+            out,
+            layout::period_place(Layout::Ordinary, m, n),
+            clock,
+        );
         let Read::Got(_, j) = r else {
             return r;
         };
@@ -106,42 +261,44 @@ fn tasks(s: &[u8], at: usize, out: &mut [u32], m: usize) -> Read
     Read::Got(n as u32, i)
 }
 
-// A set's words, to the front of the list: how many, and the place after the last line. The first line is read with the
-// bracket that opens the second: the letter behind it is to tell which line that is. A count is known only when what it
-// counts stands in the list, so the words in front of a list are stored after it.
-pub fn read_set(s: &[u8], out: &mut [u32]) -> Read
+// A set's words, to the front of the list: what they are, and the place after the last line. The first line is read
+// with the bracket that opens the second, since the letter behind it tells which line that is. A count is known only
+// when what it counts stands in the list, so the words in front of a list are stored after it.
+pub fn read_set(s: &[u8], out: &mut [u32]) -> SetRead
     requires { ⌜ mostWords ≤ length (now out) ⌝ }
-    ensures { λ r. ⌜ Gives wordCount Text.words 0 (now (out .entry)) (now (out .exit)) (readAt Reading.readScript (now (s .entry)) 0) r ⌝ }
+    ensures { λ r. ⌜ Gives saidOf Text.words 0 (now (out .entry)) (now (out .exit)) (readAt Reading.readScript (now (s .entry)) 0) (ofSet r) ⌝ }
 {
     let head = layout::head_size(Layout::Ordinary);
     let slack = scanner::field(s, 0, b"(slack ");
     let Read::Got(g, i) = slack else {
-        return slack;
+        return SetRead::Bad(scanner::place_of(slack));
     };
     let next = scanner::literal(s, i, b")\n(");
     let Read::Got(_, i) = next else {
-        return next;
+        return SetRead::Bad(scanner::place_of(next));
     };
-    let name = scanner::literal(s, i, b"rates");
-    let Read::Got(_, i) = name else {
-        return name;
-    };
-    let rates = numbers(s, i, out, head + 1, 2, 6);
-    let Read::Got(rate_count, i) = rates else {
-        return rates;
+    let line = clock_line(s, i, out, head + 1);
+    let ClockRead::Got(clock, i) = line else {
+        return SetRead::Bad(place_of(line));
     };
     let end = scanner::literal(s, i, b")\n");
     let Read::Got(_, i) = end else {
-        return end;
+        return SetRead::Bad(scanner::place_of(end));
     };
-    let m = rate_count as usize;
-    let lines = tasks(s, i, out, m);
+    let lines = tasks(s, i, out, clock);
     let Read::Got(task_count, i) = lines else {
-        return lines;
+        return SetRead::Bad(scanner::place_of(lines));
     };
+    let m = rate_count(clock);
     out[layout::task_count_place(Layout::Ordinary, m)] = task_count;
-    out[head] = rate_count;
+    out[head] = m as u32;
     out[layout::SLACK_PLACE] = g;
-    let count = layout::period_place(Layout::Ordinary, m, task_count as usize);
-    Read::Got(count as u32, i)
+    let n = task_count as usize;
+    let said = Said {
+        clock,
+        rates: m,
+        tasks: n,
+        words: layout::period_place(Layout::Ordinary, m, n),
+    };
+    SetRead::Got(said, i)
 }

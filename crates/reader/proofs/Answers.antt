@@ -5,20 +5,19 @@ use mathlib.Core.Path.{_≡_, refl, sym, ap, _∙_}
 use mathlib.Core.List.{List}
 use mathlib.Core.Logic.{inl, inr}
 use native.Mathlib.Omega.{arith}
-use lib.ListN.{length, take, drop, length-append}
-use lib.Seq.{take-at}
+use lib.ListN.{length}
 use borrow.Author.Tests.{eq-eqb, ne-eqb}
+use Rattle.numbers.specs.Numbers.{Lowest}
 use Rattle.taskset.specs.declared.CopyAnswer.the-variants.{Wrote, Refused as NotCopied}
-use Rattle.taskset.specs.declared.Refusal.the-variants.{TextDeparts, TooShort}
+use Rattle.taskset.specs.declared.Refusal.the-variants.{TextDeparts, TooShort, EnergyOver}
 use Rattle.taskset.proofs.Copied.{copied}
 use Rattle.text.specs.Text.{Script, scriptText, ScriptOk, IsTextOf, WellFormed, FirstBad, words}
-use Rattle.text.specs.Calls.{ReaderGives}
+use Rattle.text.specs.Calls.{WorksOut, HasOver, ReaderGives}
 use Rattle.text.proofs.Reading.{Res, got, bad, ended, readScript, readText, readAt}
 use Rattle.text.proofs.Pieces.{Good, no-first-bad}
-use Rattle.text.proofs.Grammar.{script-piece}
-use Rattle.text.proofs.Copies.{is-read, is-refused, one-script}
-use Rattle.taskset.proofs.Writing.{placed, written}
-use Rattle.forms.specs.Forms.{wordCount}
+use Rattle.text.proofs.Grammar.{dom-of, script-piece}
+use Rattle.text.proofs.Copies.{is-read, is-refused, NoneOver, none-refused, takes}
+use Rattle.taskset.proofs.Writing.{placed}
 use Rattle.scanner.proofs.Places.{later-zero}
 
 text-is : (t : List ℕ) → readText t ≡ ended (length t) (readAt readScript t 0)
@@ -54,24 +53,24 @@ module _ (t d : List ℕ) where
     departs-nowhere : IsTextOf s t → (o : ℕ) → FirstBad WellFormed t o → ⊥
     departs-nowhere x o = no-first-bad WellFormed t o (s, x)
 
-    pub too-short : (n : ℕ) → length t ≤ i → wordCount s ≡ n → length d < n → ReaderGives t d d (NotCopied (TooShort n))
-    too-short n h w l =
+    -- An energy that was worked out is over the largest: k is the number that the code found.
+    pub over : (k : ℕ) → length t ≤ i → WorksOut (s .clock) × Lowest (HasOver s) k → ReaderGives t d d (NotCopied (EnergyOver k))
+    over k h o =
         let x = is-text h in
-        (inr (departs-nowhere x, inl (refl, (s, x, (omega arith, sym w)))), refl)
+        (inr (departs-nowhere x, inl (refl, (s, x, o .0, o .1))), refl)
 
-    pub all-written : (n : ℕ) (f : List ℕ) → length t ≤ i → n ≡ wordCount s → wordCount s ≤ length d → f ≡ placed (words s) d → ReaderGives t d f (Wrote n)
+    pub too-short : (n : ℕ) → length t ≤ i → NoneOver s → length (words s) ≡ n → length d < n → ReaderGives t d d (NotCopied (TooShort n))
+    too-short n h none w l =
+        let x = is-text h in
+        (inr (departs-nowhere x, inr (none-refused s t x none, inl (refl, (s, x, (omega arith, sym w))))), refl)
+
+    pub all-written : (n : ℕ) (f : List ℕ) → length t ≤ i → NoneOver s → n ≡ length (words s) → length (words s) ≤ length d → f ≡ placed (words s) d
+        → ReaderGives t d f (Wrote n)
     unfolding placed
-    all-written n f h w l p =
+    all-written n f h none w l p =
         let x = is-text h in
-        let enough : (k : ℕ) → (u : Script) × IsTextOf u t × ((length d < length (words u)) × (k ≡ length (words u))) → ⊥ =
-        λ k b. omega (arith, b .2 .0, ap wordCount (one-script s (b .0) t x (b .1))) in
-        ((departs-nowhere x, (enough, tt)), (s, x, copied (words s) d f n w p))
+        (takes s t (length d) x none l, (s, x, copied (words s) d f n w p))
 
--- The words at the front of the reader's own list.
-pub front : (ws d e : List ℕ) (n : ℕ) → length ws ≡ n → e ≡ written 0 ws d → take n e ≡ ws
-unfolding placed written
-front ws d e n l q = rw q (take-at ws (drop (length ws) d) n l)
-
-pub front-fits : (ws d e : List ℕ) (n : ℕ) → length ws ≡ n → e ≡ written 0 ws d → n ≤ length e
-unfolding placed written
-front-fits ws d e n l q = omega (arith, ap length q ∙ length-append ws (drop (length ws) d))
+-- What was read is a script that a text can say.
+pub is-ok : (t : List ℕ) (s : Script) (i : ℕ) → readAt readScript t 0 ≡ got s i → ScriptOk s
+is-ok t s i e = dom-of script-piece t 0 i s e

@@ -1,6 +1,6 @@
 -- What a class tells of the byte at a place, as the definition of reading tests it.
 -- Assumes nothing.
-use Prim.Native.Nat.{ℕ, _<_}
+use Prim.Native.Nat.{ℕ, _≤_, _<_}
 use mathlib.Core.Path.{_≡_, refl}
 use mathlib.Core.List.{List, [], _∷_}
 use mathlib.Core.Bool.{Bool, true, false}
@@ -72,3 +72,12 @@ module _ (s : List ℕ) (i : ℕ) where
   not-bracket LineEnd e h l a b = omega arith
   not-bracket (Letter x) e h l a b = omega arith
   not-bracket Other e h l a b = e .no-bracket a (omega arith)
+
+  pub not-letter : (c : ℕ) → 97 ≤ c → c ≤ 122 → (r : Class) → Stands r s i → OneOf (0 ∷ 1 ∷ 2 ∷ 3 ∷ 4 ∷ 6 ∷ []) (tagOf enum.the-type r) → Clear c c
+  not-letter c x y End e h l a b = omega arith
+  not-letter c x y (Digit d) e h l a b = omega arith
+  not-letter c x y (Bracket z) e h l a b = omega arith
+  not-letter c x y Space e h l a b = omega arith
+  not-letter c x y LineEnd e h l a b = omega arith
+  not-letter c x y (Letter z) e h l a b = absurd (miss (0 ∷ 1 ∷ 2 ∷ 3 ∷ 4 ∷ 6 ∷ []) 5 tt h)
+  not-letter c x y Other e h l a b = e .no-letter (omega arith) (omega arith)

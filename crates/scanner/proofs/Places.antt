@@ -3,17 +3,16 @@
 use Prim.Native.Nat.{ℕ, _+_, _*_, _^_, _≤_, _<_}
 use mathlib.Core.Path.{_≡_, refl, sym, ap, _∙_}
 use mathlib.Core.List.{List, _∷_}
+use mathlib.Core.Bool.{true, false}
 use native.Mathlib.Omega.{arith}
 use native.Mathlib.Nat.{add-zero, zero-add}
 use native.Mathlib.Numerals.{add-one}
 use lib.ListN.{length, getD, drop, drop-of-length-le}
 use lib.Seq.{drop-cons, drop-drop}
 use borrow.Author.Tests.{eq-eqb, ne-eqb}
-use Rattle.text.proofs.Reading.{Res, got, bad, ext, next, later, mapRes, after, seq, literal, more, number, readAt}
+use Rattle.text.proofs.Reading.{Res, got, bad, ext, next, later, mapRes, mapped, after, seq, literal, more, number, starts, either, readAt}
 use Rattle.text.proofs.Digits.{NoDigit}
-use Rattle.scanner.specs.Steps.{Stands, ofRead}
-use Rattle.scanner.specs.declared.Read.{Read}
-use Rattle.scanner.specs.declared.Read.the-variants.{Got, Bad}
+use Rattle.scanner.specs.Steps.{Stands}
 use Rattle.scanner.specs.declared.Class.the-variants.{Digit}
 use Rattle.text.proofs.Numerals.{more-digit, more-large, first-digit, more-stop, no-number}
 
@@ -37,21 +36,35 @@ pub map-id : {A : Type 0} (x : Res A) → mapRes (λ a. a) x ≡ x
 map-id (got a n) = refl
 map-id (bad o) = refl
 
--- What a callee's answer tells of what it read: f is what the answer shows of it.
-pub record Took {A : Type 0} (f : A → ℕ) (x : Res A) (v i : ℕ) : Type 0 where
+-- What a callee's answer y tells of what it read, x: f is what the answer shows of it.
+pub record Took {A B : Type 0} (f : A → B) (x : Res A) (v : B) (i : ℕ) : Type 0 where
   pub item : A
   pub is : x ≡ got item i
   pub shows : f item ≡ v
 
-pub took : {A : Type 0} (f : A → ℕ) (x : Res A) {r : Read} {v i : ℕ} → ofRead r ≡ mapRes f x → r ≡ Got v i → Took f x v i
-took f (got a j) {r} {v} {i} e q =
-    let h : got v i ≡ got (f a) j = ap ofRead (sym q) ∙ e in
+pub took : {A B : Type 0} (f : A → B) (x : Res A) {y : Res B} {v : B} {i : ℕ} → y ≡ mapRes f x → y ≡ got v i → Took f x v i
+took f (got a j) {y} {v} {i} e q =
+    let h : got v i ≡ got (f a) j = sym q ∙ e in
     record { item = a; is = ap (got a) (ap ext (sym h)); shows = cc }
-took f (bad o) {r} {v} {i} e q = let h : got v i ≡ bad o = ap ofRead (sym q) ∙ e in let z : _≡_ {A = ℕ} 0 1 = cc in absurd (omega arith)
+took f (bad o) {y} {v} {i} e q = let h : got v i ≡ bad o = sym q ∙ e in let z : _≡_ {A = ℕ} 0 1 = cc in absurd (omega arith)
 
-pub lost : {A : Type 0} (f : A → ℕ) (x : Res A) {r : Read} {o : ℕ} → ofRead r ≡ mapRes f x → r ≡ Bad o → x ≡ bad o
-lost f (got a i) {r} {o} e q = let h : bad o ≡ got (f a) i = ap ofRead (sym q) ∙ e in let z : _≡_ {A = ℕ} 0 1 = cc in absurd (omega arith)
-lost f (bad p) {r} {o} e q = let h : bad o ≡ bad p = ap ofRead (sym q) ∙ e in ap bad (ap ext (sym h))
+pub lost : {A B : Type 0} (f : A → B) (x : Res A) {y : Res B} {o : ℕ} → y ≡ mapRes f x → y ≡ bad o → x ≡ bad o
+lost f (got a i) {y} {o} e q = let h : bad o ≡ got (f a) i = sym q ∙ e in let z : _≡_ {A = ℕ} 0 1 = cc in absurd (omega arith)
+lost f (bad p) {y} {o} e q = let h : bad o ≡ bad p = sym q ∙ e in ap bad (ap ext (sym h))
+
+-- One or the other, where the next byte is known; and a value that is turned into another.
+module _ {A : Type 0} (c : ℕ) (p q : List ℕ → Res A) (s : List ℕ) (at : ℕ) where
+  pub either-first : starts c (drop at s) ≡ true → readAt (either c p q) s at ≡ readAt p s at
+  unfolding readAt
+  either-first e = rw e
+
+  pub either-second : starts c (drop at s) ≡ false → readAt (either c p q) s at ≡ readAt q s at
+  unfolding readAt
+  either-second e = rw e
+
+pub map-at : {A B : Type 0} (f : A → B) (p : List ℕ → Res A) (s : List ℕ) (at : ℕ) → readAt (mapped f p) s at ≡ mapRes f (readAt p s at)
+unfolding readAt
+map-at f p s at = later-map f at (p (drop at s))
 
 -- Going on after a piece.
 abbrev pub onward : {A B C : Type 0} → (A → B → C) → (A → List ℕ → Res B) → List ℕ → Res A → Res C

@@ -1,12 +1,13 @@
 // The reader's steps: the class of the next byte, fixed strings, and numbers. Which of them make a text is left to the
 // crates above.
 ghost use mathlib.Core.Path.{_≡_};
+ghost use Prim.Native.Nat.{_≤_};
+ghost use lib.ListN.{drop};
 ghost use Rattle.text.proofs.Reading;
-ghost use Rattle.text.proofs.Reading.{readAt, mapRes};
+ghost use Rattle.text.proofs.Reading.{readAt, mapRes, ext, starts};
 ghost use Rattle.scanner.specs.Steps.{Stands, ofRead, noValue};
 
-// What stands at a place of the text. Nothing looks at a letter yet: it is to tell an optional line from the line that
-// follows.
+// What stands at a place of the text.
 pub enum Class {
     End,
     Digit(u32),
@@ -41,6 +42,27 @@ pub fn step(s: &[u8], at: usize) -> Class
         10..=10 => Class::LineEnd,
         97..=122 => Class::Letter(b),
         _ => Class::Other,
+    }
+}
+
+// Whether a letter stands at a place: it tells two forms apart that may both follow.
+pub fn is_letter(s: &[u8], at: usize, letter: u8) -> bool
+    requires { ⌜ (97 ≤ letter) × (letter ≤ 122) ⌝ }
+    ensures { λ r. ⌜ r ≡ starts letter (drop at (now (s .entry))) ⌝ }
+{
+    match step(s, at) {
+        Class::Letter(b) => b == letter,
+        _ => false,
+    }
+}
+
+// The place that an answer names.
+pub fn place_of(r: Read) -> usize
+    ensures { λ x. ⌜ x ≡ ext (ofRead r) ⌝ }
+{
+    match r {
+        Read::Got(_, i) => i,
+        Read::Bad(o) => o,
     }
 }
 

@@ -5,17 +5,18 @@ use mathlib.Core.Path.{_≡_, refl, sym, ap, _∙_, subst}
 use mathlib.Core.List.{List, [], _∷_, _++_}
 use native.Mathlib.Omega.{arith}
 use lib.ListN.{length, take, drop}
+use Rattle.numbers.specs.Numbers.{Lowest}
 use Rattle.taskset.specs.Refusals.{number, second, IsShort, Passes, Accepts, roomCheck, wordCheck, wordChecks}
 use Rattle.taskset.specs.declared.CopyAnswer.{CopyAnswer}
 use Rattle.taskset.specs.declared.CopyAnswer.the-variants.{Wrote, Refused as NotCopied}
-use Rattle.taskset.proofs.Checks.{AllSingle, accepts-next, passed, not-both, no-word-fault}
+use Rattle.taskset.proofs.Checks.{AllSingle, lowest-single, passed, not-both, no-word-fault}
 use Rattle.layout.proofs.Whole.{IsWhole, whole-of}
 use Rattle.layout.specs.declared.Layout.the-variants.{Ordinary}
 use Rattle.taskset.specs.Calls.{Copied}
 use Rattle.taskset.proofs.Unique.{refusal-unique, short-single, single-next, word-single, copy-unique}
 use Rattle.taskset.proofs.Copied.{SameCopied, copied, front-is, copied-one}
 use Rattle.text.specs.Text.{Script, scriptText, IsTextOf, WellFormed, FirstBad, words, scriptOf}
-use Rattle.text.specs.Calls.{formCheck, wordsCheck, readerChecks, ReaderGives, writerChecks, WriterGives}
+use Rattle.text.specs.Calls.{WorksOut, HasOver, energyCheck, wordsCheck, readerChecks, ReaderGives, writerChecks, WriterGives}
 use Rattle.text.proofs.Reading.{Res, got, bad, readText}
 use Rattle.text.proofs.Pieces.{first-bad-one, no-first-bad}
 use Rattle.text.proofs.Grammar.{Answer, read-render, read-right}
@@ -42,11 +43,20 @@ refuses t o h = go (readText t) (read-right t)
 pub one-script : (s r : Script) (t : List ℕ) → IsTextOf s t → IsTextOf r t → s ≡ r
 one-script s r t h k = let e : got s (length t) ≡ got r (length t) = sym (reads s t h) ∙ reads r t k in cc
 
--- A script's text is taken wherever the list lent has room for its words.
-pub takes : (s : Script) (t : List ℕ) (lent : ℕ) → IsTextOf s t → length (words s) ≤ lent → Accepts (readerChecks t lent)
-takes s t lent is room =
-    accepts-next (formCheck t ∷ []) (wordsCheck t lent) ((λ o h. no-first-bad WellFormed t o (s, is) h), tt)
-    (λ k h. omega (arith, h .2 .0, ap (λ (r : Script). length (words r)) (one-script (h .0) s t (h .1) is)))
+-- No energy that is worked out for a script is over the largest.
+abbrev pub NoneOver : Script → Type 0
+NoneOver s = WorksOut (s .clock) → (k : ℕ) → HasOver s k → ⊥
+
+pub none-refused : (s : Script) (t : List ℕ) → IsTextOf s t → NoneOver s → Passes (energyCheck t)
+none-refused s t is none k h =
+    let same : h .0 ≡ s = one-script (h .0) s t (h .1) is in
+    none (subst (λ (r : Script). WorksOut (r .clock)) same (h .2)) k (subst (λ (r : Script). HasOver r k) same (h .3 .here))
+
+-- A script's text is taken wherever none is and the list lent has room for its words.
+pub takes : (s : Script) (t : List ℕ) (lent : ℕ) → IsTextOf s t → NoneOver s → length (words s) ≤ lent → Accepts (readerChecks t lent)
+takes s t lent is none room =
+    let short : Passes (wordsCheck t lent) = λ k h. omega (arith, h .2 .0, ap (λ (r : Script). length (words r)) (one-script (h .0) s t (h .1) is)) in
+    ((λ o h. no-first-bad WellFormed t o (s, is) h), (none-refused s t is none, (short, tt)))
 
 -- A list that passes check 2 has a text, which says its words.
 module _ (s : List ℕ) (pass : Passes (wordCheck Ordinary s)) where
@@ -61,8 +71,13 @@ module _ (s : List ℕ) (pass : Passes (wordCheck Ordinary s)) where
 
 -- ---- each answer is one
 pub reader-single : (t : List ℕ) (lent : ℕ) → AllSingle (readerChecks t lent)
-reader-single t lent = (first-bad-one WellFormed t, (short, tt))
+reader-single t lent = (first-bad-one WellFormed t, (over, (short, tt)))
   where
+    over : (j k : ℕ) → (s : Script) × IsTextOf s t × WorksOut (s .clock) × Lowest (HasOver s) j
+        → (s : Script) × IsTextOf s t × WorksOut (s .clock) × Lowest (HasOver s) k → j ≡ k
+    over j k x y =
+        lowest-single j k (subst (λ (s : Script). Lowest (HasOver s) j) (one-script (x .0) (y .0) t (x .1) (y .1)) (x .3)) (y .3)
+
     short : (j k : ℕ) → (s : Script) × IsTextOf s t × IsShort (length (words s)) lent j
         → (s : Script) × IsTextOf s t × IsShort (length (words s)) lent k → j ≡ k
     short j k x y = x .2 .1 ∙ ap (λ (s : Script). length (words s)) (one-script (x .0) (y .0) t (x .1) (y .1)) ∙ sym (y .2 .1)
@@ -95,10 +110,11 @@ module _ (s d d′ e : List ℕ) (n : ℕ) (wrote : WriterGives s d d′ (Wrote 
 
   -- The list that was written, all of it, is what the reader may answer.
   back : ReaderGives (take n d′) e (s ++ drop (length s) e) (Wrote (length s))
+  unfolding scriptOf
   back =
       let is : IsTextOf (scriptOf s) (take n d′) = rw written (list-text s passes) in
       let same : words (scriptOf s) ≡ s = list-words s passes in (
-        takes (scriptOf s) (take n d′) (length e) is (rw same room),
+        takes (scriptOf s) (take n d′) (length e) is (λ w. absurd w) (rw same room),
         (scriptOf s, is, rw same (copied s e (s ++ drop (length s) e) (length s) refl refl)),
       )
 

@@ -1,20 +1,24 @@
 -- The reader of a script is right for the texts of scripts; so what it answers of a whole text is what the definitions
 -- say.
 -- Assumes nothing.
-use Prim.Native.Nat.{ℕ, zero, suc, _+_}
-use mathlib.Core.Path.{_≡_, refl, subst}
+use Prim.Native.Nat.{ℕ, zero, suc, _+_, _≤_}
+use mathlib.Core.Path.{_≡_, refl, sym, _∙_, subst}
 use mathlib.Core.List.{List, [], _∷_, _++_}
-use mathlib.Core.Bool.{false}
+use mathlib.Core.Bool.{true, false}
+use mathlib.Core.Logic.{_⊎_, inl, inr}
 use native.Mathlib.Omega.{arith}
 use native.Mathlib.Nat.{add-zero}
 use lib.ListN.{length, drop}
 use Rattle.numbers.specs.Numbers.{All, joined}
-use Rattle.text.specs.Text.{TaskLine, Script, bytes, decimal, spaced, taskText, scriptText}
-use Rattle.text.specs.Text.{Word, Between, TaskLineOk, ScriptOk, IsTextOf, WellFormed, FirstBad}
+use Rattle.chips.specs.declared.Chip.{Chip}
+use Rattle.chips.specs.declared.Chip.the-variants.{Xscale, Ppc405lp}
+use Rattle.text.specs.Text.{TaskLine, Clock, rates, chip, Script, bytes, decimal, spaced, energyText, taskText, chipName, clockText, scriptText}
+use Rattle.text.specs.Text.{Word, Between, ClockOk, energyCount, TaskLineOk, ScriptOk, IsTextOf, WellFormed, FirstBad}
 use Rattle.text.proofs.Reading.{Res, got, bad, later, seq, skip, upTo, field, numbers, starts, both}
-use Rattle.text.proofs.Reading.{mkTask, mkScript, readTask, readTasks, moreTasks, readScript, readText, readAt}
+use Rattle.text.proofs.Reading.{mkTask, mkScript, readEnergies, readTask, readTasks, moreTasks, readName, readChip, readClock, readScript, readText, readAt}
 use Rattle.text.proofs.Pieces.{Good, Piece, seq-piece, Form, Right, whole-exact, whole-right, first-bad-same}
 use Rattle.text.proofs.Literals.{literal-piece, Any}
+use Rattle.text.proofs.Branches.{map-piece, either-piece}
 use Rattle.text.proofs.Digits.{NoDigit}
 use Rattle.text.proofs.Numerals.{number-piece}
 use Rattle.text.proofs.Repeats.{many-piece}
@@ -32,6 +36,19 @@ pub end-piece : {A : Type 0} {text : A → List ℕ} {Dom : A → Type 0} {F : L
 end-piece {text = text} {Dom = Dom} l f P =
     seq-piece (λ a _. a) (λ a. text a ++ l) Dom P (λ _ _. literal-piece l)
     (λ a b. refl) (λ a b d _. d) (λ a d. (a, tt, d, tt, refl)) (λ _ _. (tt, tt)) (λ a b r _ _ _. f r)
+
+-- the same texts by another function
+renamed : {A : Type 0} {textA : A → List ℕ} {Dom : A → Type 0} {F : List ℕ → Type 0} {rd : List ℕ → Res A} (text : A → List ℕ)
+    → ((a : A) → Dom a → text a ≡ textA a) → Piece textA Dom F rd → Piece text Dom F rd
+renamed {A} {textA} {Dom} {F} {rd} text same P = record {
+  exact = λ a d r f. rw (same a d) (P .exact a d r f);
+  good = λ t. go t (rd t) (P .good t);
+  local = P .local;
+}
+  where
+    go : (t : List ℕ) (x : Res A) → Good textA Dom t x → Good text Dom t x
+    go t (got a n) g = (g .0, g .1, g .2 ∙ sym (same a (g .0)))
+    go t (bad o) g = (g .0, (g .1 .0, g .1 .1, g .1 .2, g .1 .3 ∙ sym (same (g .1 .0) (g .1 .1))))
 
 pub field-piece : (l : List ℕ) → Piece (λ v. l ++ decimal v) Word NoDigit (field l)
 field-piece l = skip-piece l (0, omega arith) number-piece
@@ -51,18 +68,37 @@ zeros : (m : ℕ) → (xs : List ℕ) × Between Word m m xs
 zeros zero = ([], record { least = omega arith; most = omega arith; each = tt })
 zeros (suc m) = let r = zeros m in (0 ∷ r .0, record { least = omega (arith, r .1 .least); most = omega (arith, r .1 .most); each = (omega arith, r .1 .each) })
 
+-- A line that has energies has the energy form.
+pub energy-form : (es : List ℕ) → 1 ≤ length es → energyText es ≡ bytes " (energy" ++ (joined spaced es ++ bytes ")")
+energy-form [] h = absurd (omega arith)
+energy-form (e ∷ es) h = refl
+
 module _ (m : ℕ) where
   some-task : (t : TaskLine) × TaskLineOk m t
   some-task = let z = zeros m in (record { period = 0; cycles = 0; energies = z .0 }, record { period = omega arith; cycles = omega arith; energies = z .1 })
 
-  energies-piece : Piece (λ es. bytes ") (energy" ++ (joined spaced es ++ bytes "))\n")) (Between Word m m) Any
-      (skip (bytes ") (energy") (upTo (numbers m 0) (bytes "))\n")))
-  energies-piece = skip-piece (bytes ") (energy") (zeros m) (end-piece (bytes "))\n") (λ r. (refl, refl)) (rw add-zero at (numbers-piece m 0)))
+  energies-piece : Piece energyText (Between Word m m) Any (readEnergies m)
+  energies-piece = of-count m
+    where
+      none : (es : List ℕ) → Between Word 0 0 es → (r : List ℕ) → Any r → got [] 0 ≡ got es (length (energyText es))
+      none [] d r f = refl
+      none (e ∷ es) d r f = absurd (omega (arith, d .most))
 
-  cycles-piece : Piece (λ (x : ℕ × List ℕ). bytes ") (cycles " ++ (decimal (x .0) ++ (bytes ") (energy" ++ (joined spaced (x .1) ++ bytes "))\n"))))
-      (λ x. Word (x .0) × Between Word m m (x .1)) Any (seq both (field (bytes ") (cycles ")) (λ _. skip (bytes ") (energy") (upTo (numbers m 0) (bytes "))\n"))))
+      of-count : (m : ℕ) → Piece energyText (Between Word m m) Any (readEnergies m)
+      of-count zero = record {
+        exact = none;
+        good = λ t. (record { least = omega arith; most = omega arith; each = tt }, omega arith, refl);
+        local = λ t u lt same. refl;
+      }
+      of-count (suc m) =
+          renamed energyText (λ es d. energy-form es (omega (arith, d .least)))
+          (skip-piece (bytes " (energy") (zeros (suc m))
+          (end-piece (bytes ")") (λ r. (refl, refl)) (rw add-zero at (numbers-piece (suc m) 0))))
+
+  cycles-piece : Piece (λ (x : ℕ × List ℕ). bytes ") (cycles " ++ (decimal (x .0) ++ (bytes ")" ++ (energyText (x .1) ++ bytes ")\n"))))
+      (λ x. Word (x .0) × Between Word m m (x .1)) Any (seq both (field (bytes ") (cycles ")) (λ _. skip (bytes ")") (upTo (readEnergies m) (bytes ")\n"))))
   cycles-piece =
-      seq-piece both _ _ (field-piece (bytes ") (cycles ")) (λ _ _. energies-piece)
+      seq-piece both _ _ (field-piece (bytes ") (cycles ")) (λ _ _. skip-piece (bytes ")") (zeros m) (end-piece (bytes ")\n") (λ r. tt) energies-piece))
       (λ a b. refl) (λ a b d e. (d, e)) (λ x d. (x .0, x .1, d .0, d .1, refl)) (λ _ _. zeros m) (λ a b r _ _ _. refl)
 
   pub task-piece : Piece taskText (TaskLineOk m) Any (readTask m)
@@ -84,26 +120,86 @@ module _ (m : ℕ) where
 two : Between Word 2 8 (0 ∷ 0 ∷ [])
 two = record { least = omega arith; most = omega arith; each = (omega arith, (omega arith, tt)) }
 
-rates-piece : Piece (λ (x : List ℕ × List TaskLine). bytes ")\n(rates" ++ (joined spaced (x .0) ++ (bytes ")\n" ++ joined taskText (x .1))))
-    (λ x. Between Word 2 8 (x .0) × Between (TaskLineOk (length (x .0))) 1 32 (x .1)) (λ r. starts 40 r ≡ false)
-    (seq both (skip (bytes ")\n(") (skip (bytes "rates") (numbers 2 6))) (λ rs. skip (bytes ")\n") (readTasks (length rs))))
-rates-piece =
+-- the name of a chip, and a chip's name
+abbrev Is : Chip → Chip → Type 0
+Is c d = d ≡ c
+
+name-piece : (c : Chip) → Piece chipName (Is c) Any (readName c)
+name-piece c =
+    map-piece (λ _. c) chipName (Is c) (literal-piece (chipName c)) (λ a. refl) (λ a d. refl) (λ d e. (tt, tt, sym e))
+
+chip-piece : Piece chipName Any Any readChip
+chip-piece =
+    either-piece chipName Any 120 (name-piece Xscale) (name-piece Ppc405lp) (λ c e. tt) (λ c e. tt) which
+    (λ c e r. rw e) (λ c e r f. rw e)
+  where
+    which : (c : Chip) → Any c → Is Xscale c ⊎ Is Ppc405lp c
+    which Xscale d = inl refl
+    which Ppc405lp d = inr refl
+
+-- a line of rates, and a chip's line
+abbrev OfRates : Clock → Type 0
+OfRates (rates fs) = Between Word 2 8 fs
+OfRates (chip c) = ⊥
+
+abbrev OfChip : Clock → Type 0
+OfChip (rates fs) = ⊥
+OfChip (chip c) = Unit {0}
+
+pub clock-piece : Piece clockText ClockOk NoItem readClock
+clock-piece =
+    either-piece clockText ClockOk 99
+    (map-piece chip clockText OfChip (follows (skip-piece (bytes "chip ") (Xscale, tt) chip-piece)) (λ c. refl) (λ c d. tt) chip-part)
+    (map-piece rates clockText OfRates (skip-piece (bytes "rates") (0 ∷ 0 ∷ [], two) (numbers-piece 2 6)) (λ fs. refl) (λ fs d. d) rates-part)
+    from-chip from-rates which chip-begins rates-begin
+  where
+    follows : {A : Type 0} {text : A → List ℕ} {Dom : A → Type 0} {read : List ℕ → Res A} → Piece text Dom Any read → Piece text Dom NoItem read
+    follows P = record { exact = λ a d r f. P .exact a d r tt; good = P .good; local = P .local }
+
+    chip-part : (k : Clock) → OfChip k → (c : Chip) × Any c × (chip c ≡ k)
+    chip-part (rates fs) d = absurd d
+    chip-part (chip c) d = (c, tt, refl)
+
+    rates-part : (k : Clock) → OfRates k → (fs : List ℕ) × Between Word 2 8 fs × (rates fs ≡ k)
+    rates-part (rates fs) d = (fs, d, refl)
+    rates-part (chip c) d = absurd d
+
+    from-chip : (k : Clock) → OfChip k → ClockOk k
+    from-chip (rates fs) d = absurd d
+    from-chip (chip c) d = tt
+
+    from-rates : (k : Clock) → OfRates k → ClockOk k
+    from-rates (rates fs) d = d
+    from-rates (chip c) d = absurd d
+
+    which : (k : Clock) → ClockOk k → OfChip k ⊎ OfRates k
+    which (rates fs) d = inr d
+    which (chip c) d = inl tt
+
+    chip-begins : (k : Clock) → OfChip k → (r : List ℕ) → starts 99 (clockText k ++ r) ≡ true
+    chip-begins (rates fs) d r = absurd d
+    chip-begins (chip c) d r = refl
+
+    rates-begin : (k : Clock) → OfRates k → (r : List ℕ) → NoItem r → starts 99 (clockText k ++ r) ≡ false
+    rates-begin (rates fs) d r f = refl
+    rates-begin (chip c) d r f = absurd d
+
+behind-slack : Piece (λ (x : Clock × List TaskLine). bytes ")\n(" ++ (clockText (x .0) ++ (bytes ")\n" ++ joined taskText (x .1))))
+    (λ x. ClockOk (x .0) × Between (TaskLineOk (energyCount (x .0))) 1 32 (x .1)) (λ r. starts 40 r ≡ false)
+    (seq both (skip (bytes ")\n(") readClock) (λ k. skip (bytes ")\n") (readTasks (energyCount k))))
+behind-slack =
     seq-piece both _ _
-    (skip-piece (bytes ")\n(") (0 ∷ 0 ∷ [], two) (skip-piece (bytes "rates") (0 ∷ 0 ∷ [], two) (numbers-piece 2 6)))
-    (λ rs d. skip-piece (bytes ")\n") (some-tasks (length rs)) (tasks-piece (length rs)))
-    (λ a b. refl) (λ a b d e. (d, e)) (λ x d. (x .0, x .1, d .0, d .1, refl)) (λ rs _. some-tasks (length rs)) (λ a b r _ _ _. (refl, refl))
+    (skip-piece (bytes ")\n(") (chip Xscale, tt) clock-piece)
+    (λ k d. skip-piece (bytes ")\n") (some-tasks (energyCount k)) (tasks-piece (energyCount k)))
+    (λ a b. refl) (λ a b d e. (d, e)) (λ x d. (x .0, x .1, d .0, d .1, refl)) (λ k _. some-tasks (energyCount k)) (λ a b r _ _ _. (refl, refl))
 
 pub script-piece : Piece scriptText ScriptOk (λ r. starts 40 r ≡ false) readScript
 script-piece =
-    seq-piece mkScript scriptText ScriptOk (field-piece (bytes "(slack ")) (λ _ _. rates-piece)
+    seq-piece mkScript scriptText ScriptOk (field-piece (bytes "(slack ")) (λ _ _. behind-slack)
     (λ a b. refl)
-    (λ a b d e. record {
-      slack = d;
-      rates = record { least = e .0 .least; most = omega (arith, e .0 .most); each = e .0 .each };
-      tasks = record { least = e .1 .least; most = omega (arith, e .1 .most); each = e .1 .each };
-    })
-    (λ s d. (s .slack, (s .rates, s .tasks), d .slack, (d .rates, d .tasks), refl))
-    (λ _ _. let t = some-tasks 2 in ((0 ∷ 0 ∷ [], t .0), (two, t .1))) (λ a b r _ _ _. refl)
+    (λ a b d e. record { slack = d; clock = e .0; tasks = e .1 })
+    (λ s d. (s .slack, (s .clock, s .tasks), d .slack, (d .clock, d .tasks), refl))
+    (λ _ _. let t = some-tasks 0 in ((chip Xscale, t .0), (tt, t .1))) (λ a b r _ _ _. refl)
 
 -- a script's text is read as that script
 pub read-render : (s : Script) → ScriptOk s → readText (scriptText s) ≡ got s (length (scriptText s))

@@ -1,6 +1,7 @@
 pub mod Reading
 pub mod Pieces
 pub mod Literals
+pub mod Branches
 pub mod Digits
 pub mod Numerals
 pub mod Repeats

@@ -8,7 +8,9 @@ use mathlib.Core.Bool.{Bool, false, cond}
 use lib.ListN.{length, drop}
 use lib.Dec.{ltb, eqb}
 use Rattle.numbers.specs.Numbers.{between}
-use Rattle.text.specs.Text.{bytes, TaskLine, Script}
+use Rattle.chips.specs.declared.Chip.{Chip}
+use Rattle.chips.specs.declared.Chip.the-variants.{Xscale, Ppc405lp}
+use Rattle.text.specs.Text.{bytes, TaskLine, Clock, rates, chip, Script, chipName, energyCount}
 
 -- a value and how many bytes it took, or the offset of the first byte that departs
 pub data Res (A : Type 0) : Type 0 where
@@ -31,6 +33,9 @@ later k (bad o) = bad (k + o)
 abbrev pub mapRes : {A B : Type 0} → (A → B) → Res A → Res B
 mapRes f (got a n) = got (f a) n
 mapRes f (bad o) = bad o
+
+abbrev pub mapped : {A B : Type 0} → (A → B) → (List ℕ → Res A) → List ℕ → Res B
+mapped f p t = mapRes f (p t)
 
 -- a piece, and then a piece that may depend on its value
 abbrev pub after : {A B C : Type 0} → (A → B → C) → List ℕ → (A → List ℕ → Res B) → Res A → Res C
@@ -76,10 +81,18 @@ abbrev pub starts : ℕ → List ℕ → Bool
 starts c [] = false
 starts c (b ∷ t) = eqb b c
 
+-- a piece that starts with the byte c, or else another
+abbrev pub either : {A : Type 0} → ℕ → (List ℕ → Res A) → (List ℕ → Res A) → List ℕ → Res A
+either c p q t = cond (starts c t) (p t) (q t)
+
+-- nothing, whatever stands there
+abbrev pub nothing : {A : Type 0} → List ℕ → Res (List A)
+nothing t = got [] 0
+
 -- at least low and at most low + spare items, each of which starts with the byte c
 unfoldable pub many : {A : Type 0} → (List ℕ → Res A) → ℕ → ℕ → ℕ → List ℕ → Res (List A)
-many p c zero zero t = got [] 0
-many p c zero (suc k) t = cond (starts c t) (seq _∷_ p (λ _. many p c zero k) t) (got [] 0)
+many p c zero zero t = nothing t
+many p c zero (suc k) t = either c (seq _∷_ p (λ _. many p c zero k)) nothing t
 many p c (suc m) k t = seq _∷_ p (λ _. many p c m k) t
 
 -- a fixed string and a number
@@ -93,17 +106,22 @@ numbers = many (field (bytes " ")) 32
 abbrev pub mkTask : ℕ → ℕ × List ℕ → TaskLine
 mkTask p r = record { period = p; cycles = r .0; energies = r .1 }
 
-abbrev pub mkScript : ℕ → List ℕ × List TaskLine → Script
-mkScript g r = record { slack = g; rates = r .0; tasks = r .1 }
+abbrev pub mkScript : ℕ → Clock × List TaskLine → Script
+mkScript g r = record { slack = g; clock = r .0; tasks = r .1 }
 
 abbrev pub both : {A B : Type 0} → A → B → A × B
 both a b = (a, b)
+
+-- the energy form of a line that has m energies
+abbrev pub readEnergies : ℕ → List ℕ → Res (List ℕ)
+readEnergies zero = nothing
+readEnergies (suc m) = skip (bytes " (energy") (upTo (numbers (suc m) 0) (bytes ")"))
 
 abbrev pub readTask : ℕ → List ℕ → Res TaskLine
 readTask m =
     seq mkTask (field (bytes "(task (period "))
     (λ _. seq both (field (bytes ") (cycles "))
-    (λ _. skip (bytes ") (energy") (upTo (numbers m 0) (bytes "))\n"))))
+    (λ _. skip (bytes ")") (upTo (readEnergies m) (bytes ")\n"))))
 
 abbrev pub moreTasks : ℕ → List ℕ → Res (List TaskLine)
 moreTasks m = many (readTask m) 40 0 31
@@ -111,11 +129,22 @@ moreTasks m = many (readTask m) 40 0 31
 abbrev pub readTasks : ℕ → List ℕ → Res (List TaskLine)
 readTasks m = many (readTask m) 40 1 31
 
+-- the name of a chip: an x begins the one
+abbrev pub readName : Chip → List ℕ → Res Chip
+readName c = mapped (λ _. c) (literal (chipName c))
+
+abbrev pub readChip : List ℕ → Res Chip
+readChip = either 120 (readName Xscale) (readName Ppc405lp)
+
+-- what stands behind the slack's line: a c begins the name of the chip's line
+abbrev pub readClock : List ℕ → Res Clock
+readClock = either 99 (mapped chip (skip (bytes "chip ") readChip)) (mapped rates (skip (bytes "rates") (numbers 2 6)))
+
 abbrev pub readScript : List ℕ → Res Script
 readScript =
     seq mkScript (field (bytes "(slack "))
-    (λ _. seq both (skip (bytes ")\n(") (skip (bytes "rates") (numbers 2 6)))
-    (λ rs. skip (bytes ")\n") (readTasks (length rs))))
+    (λ _. seq both (skip (bytes ")\n(") readClock)
+    (λ k. skip (bytes ")\n") (readTasks (energyCount k))))
 
 -- all of a text: nothing may follow
 abbrev pub ended : {A : Type 0} → ℕ → Res A → Res A

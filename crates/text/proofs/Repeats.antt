@@ -1,18 +1,18 @@
 -- The reader of a list of items is right for lists of so many.
 -- Assumes nothing.
-use Prim.Native.Nat.{ℕ, zero, suc, _+_, _≤_, _<_}
+use Prim.Native.Nat.{ℕ, zero, suc, _+_, _≤_}
 use mathlib.Core.Path.{_≡_, refl, ap}
 use mathlib.Core.List.{List, [], _∷_, _++_, append-assoc}
-use mathlib.Core.Bool.{Bool, true, false, cond}
+use mathlib.Core.Bool.{true, false}
+use mathlib.Core.Logic.{_⊎_, inl, inr}
 use native.Mathlib.Omega.{arith}
 use native.Mathlib.Nat.{zero-add, suc-add}
-use lib.ListN.{length, take}
-use lib.Dec.{eqb}
+use lib.ListN.{length}
 use Rattle.numbers.specs.Numbers.{All, joined}
 use Rattle.text.specs.Text.{Between}
-use Rattle.text.proofs.Reading.{Res, got, bad, ext, seq, many, starts}
-use Rattle.text.proofs.Pieces.{Good, LocalAt, Piece, seq-piece}
-use Rattle.text.proofs.Literals.{same-head}
+use Rattle.text.proofs.Reading.{Res, got, seq, many, starts, either, nothing}
+use Rattle.text.proofs.Pieces.{Piece, seq-piece}
+use Rattle.text.proofs.Branches.{either-piece}
 
 module _ {A : Type 0} {textI : A → List ℕ} {DomI : A → Type 0} {FI : List ℕ → Type 0} {readI : List ℕ → Res A} (I : Piece textI DomI FI readI)
     (c : ℕ) (F : List ℕ → Type 0)
@@ -39,7 +39,7 @@ module _ {A : Type 0} {textI : A → List ℕ} {DomI : A → Type 0} {FI : List 
       parts [] d = absurd (omega (arith, d .least))
       parts (x ∷ xs) d = (x, xs, d .each .0, record { least = omega (arith, d .least); most = omega (arith, d .most); each = d .each .1 }, refl)
 
-  none-piece : Piece (joined textI) (Between DomI 0 0) F (λ _. got [] 0)
+  none-piece : Piece (joined textI) (Between DomI 0 0) F nothing
   none-piece = record {
     exact = none;
     good = λ t. (record { least = omega arith; most = omega arith; each = tt }, omega arith, refl);
@@ -52,41 +52,24 @@ module _ {A : Type 0} {textI : A → List ℕ} {DomI : A → Type 0} {FI : List 
 
   -- an item and then a list, or nothing
   more-piece : (n : ℕ) (rd : List ℕ → Res (List A)) → Piece (joined textI) (Between DomI 1 n) F rd
-      → Piece (joined textI) (Between DomI 0 n) F (λ t. cond (starts c t) (rd t) (got [] 0))
-  more-piece n rd R = record { exact = exact; good = good; local = local }
+      → Piece (joined textI) (Between DomI 0 n) F (either c rd nothing)
+  more-piece n rd R =
+      either-piece (joined textI) (Between DomI 0 n) c R none-piece
+      (λ xs d. record { least = omega arith; most = d .most; each = d .each })
+      (λ xs d. record { least = omega arith; most = omega (arith, d .most); each = d .each })
+      which begins ends
     where
-      exact : (xs : List A) → Between DomI 0 n xs → (r : List ℕ) → F r
-          → cond (starts c (joined textI xs ++ r)) (rd (joined textI xs ++ r)) (got [] 0) ≡ got xs (length (joined textI xs))
-      exact [] d r f = rw (other r f)
-      exact (x ∷ xs) d r f =
-          let s : starts c (textI x ++ joined textI xs ++ r) ≡ true = rw append-assoc (head x (d .each .0) (joined textI xs ++ r)) in
-          rw (s, R .exact (x ∷ xs) (record { least = omega arith; most = d .most; each = d .each }) r f)
+      which : (xs : List A) → Between DomI 0 n xs → Between DomI 1 n xs ⊎ Between DomI 0 0 xs
+      which [] d = inr (record { least = omega arith; most = omega arith; each = tt })
+      which (x ∷ xs) d = inl (record { least = omega arith; most = d .most; each = d .each })
 
-      wider : (t : List ℕ) (x : Res (List A)) → Good (joined textI) (Between DomI 1 n) t x → Good (joined textI) (Between DomI 0 n) t x
-      wider t (got xs k) g = (record { least = omega arith; most = g .0 .most; each = g .0 .each }, g .1, g .2)
-      wider t (bad o) g = (g .0, (g .1 .0, record { least = omega arith; most = g .1 .1 .most; each = g .1 .1 .each }, g .1 .2, g .1 .3))
+      begins : (xs : List A) → Between DomI 1 n xs → (r : List ℕ) → starts c (joined textI xs ++ r) ≡ true
+      begins [] d r = absurd (omega (arith, d .least))
+      begins (x ∷ xs) d r = rw append-assoc (head x (d .each .0) (joined textI xs ++ r))
 
-      good : (t : List ℕ) → Good (joined textI) (Between DomI 0 n) t (cond (starts c t) (rd t) (got [] 0))
-      good t = go (starts c t)
-        where
-          go : (z : Bool) → Good (joined textI) (Between DomI 0 n) t (cond z (rd t) (got [] 0))
-          go true = wider t (rd t) (R .good t)
-          go false = (record { least = omega arith; most = omega arith; each = tt }, omega arith, refl)
-
-      local : (t : List ℕ) → LocalAt (λ t. cond (starts c t) (rd t) (got [] 0)) t
-      local [] = λ u lt same. absurd (omega arith)
-      local (b ∷ t) = go (eqb b c) refl
-        where
-          go : (z : Bool) → eqb b c ≡ z → LocalAt (λ t. cond (starts c t) (rd t) (got [] 0)) (b ∷ t)
-          go z e u lt same =
-              let h = same-head b (ext (cond (eqb b c) (rd (b ∷ t)) (got [] 0))) t u same in
-              rw (h .1) (go2 z e (h .0) lt (rw (h .1) at same))
-            where
-              go2 : (z : Bool) → eqb b c ≡ z → (v : List ℕ) → ext (cond (eqb b c) (rd (b ∷ t)) (got [] 0)) < suc (length t)
-                  → take (suc (ext (cond (eqb b c) (rd (b ∷ t)) (got [] 0)))) (b ∷ v) ≡ take (suc (ext (cond (eqb b c) (rd (b ∷ t)) (got [] 0)))) (b ∷ t)
-                  → cond (eqb b c) (rd (b ∷ v)) (got [] 0) ≡ cond (eqb b c) (rd (b ∷ t)) (got [] 0)
-              go2 true e v lt same = rw e (R .local (b ∷ t) (b ∷ v) (rw e at lt) (rw e at same))
-              go2 false e v lt same = rw e
+      ends : (xs : List A) → Between DomI 0 0 xs → (r : List ℕ) → F r → starts c (joined textI xs ++ r) ≡ false
+      ends [] d r f = other r f
+      ends (x ∷ xs) d r f = absurd (omega (arith, d .most))
 
   pub many-piece : (m k : ℕ) → Piece (joined textI) (Between DomI m (m + k)) F (many readI c m k)
   unfolding many

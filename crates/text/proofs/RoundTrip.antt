@@ -12,7 +12,7 @@ use Rattle.numbers.proofs.Lists.{each-length, each-all}
 use Rattle.layout.specs.Words.{headKinds, extraKinds, headSize, extraSize, word, slack, rateCount, taskCountPlace, taskCount, taskSize, periodPlace, rate, energy}
 use Rattle.layout.proofs.Whole.{IsWhole, in-list, slack-in}
 use Rattle.layout.specs.declared.Layout.the-variants.{Ordinary}
-use Rattle.text.specs.Text.{Word, TaskLineOk, ScriptOk, headWords, extraWords, taskWords, words, lineOf, scriptOf}
+use Rattle.text.specs.Text.{rates, Word, TaskLineOk, ScriptOk, headWords, extraWords, taskWords, words, listRates, lineOf, scriptOf}
 
 -- Words that stand in a row of a list, and what follows them.
 module _ (s : List ℕ) (f : ℕ → ℕ) (p : ℕ) (stands : (j : ℕ) → f j ≡ word s (p + j)) where
@@ -49,6 +49,10 @@ module _ (s : List ℕ) (w : IsWhole Ordinary s) where
   unfolding extraKinds
   extra-words t = refl
 
+  -- A task's words, of a script that has a line of rates.
+  abbrev lineWords : ℕ → List ℕ
+  lineWords t = taskWords (rates (listRates s)) (lineOf s t)
+
   energies-words : (t : ℕ) → t < n → each (energy Ordinary s t) 1 m ++ drop (place (suc t)) s ≡ drop (place t + 2 + extraSize Ordinary) s
   energies-words t h =
       let end : place (suc t) ≡ place t + (1 + extraSize Ordinary) + 1 + m = omega (arith, after-place t) in
@@ -71,7 +75,7 @@ module _ (s : List ℕ) (w : IsWhole Ordinary s) where
       (omega (arith, in-list Ordinary s w t (1 + extraSize Ordinary + m) h (omega arith))) ∙
       ap (λ (k : ℕ). drop k s) two
 
-  line-words : (t : ℕ) → t < n → taskWords (lineOf s t) ++ drop (place (suc t)) s ≡ drop (place t) s
+  line-words : (t : ℕ) → t < n → lineWords t ++ drop (place (suc t)) s ≡ drop (place t) s
   line-words t h =
       let last : place t + (1 + extraSize Ordinary + m) < length s = in-list Ordinary s w t (1 + extraSize Ordinary + m) h (omega arith) in
       let one : place t + 1 ≡ suc (place t) = omega arith in
@@ -79,18 +83,18 @@ module _ (s : List ℕ) (w : IsWhole Ordinary s) where
       ap (λ (k : ℕ). word s (place t) ∷ word s k ∷ drop (suc (suc (place t))) s) one ∙
       sym (drop-cons s (place t) 0 (omega arith) ∙ ap (λ (l : List ℕ). word s (place t) ∷ l) (drop-cons s (suc (place t)) 0 (omega arith)))
 
-  lines-words : (t k : ℕ) → t + k ≤ n → joined taskWords (each (lineOf s) t k) ++ drop (place (t + k)) s ≡ drop (place t) s
+  lines-words : (t k : ℕ) → t + k ≤ n → joined (taskWords (rates (listRates s))) (each (lineOf s) t k) ++ drop (place (t + k)) s ≡ drop (place t) s
   lines-words t zero h = ap (λ (j : ℕ). drop (place j) s) (add-zero t)
   lines-words t (suc k) h =
       let there : t + suc k ≡ suc t + k = omega arith in
-      let rest : joined taskWords (each (lineOf s) (suc t) k) ++ drop (place (suc t + k)) s ≡ drop (place (suc t)) s = lines-words (suc t) k (omega arith) in
-      ap (λ (j : ℕ). joined taskWords (each (lineOf s) t (suc k)) ++ drop (place j) s) there ∙
-      append-assoc (taskWords (lineOf s t)) (joined taskWords (each (lineOf s) (suc t) k)) (drop (place (suc t + k)) s) ∙
-      ap (λ (l : List ℕ). taskWords (lineOf s t) ++ l) rest ∙ line-words t (omega arith)
+      let rest : joined (taskWords (rates (listRates s))) (each (lineOf s) (suc t) k) ++ drop (place (suc t + k)) s ≡ drop (place (suc t)) s = lines-words (suc t) k (omega arith) in
+      ap (λ (j : ℕ). joined (taskWords (rates (listRates s))) (each (lineOf s) t (suc k)) ++ drop (place j) s) there ∙
+      append-assoc (lineWords t) (joined (taskWords (rates (listRates s))) (each (lineOf s) (suc t) k)) (drop (place (suc t + k)) s) ∙
+      ap (λ (l : List ℕ). lineWords t ++ l) rest ∙ line-words t (omega arith)
 
-  all-lines : joined taskWords (each (lineOf s) 0 n) ≡ drop (suc (taskCountPlace Ordinary m)) s
+  all-lines : joined (taskWords (rates (listRates s))) (each (lineOf s) 0 n) ≡ drop (suc (taskCountPlace Ordinary m)) s
   all-lines =
-      let lines : List ℕ = joined taskWords (each (lineOf s) 0 n) in
+      let lines : List ℕ = joined (taskWords (rates (listRates s))) (each (lineOf s) 0 n) in
       let past : drop (place (0 + n)) s ≡ [] = rw zero-add (drop-of-length-le s {i = place n} (omega (arith, w .size))) in
       let begin : place 0 ≡ suc (taskCountPlace Ordinary m) = omega arith in
       sym (append-nil lines) ∙ ap (λ (l : List ℕ). lines ++ l) (sym past) ∙ lines-words 0 n (omega arith) ∙ ap (λ (k : ℕ). drop k s) begin
@@ -98,7 +102,7 @@ module _ (s : List ℕ) (w : IsWhole Ordinary s) where
   pub words-of-list : words (scriptOf s) ≡ s
   unfolding words scriptOf
   words-of-list =
-      let rates : List ℕ = each (rate Ordinary s) 1 m in
+      let fs : List ℕ = listRates s in
       let count : ℕ = taskCountPlace Ordinary m in
       let head : List ℕ = each (word s) 0 (headSize Ordinary) in
       let long : count < length s = omega (arith, w .size) in
@@ -106,8 +110,8 @@ module _ (s : List ℕ) (w : IsWhole Ordinary s) where
       let after : headSize Ordinary + 1 ≡ suc (headSize Ordinary) = omega arith in
       let end : headSize Ordinary + 1 + m ≡ count = omega arith in
       rw (each-length (rate Ordinary s), each-length (lineOf s), all-lines)
-      (ap (λ (l : List ℕ). headWords (scriptOf s) ++ (m ∷ (rates ++ l))) (sym (drop-cons s count 0 long)) ∙
-      ap (λ (l : List ℕ). l ++ (m ∷ (rates ++ drop count s))) head-words ∙
+      (ap (λ (l : List ℕ). headWords (scriptOf s) ++ (m ∷ (fs ++ l))) (sym (drop-cons s count 0 long)) ∙
+      ap (λ (l : List ℕ). l ++ (m ∷ (fs ++ drop count s))) head-words ∙
       ap (λ (l : List ℕ). head ++ (m ∷ l)) (row s (rate Ordinary s) (headSize Ordinary) (λ j. refl) 1 m (omega arith) ∙ ap (λ (k : ℕ). drop k s) after) ∙
       ap (λ (l : List ℕ). head ++ l) (sym (drop-cons s (headSize Ordinary) 0 (omega arith))) ∙
       ap (λ (k : ℕ). head ++ drop k s) (sym first) ∙
@@ -132,7 +136,7 @@ module _ (s : List ℕ) (w : IsWhole Ordinary s) where
       let t = each-length (lineOf s) 0 n in
       record {
         slack = omega (arith, slack-in Ordinary s w .1);
-        rates = record {
+        clock = record {
           least = omega (arith, w .rates-range .0);
           most = omega (arith, w .rates-range .1);
           each = each-all (rate Ordinary s) Word 1 m (λ j a b. omega (arith, w .rate-range j a (omega arith) .1));

@@ -1,7 +1,7 @@
 -- How long a text can be: every well-formed text is under 5,000 bytes.
 -- Assumes nothing.
 use Prim.Native.Nat.{ℕ, zero, suc, _*_, _/_, _%_, _+_, _≤_, _<_}
-use mathlib.Core.Path.{_≡_, refl, ap}
+use mathlib.Core.Path.{_≡_, refl, sym, ap, _∙_}
 use mathlib.Core.List.{List, [], _∷_, _++_}
 use mathlib.Core.Bool.{Bool, true, false, cond}
 use native.Mathlib.Bridge.{le-by-compare, IsLe}
@@ -14,7 +14,12 @@ use Rattle.numbers.specs.Numbers.{All, joined}
 use Rattle.layout.specs.Words.{headKinds, extraKinds, mostRates, mostTasks, mostWords, taskSize, periodPlace}
 use Rattle.layout.specs.declared.Layout.the-variants.{Ordinary}
 use Rattle.layout.proofs.Layouts.{words-few}
-use Rattle.text.specs.Text.{TaskLine, Script, digits, decimal, spaced, taskText, scriptText, taskWords, words, Word, TaskLineOk, ScriptOk, IsTextOf}
+use Rattle.chips.specs.declared.Chip.{Chip}
+use Rattle.chips.specs.declared.Chip.the-variants.{Xscale, Ppc405lp}
+use Rattle.chips.proofs.Tables.{count-range, rates-length, energies-length as energies-length-of}
+use Rattle.text.specs.Text.{TaskLine, Clock, rates, chip, Script, bytes, digits, decimal, spaced, energyText, taskText, chipName, clockText, scriptText}
+use Rattle.text.proofs.Grammar.{energy-form}
+use Rattle.text.specs.Text.{ratesOf, energiesOf, taskWords, words, Word, ClockOk, energyCount, TaskLineOk, ScriptOk, IsTextOf}
 
 -- ---- numbers
 digits-length : (k n : ℕ) → length (digits k n) ≤ k
@@ -78,6 +83,19 @@ numbers-length : (xs : List ℕ) → All Word xs → length xs ≤ mostRates →
 unfolding widestNumbers
 numbers-length = joined-length spaced Word widestWord (λ v p. omega (arith, word-widest v p)) mostRates
 
+-- The energy form of the widest line is the widest, and a line without energies has none.
+energy-length : (es : List ℕ) → 1 ≤ length es → length (energyText es) ≡ 9 + length (joined spaced es)
+energy-length es h = ap length (energy-form es h) ∙ simp length-append (omega arith)
+
+some-numbers : 1 ≤ length widestNumbers
+unfolding widestNumbers
+some-numbers = omega arith
+
+energies-length : (es : List ℕ) → All Word es → length es ≤ mostRates → length (energyText es) ≤ length (energyText widestNumbers)
+energies-length [] a l = omega arith
+energies-length (e ∷ es) a l =
+    omega (arith, energy-length (e ∷ es) (omega arith), energy-length widestNumbers some-numbers, numbers-length (e ∷ es) a l)
+
 abbrev widestLine : TaskLine
 widestLine = record { period = widestWord; cycles = widestWord; energies = widestNumbers }
 
@@ -85,13 +103,24 @@ unfoldable widestLines : List TaskLine
 widestLines = replicate mostTasks widestLine
 
 abbrev widestScript : Script
-widestScript = record { slack = widestWord; rates = widestNumbers; tasks = widestLines }
+widestScript = record { slack = widestWord; clock = rates widestNumbers; tasks = widestLines }
+
+-- A chip's line is no longer than the widest line of rates.
+clock-length : (k : Clock) → ClockOk k → length (clockText k) ≤ length (clockText (rates widestNumbers))
+unfolding widestNumbers decimal digits IsLe
+clock-length (rates fs) d = let r = numbers-length fs (d .each) (d .most) in simp length-append (omega arith)
+clock-length (chip Xscale) d = le-by-compare _ _ tt
+clock-length (chip Ppc405lp) d = le-by-compare _ _ tt
+
+energies-few : (k : Clock) → ClockOk k → energyCount k ≤ mostRates
+energies-few (rates fs) d = d .most
+energies-few (chip c) d = omega arith
 
 task-length : (m : ℕ) → m ≤ mostRates → (t : TaskLine) → TaskLineOk m t → length (taskText t) ≤ length (taskText widestLine)
 task-length m h t k =
     let p = word-widest (t .period) (k .period) in
     let c = word-widest (t .cycles) (k .cycles) in
-    let e = numbers-length (t .energies) (k .energies .each) (omega (arith, k .energies .most)) in
+    let e = energies-length (t .energies) (k .energies .each) (omega (arith, k .energies .most)) in
     simp length-append (omega arith)
 
 lines-length : (m : ℕ) → m ≤ mostRates → (ts : List TaskLine) → All (TaskLineOk m) ts → length ts ≤ mostTasks
@@ -102,8 +131,8 @@ lines-length m h = joined-length taskText (TaskLineOk m) widestLine (task-length
 script-length : (s : Script) → ScriptOk s → length (scriptText s) ≤ length (scriptText widestScript)
 script-length s k =
     let g = word-widest (s .slack) (k .slack) in
-    let r = numbers-length (s .rates) (k .rates .each) (k .rates .most) in
-    let t = lines-length (length (s .rates)) (k .rates .most) (s .tasks) (k .tasks .each) (k .tasks .most) in
+    let r = clock-length (s .clock) (k .clock) in
+    let t = lines-length (energyCount (s .clock)) (energies-few (s .clock) (k .clock)) (s .tasks) (k .tasks .each) (k .tasks .most) in
     simp length-append (omega arith)
 
 widest-length : length (scriptText widestScript) < 5000
@@ -116,16 +145,31 @@ text-length s t h = omega (arith, ap length (h .text), script-length s (h .scrip
 -- ---- words
 -- A script's words are as many as its list's layout has for so many rates and tasks: few enough for the reader's own
 -- list.
-words-of-tasks : (m : ℕ) (ts : List TaskLine) → All (TaskLineOk m) ts → length (joined taskWords ts) ≡ length ts * taskSize Ordinary m
-unfolding extraKinds
-words-of-tasks m [] a = omega arith
-words-of-tasks m (t ∷ ts) a =
-    let e = a .0 .energies in
-    rw length-append (omega (arith, e .least, e .most, words-of-tasks m ts (a .1), suc-mul (length ts) (taskSize Ordinary m)))
+-- As many energies as rates, whatever the clock.
+pub rates-few : (k : Clock) → ClockOk k → length (ratesOf k) ≤ mostRates
+rates-few (rates fs) d = d .most
+rates-few (chip c) d = omega (arith, rates-length c, count-range c)
 
-pub words-size : (s : Script) → ScriptOk s → length (words s) ≡ periodPlace Ordinary (length (s .rates)) (length (s .tasks))
+as-many : (k : Clock) (t : TaskLine) → TaskLineOk (energyCount k) t → length (energiesOf k t) ≡ length (ratesOf k)
+as-many (rates fs) t h = omega (arith, h .energies .least, h .energies .most)
+as-many (chip c) t h = energies-length-of c (t .cycles) ∙ sym (rates-length c)
+
+pub task-size : (k : Clock) (t : TaskLine) → TaskLineOk (energyCount k) t → length (taskWords k t) ≡ taskSize Ordinary (length (ratesOf k))
+unfolding extraKinds
+task-size k t h = omega (arith, as-many k t h)
+
+words-of-tasks : (k : Clock) (ts : List TaskLine) → All (TaskLineOk (energyCount k)) ts
+    → length (joined (taskWords k) ts) ≡ length ts * taskSize Ordinary (length (ratesOf k))
+words-of-tasks k [] a = omega arith
+words-of-tasks k (t ∷ ts) a =
+    length-append (taskWords k t) (joined (taskWords k) ts)
+    ∙ omega (arith, task-size k t (a .0), words-of-tasks k ts (a .1), suc-mul (length ts) (taskSize Ordinary (length (ratesOf k))))
+
+pub words-size : (s : Script) → ScriptOk s → length (words s) ≡ periodPlace Ordinary (length (ratesOf (s .clock))) (length (s .tasks))
 unfolding words headKinds
-words-size s k = simp length-append (omega (arith, words-of-tasks (length (s .rates)) (s .tasks) (k .tasks .each)))
+words-size s k =
+    simp length-append (omega (arith, words-of-tasks (s .clock) (s .tasks) (k .tasks .each)))
 
 pub words-length : (s : Script) → ScriptOk s → length (words s) ≤ mostWords
-words-length s k = omega (arith, words-size s k, words-few (length (s .rates)) (length (s .tasks)) (k .rates .most) (k .tasks .most))
+words-length s k =
+    omega (arith, words-size s k, words-few (length (ratesOf (s .clock))) (length (s .tasks)) (rates-few (s .clock) (k .clock)) (k .tasks .most))

@@ -1,6 +1,6 @@
--- The bracketed text (document 01, 'The bracketed text'): the one text of a script, which texts are well formed, where
--- another departs, and the words that a script says. A script is what stands in a text, form by form; it is not yet a
--- task set: "Ranges are not judged by the reader."
+-- The bracketed text (document 01, 'The bracketed text'; document 02, note 2): the one text of a script, which texts
+-- are well formed, where another departs, and the words that a script says. A script is what stands in a text, form by
+-- form; it is not yet a task set: "Ranges are not judged by the reader."
 use Prim.Native.Nat.{ℕ, zero, suc, _+_, _/_, _%_, _^_, _≤_, _<_}
 use Prim.Native.Char.{code}
 use Prim.Native.String as Str
@@ -13,16 +13,24 @@ use lib.Dec.{ltb}
 use Rattle.numbers.specs.Numbers.{All, each, joined}
 use Rattle.layout.specs.Words.{slack, rateCount, taskCount, rate, period, cycles, energy}
 use Rattle.layout.specs.declared.Layout.the-variants.{Ordinary}
+use Rattle.chips.specs.Chips.{chipRates, chipEnergies}
+use Rattle.chips.specs.declared.Chip.{Chip}
+use Rattle.chips.specs.declared.Chip.the-variants.{Xscale, Ppc405lp}
 
--- A task's line, and a whole text: "The order is slack, rates, then 1 to 32 tasks."
+-- A task's line, and a whole text: "The order is slack, rates, then 1 to 32 tasks", where "a line `(chip xscale)` or
+-- `(chip ppc405lp)` replaces the rates line". A task's line under a chip has no energies.
 pub record TaskLine : Type 0 where
   pub period : ℕ
   pub cycles : ℕ
   pub energies : List ℕ
 
+pub data Clock : Type 0 where
+  rates : List ℕ → Clock
+  chip : Chip → Clock
+
 pub record Script : Type 0 where
   pub slack : ℕ
-  pub rates : List ℕ
+  pub clock : Clock
   pub tasks : List TaskLine
 
 -- THE TEXT OF A SCRIPT. "Forms stand one a line, each line ended by byte 10, one space between items, exactly as in the
@@ -46,14 +54,28 @@ decimal n = digits 20 n
 abbrev pub spaced : ℕ → List ℕ
 spaced v = bytes " " ++ decimal v
 
+-- "and task lines then omit the energy form": a line without energies has none.
+abbrev pub energyText : List ℕ → List ℕ
+energyText [] = []
+energyText (e ∷ es) = bytes " (energy" ++ (joined spaced (e ∷ es) ++ bytes ")")
+
 abbrev pub taskText : TaskLine → List ℕ
 taskText t =
     bytes "(task (period " ++ (decimal (t .period) ++ (bytes ") (cycles " ++ (decimal (t .cycles) ++
-    (bytes ") (energy" ++ (joined spaced (t .energies) ++ bytes "))\n")))))
+    (bytes ")" ++ (energyText (t .energies) ++ bytes ")\n")))))
+
+-- "`(chip xscale)` or `(chip ppc405lp)`"
+abbrev pub chipName : Chip → List ℕ
+chipName Xscale = bytes "xscale"
+chipName Ppc405lp = bytes "ppc405lp"
+
+abbrev pub clockText : Clock → List ℕ
+clockText (rates fs) = bytes "rates" ++ joined spaced fs
+clockText (chip c) = bytes "chip " ++ chipName c
 
 abbrev pub scriptText : Script → List ℕ
 scriptText s =
-    bytes "(slack " ++ (decimal (s .slack) ++ (bytes ")\n(rates" ++ (joined spaced (s .rates) ++
+    bytes "(slack " ++ (decimal (s .slack) ++ (bytes ")\n(" ++ (clockText (s .clock) ++
     (bytes ")\n" ++ joined taskText (s .tasks)))))
 
 -- WELL-FORMED TEXTS.
@@ -68,7 +90,15 @@ pub record Between {A : Type 0} (P : A → Type 0) (low high : ℕ) (xs : List A
   pub most : length xs ≤ high
   pub each : All P xs
 
--- "Rates number 2 to 8, and each task has as many energies as there are rates."
+-- "Rates number 2 to 8, and each task has as many energies as there are rates": under a chip, none.
+abbrev pub ClockOk : Clock → Type 0
+ClockOk (rates fs) = Between Word 2 8 fs
+ClockOk (chip c) = Unit {0}
+
+abbrev pub energyCount : Clock → ℕ
+energyCount (rates fs) = length fs
+energyCount (chip c) = 0
+
 pub record TaskLineOk (m : ℕ) (t : TaskLine) : Type 0 where
   pub period : Word (t .period)
   pub cycles : Word (t .cycles)
@@ -76,8 +106,8 @@ pub record TaskLineOk (m : ℕ) (t : TaskLine) : Type 0 where
 
 pub record ScriptOk (s : Script) : Type 0 where
   pub slack : Word (s .slack)
-  pub rates : Between Word 2 8 (s .rates)
-  pub tasks : Between (TaskLineOk (length (s .rates))) 1 32 (s .tasks)
+  pub clock : ClockOk (s .clock)
+  pub tasks : Between (TaskLineOk (energyCount (s .clock))) 1 32 (s .tasks)
 
 -- t is the text of the script s.
 pub record IsTextOf (s : Script) (t : List ℕ) : Type 0 where
@@ -104,13 +134,29 @@ headWords s = s .slack ∷ []
 abbrev pub extraWords : TaskLine → List ℕ
 extraWords t = []
 
-abbrev pub taskWords : TaskLine → List ℕ
-taskWords t = t .period ∷ t .cycles ∷ (extraWords t ++ t .energies)
+-- "Reading gives the ordinary list, expanded": the rates and a task's energies, as they stand in the text or as the
+-- chip has them.
+abbrev pub ratesOf : Clock → List ℕ
+ratesOf (rates fs) = fs
+ratesOf (chip c) = chipRates c
+
+abbrev pub energiesOf : Clock → TaskLine → List ℕ
+energiesOf (rates fs) t = t .energies
+energiesOf (chip c) t = chipEnergies c (t .cycles)
+
+abbrev pub taskWords : Clock → TaskLine → List ℕ
+taskWords k t = t .period ∷ t .cycles ∷ (extraWords t ++ energiesOf k t)
 
 unfoldable pub words : Script → List ℕ
-words s = headWords s ++ (length (s .rates) ∷ (s .rates ++ length (s .tasks) ∷ joined taskWords (s .tasks)))
+words s =
+    headWords s ++ (length (ratesOf (s .clock)) ∷ (ratesOf (s .clock) ++
+    length (s .tasks) ∷ joined (taskWords (s .clock)) (s .tasks)))
 
--- THE SCRIPT OF A LIST OF WORDS: what the writer writes. Every number in its own place, as the list has it.
+-- THE SCRIPT OF A LIST OF WORDS: what the writer writes. Every number in its own place, as the list has it: "the writer
+-- writes that list in the old form."
+abbrev pub listRates : List ℕ → List ℕ
+listRates s = each (rate Ordinary s) 1 (rateCount Ordinary s)
+
 abbrev pub lineOf : List ℕ → ℕ → TaskLine
 lineOf s t = record {
   period = period Ordinary s t;
@@ -121,6 +167,6 @@ lineOf s t = record {
 unfoldable pub scriptOf : List ℕ → Script
 scriptOf s = record {
   slack = slack s;
-  rates = each (rate Ordinary s) 1 (rateCount Ordinary s);
+  clock = rates (listRates s);
   tasks = each (lineOf s) 0 (taskCount Ordinary s);
 }

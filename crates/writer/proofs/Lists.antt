@@ -11,7 +11,8 @@ use Rattle.numbers.proofs.Lists.{each-length, each-at}
 use Rattle.layout.specs.Words.{slackPlace, headSize, mostRates, mostTasks, word, rateCount, taskCount, ratePlace, taskCountPlace, taskSize, energyPlace, rate, energy}
 use Rattle.layout.specs.declared.Layout.the-variants.{Ordinary}
 use Rattle.layout.proofs.Whole.{in-list}
-use Rattle.text.specs.Text.{TaskLine, Script, taskText, scriptText, lineOf, scriptOf}
+use Rattle.text.specs.Text.{bytes, decimal, spaced, taskText, scriptText, listRates, lineOf, scriptOf}
+use Rattle.text.proofs.Grammar.{energy-form}
 use Rattle.text.proofs.Sizes.{text-length}
 use Rattle.text.proofs.RoundTrip.{script-of-list}
 use Rattle.checks.specs.Steps.{OfTask}
@@ -29,8 +30,7 @@ module _ {w : List ℕ} {m : ℕ} (has : WithRates w m) where
   pub slack-inside : slackPlace < length w
   slack-inside = omega (arith, has .whole .size)
 
-  pub rates-are : (a e : ℕ) → a ≡ ratePlace Ordinary 1 → e ≡ taskCountPlace Ordinary m → take (e - a) (drop a w) ≡ scriptOf w .rates
-  unfolding scriptOf
+  pub rates-are : (a e : ℕ) → a ≡ ratePlace Ordinary 1 → e ≡ taskCountPlace Ordinary m → take (e - a) (drop a w) ≡ listRates w
   rates-are a e x y =
       part w (rate Ordinary w) (headSize Ordinary) (λ j. refl) 1 m a e x y (omega (arith, rates-inside)) ∙ ap (each (rate Ordinary w) 1) (has .rates)
 
@@ -51,13 +51,20 @@ module _ {w : List ℕ} {m t : ℕ} (has : OfTask Ordinary m t w) where
       a e z (omega (arith, r)) (omega (arith, task-inside))
 
 -- ---- the lines of such a list's tasks
--- A line by its numbers, and that of the numbers that were taken from the list.
-abbrev pub taskLine : (period cycles : ℕ) → (energies : List ℕ) → TaskLine
-taskLine period cycles energies = record { period = period; cycles = cycles; energies = energies }
+-- A line by its numbers, in the parts that the writer writes; and that it is the task's line, where its numbers were
+-- taken from the list: the list has rates, so each of its tasks has energies, and each line the energy form.
+abbrev pub lineText : (period cycles : ℕ) → (energies : List ℕ) → List ℕ
+lineText period cycles energies =
+    bytes "(task (period " ++ (decimal period ++ (bytes ") (cycles " ++ (decimal cycles ++
+    (bytes ") (energy" ++ (joined spaced energies ++ bytes "))\n")))))
 
-pub line-same : (w : List ℕ) (t : ℕ) {p c : ℕ} {e : List ℕ} → p ≡ lineOf w t .period → c ≡ lineOf w t .cycles → e ≡ lineOf w t .energies
-    → taskText (taskLine p c e) ≡ taskText (lineOf w t)
-line-same w t x y z = rw (x, y, z)
+module _ {w : List ℕ} {m t : ℕ} (has : OfTask Ordinary m t w) where
+  some-energy : 1 ≤ length (lineOf w t .energies)
+  some-energy = omega (arith, each-length (energy Ordinary w t) 1 (rateCount Ordinary w), has .whole .rates-range .0)
+
+  pub line-same : {p c : ℕ} {e : List ℕ} → p ≡ lineOf w t .period → c ≡ lineOf w t .cycles → e ≡ lineOf w t .energies
+      → lineText p c e ≡ taskText (lineOf w t)
+  line-same x y z = rw (x, y, z, energy-form (lineOf w t .energies) some-energy) (simp append-assoc)
 
 module _ {w : List ℕ} {m n : ℕ} (has : WithTasks w m n) where
   pub tasks-count : length (scriptOf w .tasks) ≡ n
@@ -79,14 +86,18 @@ module _ {w : List ℕ} {m n : ℕ} (has : WithTasks w m n) where
     lines-room = rw line-is at (one-room taskText (scriptOf w .tasks) t (lineOf w t) (omega (arith, tasks-count)))
 
 -- ---- the whole text
-pub cut : (s : Script) → scriptText s ≡ (slackText (s .slack) ++ ratesText (s .rates)) ++ joined taskText (s .tasks)
-unfolding slackText ratesText
-cut s = simp append-assoc
+pub cut : (w : List ℕ) → let s = scriptOf w in
+    scriptText s ≡ (slackText (s .slack) ++ ratesText (listRates w)) ++ joined taskText (s .tasks)
+unfolding scriptOf slackText ratesText
+cut w = simp append-assoc
 
-pub cut-length : (s : Script) → length (scriptText s) ≡ length (slackText (s .slack)) + length (ratesText (s .rates)) + length (joined taskText (s .tasks))
-cut-length s =
-    let head = slackText (s .slack) ++ ratesText (s .rates) in
-    omega (arith, ap length (cut s), length-append head (joined taskText (s .tasks)), length-append (slackText (s .slack)) (ratesText (s .rates)))
+pub cut-length : (w : List ℕ) → let s = scriptOf w in
+    length (scriptText s) ≡ length (slackText (s .slack)) + length (ratesText (listRates w)) + length (joined taskText (s .tasks))
+cut-length w =
+    let slack = slackText (scriptOf w .slack) in
+    let rates = ratesText (listRates w) in
+    let tasks = joined taskText (scriptOf w .tasks) in
+    omega (arith, ap length (cut w), length-append (slack ++ rates) tasks, length-append slack rates)
 
 pub text-short : {w : List ℕ} {m : ℕ} → WithRates w m → length (scriptText (scriptOf w)) < 5000
 text-short {w} has = text-length (scriptOf w) (scriptText (scriptOf w)) (record { script = script-of-list w (has .whole); text = refl })

@@ -19,8 +19,8 @@ pub record WithTasks (w : List ℕ) (m n : ℕ) : Type 0 where
   pub list : WithRates w m
   pub tasks : n ≡ taskCount Ordinary w
 
--- The first two lines of a text, each from its own bracket to its own end. (`scriptText` has the bracket of the second
--- at the end of the string before it, as the reader takes it.)
+-- The first two lines of a list's text, each from its own bracket to its own end. (`scriptText` has the bracket of the
+-- second at the end of the string before it, as the reader takes it.)
 unfoldable pub slackText : ℕ → List ℕ
 slackText slack = bytes "(slack " ++ (decimal slack ++ bytes ")\n")
 

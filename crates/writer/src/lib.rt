@@ -1,12 +1,13 @@
 // The writer of the bracketed text: checks 2 and 3, then the bytes needed are counted, and only where the buffer has
 // them is it written to. Each form has a writer, which is lent the rest of the buffer that is not yet written, and
 // beside it a counter, which is the writer without the buffer: the same parts in the same order.
+// A list's text names no chip: it has a line of rates, and each task's line has its energies.
 ghost use mathlib.Core.Path.{_≡_};
 ghost use Prim.Native.Nat.{_+_, _^_, _≤_, _<_};
 ghost use lib.ListN.{length};
 ghost use Rattle.numbers.specs.Numbers.{joined};
 ghost use Rattle.layout.specs.Words.{slackPlace};
-ghost use Rattle.text.specs.Text.{spaced, taskText, scriptText, lineOf, scriptOf};
+ghost use Rattle.text.specs.Text.{spaced, taskText, scriptText, listRates, lineOf, scriptOf};
 ghost use Rattle.text.specs.Calls.{WriterGives};
 ghost use Rattle.printer.specs.Puts.{Put, Added};
 ghost use Rattle.layout.specs.declared.Layout.the-variants.{Ordinary};
@@ -21,7 +22,7 @@ use taskset::Shape;
 // energies.
 fn rates_of(w: &[u32], m: usize) -> &[u32]
     requires { ⌜ WithRates (now w) m ⌝ }
-    ensures { λ r. ⌜ now r ≡ scriptOf (now (w .entry)) .rates ⌝ }
+    ensures { λ r. ⌜ now r ≡ listRates (now (w .entry)) ⌝ }
 {
     let first = layout::rate_place(Layout::Ordinary, 1);
     let end = layout::task_count_place(Layout::Ordinary, m);
@@ -100,8 +101,8 @@ fn count_slack(w: &[u32]) -> usize
 
 // The rates' line.
 fn put_rates(buf: &mut [u8], w: &[u32], m: usize) -> usize
-    requires { ⌜ WithRates (now w) m × (length (ratesText (scriptOf (now w) .rates)) ≤ length (now buf)) ⌝ }
-    ensures { λ r. ⌜ Put (ratesText (scriptOf (now (w .entry)) .rates)) (now (buf .entry)) (now (buf .exit)) r ⌝ }
+    requires { ⌜ WithRates (now w) m × (length (ratesText (listRates (now w))) ≤ length (now buf)) ⌝ }
+    ensures { λ r. ⌜ Put (ratesText (listRates (now (w .entry)))) (now (buf .entry)) (now (buf .exit)) r ⌝ }
 {
     let rates = rates_of(w, m);
     let a = printer::add_bytes(buf, 0, b"(rates");
@@ -110,8 +111,8 @@ fn put_rates(buf: &mut [u8], w: &[u32], m: usize) -> usize
 }
 
 fn count_rates(w: &[u32], m: usize) -> usize
-    requires { ⌜ WithRates (now w) m × (length (ratesText (scriptOf (now w) .rates)) < 2 ^ 64) ⌝ }
-    ensures { λ r. ⌜ r ≡ length (ratesText (scriptOf (now (w .entry)) .rates)) ⌝ }
+    requires { ⌜ WithRates (now w) m × (length (ratesText (listRates (now w))) < 2 ^ 64) ⌝ }
+    ensures { λ r. ⌜ r ≡ length (ratesText (listRates (now (w .entry)))) ⌝ }
 {
     let rates = rates_of(w, m);
     let a = printer::count_bytes(0, b"(rates");

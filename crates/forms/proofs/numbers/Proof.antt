@@ -72,7 +72,7 @@ returns-2 c =
     let j = c .before .before .before in
     let q = j .before .before in
     let e = sym (c .before .before .spaced .ensures) ∙ ap ofRead (c .enum-told2 .given .1) in
-    departs (refused (q .loop .inv) (omega arith) (starting j) _ e) (c .enum-told2 .given .1)
+    departs (refused (q .loop .inv) (omega arith) (starting j) _ e) (ap ofRead (c .enum-told2 .given .1))
 
 add-out : tie.Need-add-out Inv-loop μ-loop
 add-out c = search needs

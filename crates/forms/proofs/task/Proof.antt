@@ -1,21 +1,19 @@
 -- A task's line: each answer on the way says what the next piece reads.
 -- Assumes nothing.
-use Prim.Native.Nat.{ℕ, _+_, _≤_}
+use Prim.Native.Nat.{_+_, _≤_}
 use mathlib.Core.Path.{_≡_, sym, ap, _∙_}
-use mathlib.Core.List.{List, _∷_}
+use mathlib.Core.List.{_∷_}
 use native.Mathlib.Omega.{arith}
 use denote.Ref.{now}
 use lib.ListN.{length, length-set}
 use Rattle.layout.specs.Words.{taskSize}
 use Rattle.layout.specs.declared.Layout.the-variants.{Ordinary}
-use Rattle.text.specs.Text.{bytes, extraWords, taskWords}
-use Rattle.text.proofs.Reading.{Res, got, bad, mapRes, literal, upTo, field, numbers, mkTask, both, readTask, readAt}
-use Rattle.taskset.proofs.Writing.{written}
+use Rattle.text.specs.Text.{bytes, extraWords}
+use Rattle.text.proofs.Reading.{got, mapRes, literal, upTo, field, mkTask, both, readEnergies, readTask, readAt}
 use Rattle.scanner.specs.Steps.{ofRead, noValue}
-use Rattle.scanner.specs.declared.Read.{Read}
 use Rattle.scanner.proofs.Places.{map-id, seq-at, Took, took, lost}
-use Rattle.forms.specs.Forms.{Gives}
-use Rattle.forms.proofs.Lists.{departs}
+use Rattle.forms.specs.Forms.{ratesIn, energiesIn, energiesBy}
+use Rattle.forms.proofs.Lists.{departs, closed, map-map}
 use Rattle.taskset.proofs.Stores.{stored, in-front}
 use Rattle.forms.proofs.Words.{task-front}
 use borrow.Author.Needs.{needs}
@@ -29,14 +27,14 @@ start p = p .before .before .before .before .before .before
 abbrev period-of : tie.After-cycles → tie.After-period
 period-of c = c .before .before .before .before .before
 
-abbrev cycles-of : tie.After-opened → tie.After-cycles
+abbrev cycles-of : tie.After-closed → tie.After-cycles
 cycles-of h = h .before .before .before .before .before
 
-abbrev opened-of : tie.After-energies → tie.After-opened
-opened-of e = e .before .before .before .before .before .before .before .before
+abbrev closed-of : tie.After-form → tie.After-closed
+closed-of e = e .before .before .before .before .before .before .before .before
 
-abbrev numbers-call : tie.After-energies → tie.After-numbers
-numbers-call e = e .before .before .before .before
+abbrev form-call : tie.After-form → tie.After-energies
+form-call e = e .before .before .before .before
 
 -- What each call told, in the arm that its answer led to.
 period : (p : tie.After-period) → let a = start p .args in
@@ -47,30 +45,26 @@ cycles : (c : tie.After-cycles) → let p = period-of c in
     readAt (field (bytes ") (cycles ")) (now (start p .args .s)) (p .period .given .0 .1 .0) ≡ got (c .cycles .given .0 .0) (c .cycles .given .0 .1 .0)
 cycles c = sym (c .before .before .field2 .ensures) ∙ ap ofRead (c .cycles .given .1)
 
-opened : (h : tie.After-opened) → let c = cycles-of h in
-    readAt (literal (bytes ") (energy")) (now (start (period-of c) .args .s)) (c .cycles .given .0 .1 .0) ≡ got tt (h .opened .given .0 .1 .0)
-opened h = took noValue (readAt (literal _) _ _) (h .before .before .literal .ensures) (h .opened .given .1) .is
+shut : (h : tie.After-closed) → let c = cycles-of h in
+    readAt (literal (bytes ")")) (now (start (period-of c) .args .s)) (c .cycles .given .0 .1 .0) ≡ got tt (h .closed .given .0 .1 .0)
+shut h = took noValue (readAt (literal _) _ _) (h .before .before .literal .ensures) (ap ofRead (h .closed .given .1)) .is
 
--- What is left to read behind the name of the energies.
-to-energies : (h : tie.After-opened) → let y = cycles-of h in let a = start (period-of y) .args in
-    readAt (readTask (a .m)) (now (a .s)) (a .at)
-    ≡ mapRes (mkTask (period-of y .period .given .0 .0)) (mapRes (both (y .cycles .given .0 .0)) (readAt (upTo (numbers (a .m) 0) (bytes "))\n")) (now (a .s)) (h .opened .given .0 .1 .0)))
-to-energies h = rw (seq-at, period (period-of (cycles-of h)), seq-at, cycles (cycles-of h), seq-at, opened h, map-id)
+-- What is left to read behind the cycles.
+to-energies : (h : tie.After-closed) → let y = cycles-of h in let a = start (period-of y) .args in
+    readAt (readTask (energiesIn (a .clock))) (now (a .s)) (a .at)
+    ≡ mapRes (mkTask (period-of y .period .given .0 .0)) (mapRes (both (y .cycles .given .0 .0)) (readAt (upTo (readEnergies (energiesIn (a .clock))) (bytes ")\n")) (now (a .s)) (h .closed .given .0 .1 .0)))
+to-energies h = rw (seq-at, period (period-of (cycles-of h)), seq-at, cycles (cycles-of h), seq-at, shut h, map-id)
 
-energies : (e : tie.After-energies) → let h = opened-of e in let a = start (period-of (cycles-of h)) .args in
-    Took length (readAt (numbers (a .m) 0) (now (a .s)) (h .opened .given .0 .1 .0)) (e .energies .given .0 .0) (e .energies .given .0 .1 .0)
-energies e = took length (readAt (numbers _ 0) _ _) (numbers-call e .numbers .ensures .answers) (e .energies .given .1)
+energies : (e : tie.After-form) → let h = closed-of e in let a = start (period-of (cycles-of h)) .args in
+    Took noValue (readAt (readEnergies (energiesIn (a .clock))) (now (a .s)) (h .closed .given .0 .1 .0)) (e .form .given .0 .0) (e .form .given .0 .1 .0)
+energies e =
+    let m = energiesIn (start (period-of (cycles-of (closed-of e))) .args .clock) in
+    took noValue (readAt (readEnergies m) _ _) (form-call e .energies .ensures .answers) (ap ofRead (e .form .given .1))
 
 -- The list is as long as it was, and so has room for the words.
-room : (e : tie.After-energies) → let a = start (period-of (cycles-of (opened-of e))) .args in
-    a .k + taskSize Ordinary (a .m) ≤ length (numbers-call e .numbers .last .1 .1 .0)
-room e = omega (arith, numbers-call e .numbers .kept .1 .1 .0, start (period-of (cycles-of (opened-of e))) .pre .1)
-
--- The line's end.
-closed : (k p c : ℕ) (es d e : List ℕ) (y : Res (Unit {0})) (r : Read) → ofRead r ≡ mapRes noValue y → e ≡ written k (taskWords (mkTask p (c, es))) d
-    → Gives noValue taskWords k d e (mapRes (mkTask p) (mapRes (both c) (mapRes (λ _. es) y))) r
-closed k p c es d e (got u i) r q w = record { answers = q; wrote = w }
-closed k p c es d e (bad o) r q w = record { answers = q; wrote = tt }
+room : (e : tie.After-form) → let a = start (period-of (cycles-of (closed-of e))) .args in
+    a .k + taskSize Ordinary (ratesIn (a .clock)) ≤ length (form-call e .energies .last .1 .1 .0)
+room e = omega (arith, form-call e .energies .kept .1 .1 .0, start (period-of (cycles-of (closed-of e))) .pre .1)
 
 slice-aggregate-field : tie.Need-slice-aggregate-field
 slice-aggregate-field c = search needs
@@ -87,7 +81,7 @@ enum-told c = search needs
 returns : tie.Need-returns
 returns c =
     let e = sym (c .before .before .field .ensures) ∙ ap ofRead (c .enum-told .given .1) in
-    departs (rw (seq-at, e)) (c .enum-told .given .1)
+    departs (rw (seq-at, e)) (ap ofRead (c .enum-told .given .1))
 
 slice-aggregate-field-2 : tie.Need-slice-aggregate-field-2
 slice-aggregate-field-2 c = search needs
@@ -105,7 +99,7 @@ returns-2 : tie.Need-returns-2
 returns-2 c =
     let p = c .before .before .before .before .before in
     let e = sym (c .before .before .field2 .ensures) ∙ ap ofRead (c .enum-told2 .given .1) in
-    departs (rw (seq-at, period p, seq-at, e)) (c .enum-told2 .given .1)
+    departs (rw (seq-at, period p, seq-at, e)) (ap ofRead (c .enum-told2 .given .1))
 
 slice-aggregate-literal : tie.Need-slice-aggregate-literal
 slice-aggregate-literal c = search needs
@@ -113,8 +107,8 @@ slice-aggregate-literal c = search needs
 literal-requires : tie.Need-literal-requires
 literal-requires c κs = search needs
 
-enum-known-opened : tie.Need-enum-known-opened
-enum-known-opened c = search needs
+enum-known-closed : tie.Need-enum-known-closed
+enum-known-closed c = search needs
 
 enum-told-3 : tie.Need-enum-told-3
 enum-told-3 c = search needs
@@ -122,8 +116,9 @@ enum-told-3 c = search needs
 returns-3 : tie.Need-returns-3
 returns-3 c =
     let y = c .before .before .before .before .before in
-    let e = lost noValue (readAt (literal _) _ _) (c .before .before .literal .ensures) (c .enum-told3 .given .1) in
-    departs (rw (seq-at, period (period-of y), seq-at, cycles y, seq-at, e)) (c .enum-told3 .given .1)
+    let told = ap ofRead (c .enum-told3 .given .1) in
+    let e = lost noValue (readAt (literal _) _ _) (c .before .before .literal .ensures) told in
+    departs (rw (seq-at, period (period-of y), seq-at, cycles y, seq-at, e)) told
 
 before-energies-requires : tie.Need-before-energies-requires
 before-energies-requires c κs = search needs
@@ -131,11 +126,11 @@ before-energies-requires c κs = search needs
 add-first : tie.Need-add-first
 add-first c = search needs
 
-numbers-requires : tie.Need-numbers-requires
-numbers-requires c κs = search needs
+energies-requires : tie.Need-energies-requires
+energies-requires c κs = search needs
 
-enum-known-energies : tie.Need-enum-known-energies
-enum-known-energies c = search needs
+enum-known-form : tie.Need-enum-known-form
+enum-known-form c = search needs
 
 enum-told-4 : tie.Need-enum-told-4
 enum-told-4 c = search needs
@@ -147,20 +142,22 @@ returns-4 : tie.Need-returns-4
 returns-4 c =
     let x = c .before .before .before .before in
     let h = x .before .before .before .before in
-    let e = lost length (readAt (numbers _ 0) _ _) (x .numbers .ensures .answers) (c .enum-told4 .given .1) in
-    departs (rw (to-energies h, seq-at, e)) (c .enum-told4 .given .1)
+    let told = ap ofRead (c .enum-told4 .given .1) in
+    let m = energiesIn (start (period-of (cycles-of h)) .args .clock) in
+    let e = lost noValue (readAt (readEnergies m) _ _) (x .energies .ensures .answers) told in
+    departs (rw (to-energies h, seq-at, e)) told
 
 mul-out : tie.Need-mul-out
-mul-out c = omega (arith, room (c .before), start (period-of (cycles-of (opened-of (c .before)))) .good .1 .1 .0)
+mul-out c = omega (arith, room (c .before), start (period-of (cycles-of (closed-of (c .before)))) .good .1 .1 .0)
 
 slice-write-out : tie.Need-slice-write-out
 slice-write-out c = omega (arith, room (c .before))
 
 add-out : tie.Need-add-out
-add-out c = omega (arith, room (c .before), start (period-of (cycles-of (opened-of (c .before)))) .good .1 .1 .0)
+add-out c = omega (arith, room (c .before), start (period-of (cycles-of (closed-of (c .before)))) .good .1 .1 .0)
 
 mul-out-2 : tie.Need-mul-out-2
-mul-out-2 c = omega (arith, room (c .before), start (period-of (cycles-of (opened-of (c .before)))) .good .1 .1 .0)
+mul-out-2 c = omega (arith, room (c .before), start (period-of (cycles-of (closed-of (c .before)))) .good .1 .1 .0)
 
 slice-write-out-2 : tie.Need-slice-write-out-2
 slice-write-out-2 c = simp length-set (omega (arith, room (c .before)))
@@ -177,17 +174,18 @@ same-length-2 c = search needs
 returns-5 : tie.Need-returns-5
 returns-5 c =
     let e = c .before .before .before in
-    let x = numbers-call e in
-    let y = cycles-of (opened-of e) in
+    let x = form-call e in
+    let y = cycles-of (closed-of e) in
     let p = period-of y in
     let a = start p in
     let g = energies e in
     let t = mkTask (p .period .given .0 .0) (y .cycles .given .0 .0, g .item) in
+    let es = energiesBy (a .args .clock) (t .cycles) (t .energies) in
     let size = x .before .before .before-energies .ensures in
-    rw (to-energies (opened-of e), seq-at, g .is)
-    (closed (a .args .k) (p .period .given .0 .0) (y .cycles .given .0 .0) (g .item) (now (a .args .out)) _ (readAt (literal _) _ _) (c .literal2 .result) (c .literal2 .ensures)
-    (ap (stored (a .args .k) (t .period ∷ t .cycles ∷ extraWords t)) (rw (g .is) at (x .numbers .ensures .wrote))
-    ∙ in-front (t .period ∷ t .cycles ∷ extraWords t) (g .item) (now (a .args .out)) (a .args .k) _ (omega (arith, task-front t, size)) (omega (arith, size, a .pre .1))))
+    rw (to-energies (closed-of e), seq-at, g .is, map-map, map-map)
+    (closed t (readAt (literal _) _ _) (c .literal2 .ensures)
+    (ap (stored (a .args .k) (t .period ∷ t .cycles ∷ extraWords t)) (rw (g .is) at (x .energies .ensures .wrote))
+    ∙ in-front (t .period ∷ t .cycles ∷ extraWords t) es (now (a .args .out)) (a .args .k) _ (omega (arith, task-front t, size)) (omega (arith, size, a .pre .1))))
 
 pub task-spec : {M : Type 1} → statement M
 task-spec =
@@ -205,13 +203,13 @@ task-spec =
     returns-2
     slice-aggregate-literal
     literal-requires
-    enum-known-opened
+    enum-known-closed
     enum-told-3
     returns-3
     before-energies-requires
     add-first
-    numbers-requires
-    enum-known-energies
+    energies-requires
+    enum-known-form
     enum-told-4
     same-length
     returns-4

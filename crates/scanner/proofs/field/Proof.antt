@@ -20,7 +20,7 @@ enum-told c = search needs
 returns : tie.Need-returns
 returns c =
     let told = c .enum-told .given .1 in
-    let e = lost noValue (readAt (literal _) _ _) (c .before .before .literal .ensures) told in
+    let e = lost noValue (readAt (literal _) _ _) (c .before .before .literal .ensures) (ap ofRead told) in
     ap ofRead told ∙ sym (rw (seq-at, e))
 
 number-requires : tie.Need-number-requires
@@ -29,7 +29,7 @@ number-requires c κs = search needs
 returns-2 : tie.Need-returns-2
 returns-2 c =
     let r = c .before .before in
-    let t = took noValue (readAt (literal _) _ _) (r .before .before .literal .ensures) (r .r .given .1) in
+    let t = took noValue (readAt (literal _) _ _) (r .before .before .literal .ensures) (ap ofRead (r .r .given .1)) in
     c .number .ensures ∙ sym (rw (seq-at, t .is, map-id))
 
 pub field-spec : {M : Type 1} → statement M

@@ -1,12 +1,13 @@
 -- A task's line: the bytes of each part behind those before it.
 -- Assumes nothing.
-use Prim.Native.Nat.{_^_, _<_}
+use Prim.Native.Nat.{ℕ, _^_, _<_}
 use mathlib.Core.Path.{_≡_, ap}
+use mathlib.Core.List.{List}
 use native.Mathlib.Omega.{arith}
 use denote.Ref.{now}
 use lib.ListN.{length, length-append}
-use Rattle.text.specs.Text.{TaskLine, taskText, lineOf}
-use Rattle.writer.proofs.Lists.{taskLine, line-same}
+use Rattle.text.specs.Text.{taskText, lineOf}
+use Rattle.writer.proofs.Lists.{lineText, line-same}
 use borrow.Author.Needs.{needs}
 use Rattle.writer.proofs.count_task.Statement.{statement}
 use Rattle.writer.proofs.count_task.Tie as tie
@@ -15,15 +16,14 @@ use Rattle.writer.proofs.count_task.Tie as tie
 abbrev start : tie.After-energies-of → tie.Start
 start c = c .before .before .before .before
 
-abbrev line : tie.After-energies-of → TaskLine
-line c = taskLine (c .before .before .period-of .result) (c .before .cycles-of .result) (now (c .energies-of .result))
+abbrev line : tie.After-energies-of → List ℕ
+line c = lineText (c .before .before .period-of .result) (c .before .cycles-of .result) (now (c .energies-of .result))
 
-same : (c : tie.After-energies-of) → taskText (line c) ≡ taskText (lineOf (now (start c .args .w)) (start c .args .t))
+same : (c : tie.After-energies-of) → line c ≡ taskText (lineOf (now (start c .args .w)) (start c .args .t))
 same c =
-    line-same (now (start c .args .w)) (start c .args .t) (c .before .before .period-of .ensures)
-    (c .before .cycles-of .ensures) (c .energies-of .ensures)
+    line-same (start c .pre .0) (c .before .before .period-of .ensures) (c .before .cycles-of .ensures) (c .energies-of .ensures)
 
-fits : (c : tie.After-energies-of) → length (taskText (line c)) < 2 ^ 64
+fits : (c : tie.After-energies-of) → length (line c) < 2 ^ 64
 fits c = omega (arith, ap length (same c), start c .pre .1)
 
 -- The way back from each part to the one before it, and from the first to what was taken.

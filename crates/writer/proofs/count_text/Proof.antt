@@ -5,16 +5,16 @@ use native.Mathlib.Omega.{arith}
 use denote.Ref.{now}
 use lib.ListN.{length}
 use Rattle.numbers.specs.Numbers.{joined}
-use Rattle.text.specs.Text.{taskText, scriptOf}
+use Rattle.text.specs.Text.{taskText, listRates, scriptOf}
 use Rattle.writer.specs.Lines.{slackText, ratesText}
 use Rattle.writer.proofs.Lists.{slack-inside, cut-length, text-short}
 use Rattle.writer.proofs.count_text.Statement.{statement}
 use Rattle.writer.proofs.count_text.Tie as tie
 
 -- The forms together are short.
-room : (z : tie.Start) → let s = scriptOf (now (z .args .w)) in
-    length (slackText (s .slack)) + length (ratesText (s .rates)) + length (joined taskText (s .tasks)) < 5000
-room z = omega (arith, cut-length (scriptOf (now (z .args .w))), text-short (z .pre .list))
+room : (z : tie.Start) → let w = now (z .args .w) in
+    length (slackText (scriptOf w .slack)) + length (ratesText (listRates w)) + length (joined taskText (scriptOf w .tasks)) < 5000
+room z = omega (arith, cut-length (now (z .args .w)), text-short (z .pre .list))
 
 count-slack-requires : tie.Need-count-slack-requires
 count-slack-requires c κs = (slack-inside (c .before .pre .list), omega (arith, room (c .before)))
@@ -32,7 +32,7 @@ add-result : tie.Need-add-result
 add-result c = omega (arith, room (c .before .before .before .before))
 
 returns : tie.Need-returns
-returns c = omega (arith, cut-length (scriptOf (now (c .before .before .before .before .args .w))))
+returns c = omega (arith, cut-length (now (c .before .before .before .before .args .w)))
 
 pub count-text-spec : {M : Type 1} → statement M
 count-text-spec =

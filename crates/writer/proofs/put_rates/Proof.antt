@@ -5,7 +5,7 @@ use mathlib.Core.Path.{_≡_, ap}
 use native.Mathlib.Omega.{arith}
 use denote.Ref.{now}
 use lib.ListN.{length, length-append}
-use Rattle.text.specs.Text.{scriptOf}
+use Rattle.text.specs.Text.{listRates}
 use Rattle.printer.proofs.Puts.{front, then}
 use Rattle.writer.specs.Lines.{ratesText}
 use borrow.Author.Needs.{needs}
@@ -16,7 +16,7 @@ use Rattle.writer.proofs.put_rates.Tie as tie
 abbrev start : tie.After-rates-of → tie.Start
 start c = c .before .before .before
 
-same : (c : tie.After-rates-of) → ratesText (now (c .rates-of .result)) ≡ ratesText (scriptOf (now (start c .args .w)) .rates)
+same : (c : tie.After-rates-of) → ratesText (now (c .rates-of .result)) ≡ ratesText (listRates (now (start c .args .w)))
 same c = ap ratesText (c .rates-of .ensures)
 
 fits : (c : tie.After-rates-of) → length (ratesText (now (c .rates-of .result))) ≤ length (now (start c .args .buf))

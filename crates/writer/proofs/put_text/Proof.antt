@@ -5,7 +5,7 @@ use native.Mathlib.Omega.{arith}
 use denote.Ref.{now}
 use lib.ListN.{length, length-take, length-drop}
 use Rattle.numbers.specs.Numbers.{joined}
-use Rattle.text.specs.Text.{taskText, scriptOf}
+use Rattle.text.specs.Text.{taskText, listRates, scriptOf}
 use Rattle.printer.proofs.Puts.{front, from-front, then-lent}
 use Rattle.writer.specs.Lines.{slackText, ratesText}
 use Rattle.writer.proofs.Lists.{slack-inside, cut, cut-length}
@@ -20,9 +20,9 @@ start one = one .before .before .before .before
 abbrev first : tie.After-put-rates → tie.After-put-slack
 first two = two .before .before .before .before
 
-room : (z : tie.Start) → let s = scriptOf (now (z .args .w)) in
-    length (slackText (s .slack)) + length (ratesText (s .rates)) + length (joined taskText (s .tasks)) ≤ length (now (z .args .buf))
-room z = omega (arith, cut-length (scriptOf (now (z .args .w))))
+room : (z : tie.Start) → let w = now (z .args .w) in
+    length (slackText (scriptOf w .slack)) + length (ratesText (listRates w)) + length (joined taskText (scriptOf w .tasks)) ≤ length (now (z .args .buf))
+room z = omega (arith, cut-length (now (z .args .w)))
 
 put-slack-requires : tie.Need-put-slack-requires
 put-slack-requires c κs =
@@ -72,7 +72,7 @@ returns c =
     let two = three .before .before .before .before in
     let size = room (start (first two)) in
     let rates = then-lent (from-front (first two .put-slack .ensures)) (omega arith) (two .put-rates .ensures) in
-    rw (cut (scriptOf (now (start (first two) .args .w)))) (front (then-lent rates (omega arith) (three .put-tasks .ensures)))
+    rw (cut (now (start (first two) .args .w))) (front (then-lent rates (omega arith) (three .put-tasks .ensures)))
 
 pub put-text-spec : {M : Type 1} → statement M
 put-text-spec =
