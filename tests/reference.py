@@ -1,8 +1,9 @@
 """A reference for the planner, the walk, the reader, the writer, the program and
 the load generator.
 
-It follows the words of the scope document, and for the generator those of note 1
-of document 02, and is meant to be read beside them. It is slow on purpose.
+It follows the words of the scope document, and of document 02 those of note 1 for
+the generator and of note 2 for chips, and is meant to be read beside them. It is
+slow on purpose.
 A refusal is ('refused', number, second number).
 Tasks and rates are numbered from 1, places in lists and texts from 0.
 """
@@ -500,57 +501,105 @@ def c_generate(seed, N, room, results_len):
     return (0, [len(answer[1]), 0, 0, 0])
 
 
+# ------------------------------------------------------ two processors by name
+
+# 'xscale 150, 400, 600, 800, 1000 MHz at 80, 170, 400, 900, 1600 mW; ppc405lp 33,
+# 100, 266, 333 MHz at 19, 72, 600, 750 mW': pairs of MHz and mW.
+CHIPS = {
+    'xscale': [(150, 80), (400, 170), (600, 400), (800, 900), (1_000, 1_600)],
+    'ppc405lp': [(33, 19), (100, 72), (266, 600), (333, 750)],
+}
+MOST_ENERGY = 1_000_000         # of those worked out here
+
+
+def chip_rates(chip):
+    """'One tick is a millisecond, so rates are MHz x 1,000'"""
+    return [MHz * 1_000 for MHz, _ in CHIPS[chip]]
+
+
+def chip_task(chip, period, cycles):
+    """The task of a line without energies: 'an energy is power in mW times the
+    job time'. The numbers are those of the text, whatever their ranges."""
+    task = Task(period, cycles, [])
+    for rate, (_, mW) in zip(chip_rates(chip), CHIPS[chip]):
+        task.energies.append(mW * job_time(task, rate))
+    return task
+
+
+def check_9(tasks):
+    """'an energy worked out here is over 1,000,000, with the first such task's
+    number'"""
+    for number, task in enumerate(tasks, 1):
+        if any(energy > MOST_ENERGY for energy in task.energies):
+            return refused(9, number)
+    return None
+
+
 # --------------------------------------------------------- the bracketed text
 
 NUMBER = 'number'
+SECOND_LINES = (*range(2, 9), *CHIPS)   # a text has so many rates, or a chip of that name
 
 
 @lru_cache(maxsize=None)
-def shape(M, N):
-    """A well-formed text of M rates and N tasks: its bytes, and NUMBER where
-    a number stands. After a number there is always a byte."""
-    row = [b' ', NUMBER] * M
-    items = [b'(slack ', NUMBER, b')\n', b'(rates'] + row + [b')\n']
+def shape(second, N):
+    """A well-formed text with that second line and N tasks: its bytes, and NUMBER
+    where a number stands. After a number there is always a byte."""
+    if second in CHIPS:
+        # 'A line (chip xscale) or (chip ppc405lp) replaces the rates line, and
+        # task lines then omit the energy form.'
+        line = [b'(chip ', second.encode('ascii'), b')\n']
+        energies = []
+    else:
+        row = [b' ', NUMBER] * second
+        line = [b'(rates'] + row + [b')\n']
+        energies = [b' (energy'] + row + [b')']
+    items = [b'(slack ', NUMBER, b')\n'] + line
     for _ in range(N):
-        items += [b'(task (period ', NUMBER, b') (cycles ', NUMBER, b') (energy']
-        items += row + [b'))\n']
+        items += [b'(task (period ', NUMBER, b') (cycles ', NUMBER, b')']
+        items += energies + [b')\n']
     flat = []
     for item in items:
         flat += [NUMBER] if item == NUMBER else list(item)
     return flat
 
 
-# A state is (M, N, place, value). It says: the bytes so far begin some text of
-# M rates and N tasks; the next byte belongs to that place of its shape; value
-# is the number begun there, or None. From every state some well-formed text
-# can be reached, so a beginning without a state begins no well-formed text.
+# A state is (second, N, place, value). It says: the bytes so far begin some text
+# with that second line and N tasks; the next byte belongs to that place of its
+# shape; value is the number begun there, or None. From every state some
+# well-formed text can be reached, so a beginning without a state begins no
+# well-formed text.
 
 def first_states():
-    return {(M, N, 0, None) for M in range(2, 9) for N in range(1, 33)}
+    return {(second, N, 0, None) for second in SECOND_LINES for N in range(1, 33)}
 
 
 def next_states(state, byte):
-    M, N, place, value = state
-    items = shape(M, N)
+    second, N, place, value = state
+    items = shape(second, N)
     if place == len(items):
         return []               # the text of this shape has ended
     if items[place] != NUMBER:
-        return [(M, N, place + 1, None)] if byte == items[place] else []
+        return [(second, N, place + 1, None)] if byte == items[place] else []
     after = []
     if b'0'[0] <= byte <= b'9'[0]:
         digit = byte - b'0'[0]
         if value is None:
-            after.append((M, N, place, digit))
+            after.append((second, N, place, digit))
         elif value != 0 and value * 10 + digit <= LARGEST:
-            after.append((M, N, place, value * 10 + digit))
+            after.append((second, N, place, value * 10 + digit))
     if value is not None and byte == items[place + 1]:
-        after.append((M, N, place + 2, None))
+        after.append((second, N, place + 2, None))
     return after
 
 
 def is_end(state):
-    M, N, place, _ = state
-    return place == len(shape(M, N))
+    second, N, place, _ = state
+    return place == len(shape(second, N))
+
+
+def numbers_of(line):
+    return [int(digits) for digits in re.findall(rb'[0-9]+', line)]
 
 
 def read_text(data, room):
@@ -561,15 +610,27 @@ def read_text(data, room):
             # 'the first byte such that no well-formed text begins with the
             # bytes up to and including it'
             return refused(1, offset)
-    if not any(is_end(state) for state in states):
+    ended = [state for state in states if is_end(state)]
+    if not ended:
         return refused(1, len(data))    # 'the text's length if it ends early'
 
-    lines = [[int(n) for n in re.findall(rb'[0-9]+', line)]
-             for line in data.split(b'\n')[:-1]]
-    slack, rates, tasks = lines[0], lines[1], lines[2:]
-    words = slack + [len(rates)] + rates + [len(tasks)]
-    for numbers in tasks:
-        words += numbers
+    [(second, _, _, _)] = ended         # a text has one shape
+    lines = data.split(b'\n')[:-1]
+    [slack] = numbers_of(lines[0])
+    tasks = [numbers_of(line) for line in lines[2:]]
+    if second in CHIPS:
+        # 'Reading gives the ordinary list, expanded'
+        rates = chip_rates(second)
+        tasks = [chip_task(second, period, cycles) for period, cycles in tasks]
+        answer = check_9(tasks)         # 'after 1, before 6'
+        if answer:
+            return answer
+    else:
+        rates = numbers_of(lines[1])
+        tasks = [Task(period, cycles, energies) for period, cycles, *energies in tasks]
+    words = [slack, len(rates), *rates, len(tasks)]
+    for task in tasks:
+        words += [task.period, task.cycles, *task.energies]
     if room < len(words):
         return refused(6, len(words))
     return ('read', words)

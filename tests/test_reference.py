@@ -1,5 +1,5 @@
 """Tests of the reference: the cases of the scope document, the load generator of
-document 02's note 1, and random sets.
+document 02's note 1, the chips of its note 2, and random sets.
 
 Running it prints one line and ends with 0, or names the failing case and
 ends with 1.
@@ -474,6 +474,337 @@ def generated_sets():
     same('the longest hyper-period was seen', max(spans), 400)
 
 
+# ------------------------------------- document 02, note 2: processors by name
+
+XSCALE = [5, 150_000, 400_000, 600_000, 800_000, 1_000_000]
+PPC405LP = [4, 33_000, 100_000, 266_000, 333_000]
+# The most cycles of a job without refusal 9. At xscale's 1,000 MHz 625 ticks take
+# 625 x 1,600 = 1,000,000, and the other rates less. At ppc405lp's 266 MHz 1,666 ticks take
+# 1,666 x 600 = 999,600, and one more takes 1,000,200, when at 333 MHz there is still room:
+# 443,156,000 / 333,000 is 1,330.8, and 1,331 x 750 = 998,250.
+MOST_CYCLES = {'xscale': 625_000_000, 'ppc405lp': 443_156_000}
+
+# Worked with a calculator: chip, slack, pairs of period and cycles, and what is read.
+# xscale. 1,500,000 cycles: 10, 3.75, 2.5, 1.875 and 1.5, so 10, 4, 3, 2 and 2 ticks;
+# 80 x 10, 170 x 4, 400 x 3, 900 x 2 and 1,600 x 2. 3,000,000 cycles: 20, 7.5, 5, 3.75 and 3,
+# so 20, 8, 5, 4 and 3 ticks.
+TWO_ON_XSCALE = ('xscale', 100, [(10, 1_500_000), (20, 3_000_000)], [
+    100, *XSCALE, 2,
+    10, 1_500_000, 800, 680, 1_200, 1_800, 3_200,
+    20, 3_000_000, 1_600, 1_360, 2_000, 3_600, 4_800])
+# ppc405lp. 1,000,000 cycles: 30.3, 10, 3.76 and 3.003, so 31, 10, 4 and 4 ticks; 19 x 31,
+# 72 x 10, 600 x 4 and 750 x 4. 500,000 cycles: 15.15, 5, 1.88 and 1.502, so 16, 5, 2 and 2.
+TWO_ON_PPC405LP = ('ppc405lp', 500, [(40, 1_000_000), (20, 500_000)], [
+    500, *PPC405LP, 2,
+    40, 1_000_000, 589, 720, 2_400, 3_000,
+    20, 500_000, 304, 360, 1_200, 1_500])
+CHIP_WORKED = [
+    TWO_ON_XSCALE,
+    TWO_ON_PPC405LP,
+    # One cycle takes one tick at each rate, and none takes none. No range is judged.
+    ('xscale', 0, [(0, 1), (4_294_967_295, 0)],
+     [0, *XSCALE, 2, 0, 1, 80, 170, 400, 900, 1_600, 4_294_967_295, 0, 0, 0, 0, 0, 0]),
+    ('ppc405lp', 4_294_967_295, [(1, 0), (7, 1)],
+     [4_294_967_295, *PPC405LP, 2, 1, 0, 0, 0, 0, 0, 7, 1, 19, 72, 600, 750]),
+    # Just a tick at the lowest rate, and one cycle more.
+    ('xscale', 1, [(1, 150_000), (1, 150_001)],
+     [1, *XSCALE, 2, 1, 150_000, 80, 170, 400, 900, 1_600, 1, 150_001, 160, 170, 400, 900, 1_600]),
+    ('ppc405lp', 1, [(1, 33_000), (1, 33_001)],
+     [1, *PPC405LP, 2, 1, 33_000, 19, 72, 600, 750, 1, 33_001, 38, 72, 600, 750]),
+    # The most cycles. xscale: 4,166.7, 1,562.5, 1,041.7, 781.25 and 625, so 4,167, 1,563, 1,042,
+    # 782 and 625 ticks. ppc405lp: 13,428.97, 4,431.56, 1,666 and 1,330.8, so 13,429, 4,432,
+    # 1,666 and 1,331 ticks.
+    ('xscale', 9, [(700, 625_000_000)],
+     [9, *XSCALE, 1, 700, 625_000_000, 333_360, 265_710, 416_800, 703_800, 1_000_000]),
+    ('ppc405lp', 9, [(700, 443_156_000)],
+     [9, *PPC405LP, 1, 700, 443_156_000, 255_151, 319_104, 999_600, 998_250]),
+    # One more: 626 x 1,600 = 1,001,600, and 1,667 x 600 = 1,000,200.
+    ('xscale', 9, [(700, 625_000_001)], refused(9, 1)),
+    ('ppc405lp', 9, [(700, 443_156_001)], refused(9, 1)),
+    # The first such task's number.
+    ('xscale', 9, [(7, 625_000_000), (7, 1), (7, 625_000_001), (7, 625_000_001)], refused(9, 3)),
+    ('ppc405lp', 9, [(7, 443_156_000), (7, 443_156_001), (7, 4_294_967_295)], refused(9, 2)),
+    # At each of these some energy is 1,000,000 or just under it, and another is over.
+    ('xscale', 9, [(7, 12_500 * 150_000)], refused(9, 1)),
+    ('xscale', 9, [(7, 2_500 * 600_000)], refused(9, 1)),
+    ('xscale', 9, [(7, 1_111 * 800_000)], refused(9, 1)),
+    ('ppc405lp', 9, [(7, 1_333 * 333_000)], refused(9, 1)),
+    ('ppc405lp', 9, [(7, 13_888 * 100_000)], refused(9, 1)),
+    # The largest number: 4,295 x 1,600 and 12,898 x 750.
+    ('xscale', 9, [(7, 4_294_967_295)], refused(9, 1)),
+    ('ppc405lp', 9, [(7, 4_294_967_295)], refused(9, 1)),
+]
+CHIP_PRINTED = [
+    # L is 20. At rate 2 the loads are 8 and 8 and the energies 1,360 and 1,360, the least of
+    # all. 1,360 / 64 is 21.25, so k is 44, and 100 x 44 is at least 4,000; with 128 k is 22.
+    # The second task runs in ticks 4 to 9, 14 and 15.
+    (TWO_ON_XSCALE, b'(plan (unit 64) (load 16 20) (energy 2720))\n(rate 1 2)\n(rate 2 2)\n'
+                    b'(walk (busy 16) (idle 4) (preempted 1))\n'),
+    # L is 40. Loads are 31, 10, 4, 4 and 32, 10, 4, 4, so that rates 1 2 and 2 1 come to 41 and
+    # 42. 2 2 costs 1,440: 720 / 128 is 5.6, so k is 12, and 500 x 12 is at least 4,000.
+    (TWO_ON_PPC405LP, b'(plan (unit 128) (load 20 40) (energy 1440))\n(rate 1 2)\n(rate 2 2)\n'
+                      b'(walk (busy 20) (idle 20) (preempted 0))\n'),
+    # One tick: only the highest rate fits, and then none does. 1,600 / 64 is 25.
+    (('xscale', 100, [(1, 1_000_000)]),
+     b'(plan (unit 64) (load 1 1) (energy 1600))\n(rate 1 5)\n'
+     b'(walk (busy 1) (idle 0) (preempted 0))\n'),
+    (('xscale', 100, [(1, 1_000_001)]), b'(refused 7 0)\n'),
+    # 750 / 32 is 23.4. At 266,000 cycles 266 MHz will do, for 600, and 600 / 16 is 37.5.
+    (('ppc405lp', 100, [(1, 333_000)]),
+     b'(plan (unit 32) (load 1 1) (energy 750))\n(rate 1 4)\n'
+     b'(walk (busy 1) (idle 0) (preempted 0))\n'),
+    (('ppc405lp', 100, [(1, 266_000)]),
+     b'(plan (unit 16) (load 1 1) (energy 600))\n(rate 1 3)\n'
+     b'(walk (busy 1) (idle 0) (preempted 0))\n'),
+    (('ppc405lp', 100, [(1, 333_001)]), b'(refused 7 0)\n'),
+    # A task that is too dear comes before all that the planner says; cycles of 0 are for it.
+    (('xscale', 100, [(1, 625_000_001)]), b'(refused 9 1)\n'),
+    (('xscale', 0, [(0, 1), (0, 4_294_967_295)]), b'(refused 9 2)\n'),
+    (('ppc405lp', 0, [(1, 1)]), b'(refused 2 0)\n'),
+    (('xscale', 100, [(1, 0)]), b'(refused 2 9)\n'),
+    (('ppc405lp', 100, [(1, 0)]), b'(refused 2 8)\n'),
+    (('xscale', 100, [(1, 1), (10_000_001, 0)]), b'(refused 2 15)\n'),
+    (('ppc405lp', 100, [(1, 1), (1, 0)]), b'(refused 2 14)\n'),
+    (('xscale', 100, [(9_999_999, 1), (10_000_000, 1)]), b'(refused 4 15)\n'),
+    (('ppc405lp', 100, [(9_999_999, 1), (10_000_000, 1)]), b'(refused 4 13)\n'),
+    (('xscale', 1, [(10, 1), (10, 1)]), b'(refused 5 24003)\n'),
+]
+
+
+def chip_text(chip, slack, tasks, *_):
+    return ('(slack %d)\n(chip %s)\n' % (slack, chip) + ''.join(
+        '(task (period %d) (cycles %d))\n' % task for task in tasks)).encode('ascii')
+
+
+def chip_edges():
+    for chip, slack, tasks, want in CHIP_WORKED:
+        name, text = '%s, %r' % (chip, tasks), chip_text(chip, slack, tasks)
+        if want[0] == 'refused':
+            for room in (0, 8, PLENTY):
+                same('%s, %d words' % (name, room), r.read_text(text, room), want)
+            same(name + ', bytes left over', r.read_text(text + b'\n', 0), refused(1, len(text)))
+            same(name + ', cut', r.read_text(text[:-1], 0), refused(1, len(text) - 1))
+        else:
+            K = len(want)
+            for room in (K, K + 1, PLENTY):
+                same('%s, %d words' % (name, room), r.read_text(text, room), ('read', want))
+            for room in (0, 1, K - 1):
+                same('%s, %d words' % (name, room), r.read_text(text, room), refused(6, K))
+    for (chip, slack, tasks, *_), printed in CHIP_PRINTED:
+        same('%s, %r, printed' % (chip, tasks), r.respond(chip_text(chip, slack, tasks)), printed)
+    for chip, most in MOST_CYCLES.items():
+        # Few and most tasks, each at the edge, and 9 at each of 32.
+        for N in (1, 2, 31, 32):
+            answer = r.read_text(chip_text(chip, 5, [(6, most)] * N), PLENTY)
+            M = len(r.CHIPS[chip])
+            same('%s, %d tasks' % (chip, N), (answer[0], len(answer[1])),
+                 ('read', 3 + M + N * (2 + M)))
+        for number in range(1, 33):
+            tasks = [(6, most)] * (number - 1) + [(6, most + 1)] * (33 - number)
+            same('%s, 9 at task %d' % (chip, number), r.read_text(chip_text(chip, 5, tasks), 0),
+                 refused(9, number))
+    # Energies that are given are not judged by 9, also not those of a chip.
+    words = [9, *XSCALE, 1, 700, 625_000_001, 333_360, 265_710, 416_800, 703_800, 1_001_600]
+    text = ('(slack 9)\n(rates 150000 400000 600000 800000 1000000)\n(task (period 700) '
+            '(cycles 625000001) (energy 333360 265710 416800 703800 1001600))\n').encode('ascii')
+    same('energies that are given', r.read_text(text, PLENTY), ('read', words))
+    same('energies that are given, printed', r.respond(text), b'(refused 2 14)\n')
+
+
+# An expansion in parts, and readings of the note that are wrong in one of them. A table has
+# pairs of MHz and mW; 'time' is that of so many cycles at a rate, 'over' judges a task's
+# energies, and 'which' says what is returned where these tasks, from 0, are too dear.
+CHIP_PARTS = {
+    'xscale': [(150, 80), (400, 170), (600, 400), (800, 900), (1000, 1600)],
+    'ppc405lp': [(33, 19), (100, 72), (266, 600), (333, 750)],
+    'rate': lambda MHz: MHz * 1_000,
+    'time': lambda c, rate: c // rate + (c % rate > 0),
+    'energy': lambda mW, time, c, rate: mW * time,
+    'over': lambda energies: max(energies) > 1_000_000,
+    'which': lambda dear: dear[0] + 1,
+}
+CHIP_MISREAD = {
+    'powers one rate late': (
+        'xscale', [(150, 170), (400, 400), (600, 900), (800, 1600), (1000, 80)]),
+    'a rate left out': ('xscale', [(150, 80), (400, 170), (600, 400), (1000, 1600)]),
+    'falling rates': ('ppc405lp', [(333, 750), (266, 600), (100, 72), (33, 19)]),
+    'rising powers only': ('ppc405lp', [(33, 19), (100, 72), (266, 600), (333, 600)]),
+    'MHz and mW swapped': ('ppc405lp', [(19, 33), (72, 100), (600, 266), (750, 333)]),
+    'MHz in place of rates': ('rate', lambda MHz: MHz),
+    'cycles per second': ('rate', lambda MHz: MHz * 1_000_000),
+    '1,024 for 1,000': ('rate', lambda MHz: MHz * 1_024),
+    'job time rounded down': ('time', lambda c, rate: c // rate),
+    'job time rounded to nearest': ('time', lambda c, rate: (2 * c + rate) // (2 * rate)),
+    'job time with a tick more': ('time', lambda c, rate: c // rate + 1),
+    'job time of at least a tick': ('time', lambda c, rate: max(1, -(-c // rate))),
+    'job time wrapping at 32 bits': ('time', lambda c, rate: (c + rate - 1) % 2 ** 32 // rate),
+    'power times cycles over rate, rounded up': (
+        'energy', lambda mW, time, c, rate: -(-mW * c // rate)),
+    'power times cycles over rate, rounded down': (
+        'energy', lambda mW, time, c, rate: mW * c // rate),
+    'power alone': ('energy', lambda mW, time, c, rate: mW),
+    'time alone': ('energy', lambda mW, time, c, rate: time),
+    'millijoules': ('energy', lambda mW, time, c, rate: mW * time // 1_000),
+    'energies held at the most': ('energy', lambda mW, time, c, rate: min(mW * time, 1_000_000)),
+    'energies of at least 1': ('energy', lambda mW, time, c, rate: max(mW * time, 1)),
+    'over from 1,000,000 on': ('over', lambda energies: max(energies) >= 1_000_000),
+    'over a tick late': ('over', lambda energies: max(energies) > 1_001_600),
+    'over at the highest rate': ('over', lambda energies: energies[-1] > 1_000_000),
+    'over at the lowest rate': ('over', lambda energies: energies[0] > 1_000_000),
+    'over at every rate': ('over', lambda energies: min(energies) > 1_000_000),
+    'over in the sum': ('over', lambda energies: sum(energies) > 1_000_000),
+    'never over': ('over', lambda energies: False),
+    'energies of 0 refused': (
+        'over', lambda energies: max(energies) > 1_000_000 or max(energies) == 0),
+    'the last such task': ('which', lambda dear: dear[-1] + 1),
+    'tasks from 0': ('which', lambda dear: dear[0]),
+    'how many such tasks': ('which', lambda dear: len(dear)),
+    'the place of its period': ('which', lambda dear: 3 + 5 + 7 * dear[0]),
+}
+
+
+def chip_in_parts(chip, slack, tasks, **other):
+    """What is read of a chip's text, with enough words lent: of the parts, or of another in
+    place of one."""
+    part = {**CHIP_PARTS, **other}
+    rates = [part['rate'](MHz) for MHz, _ in part[chip]]
+    words, dear = [slack, len(rates), *rates, len(tasks)], []
+    for number, (period, cycles) in enumerate(tasks):
+        energies = [part['energy'](mW, part['time'](cycles, rate), cycles, rate)
+                    for rate, (_, mW) in zip(rates, part[chip])]
+        words += [period, cycles, *energies]
+        if part['over'](energies):
+            dear.append(number)
+    return refused(9, part['which'](dear)) if dear else words
+
+
+def chip_errors():
+    """Each wrong reading departs from one of the worked figures."""
+    for chip, slack, tasks, want in CHIP_WORKED:
+        same('%s in parts, %r' % (chip, tasks), chip_in_parts(chip, slack, tasks), want)
+    for name, (part, wrong) in CHIP_MISREAD.items():
+        seen = any(chip_in_parts(chip, slack, tasks, **{part: wrong}) != want
+                   for chip, slack, tasks, want in CHIP_WORKED)
+        same('chip misread: ' + name, seen, True)
+
+
+def chip_offsets():
+    """Where texts with a chip, and with what is not one, depart; and which bytes go on."""
+    slack, rates = b'(slack 1)\n', b'(rates 1 2)\n'
+    xscale, ppc405lp = b'(chip xscale)\n', b'(chip ppc405lp)\n'
+    bare = b'(task (period 1) (cycles 1))\n'
+    given = b'(task (period 1) (cycles 1) (energy 1 1))\n'
+
+    def at(name, text, offset):
+        same('chip text, ' + name, r.read_text(text, 1000), refused(1, offset))
+        same('chip text, %s, the usual way' % name, plain_reader(text), offset)
+
+    def goes_on(name, text, bytes_):
+        states = states_after(text)
+        found = bytes(byte for byte in range(256)
+                      if any(r.next_states(state, byte) for state in states))
+        same('chip text, after ' + name, found, bytes_)
+
+    for label, line, name in (('xscale', xscale, b'xscale'), ('ppc405lp', ppc405lp, b'ppc405lp')):
+        text = slack + line + bare
+        for length in range(len(text)):
+            at('%s cut after %d' % (label, length), text[:length], length)
+        same(label + ', read', r.read_text(text, 1000)[0], 'read')
+        begin = len(slack + b'(chip ')
+        for place, byte in enumerate(name):
+            for wrong in b'\x00 ()019Zz\xff' + bytes([byte ^ 32]):
+                if wrong != byte:
+                    at('%s, %d at byte %d' % (label, wrong, place),
+                       text[:begin + place] + bytes([wrong]) + text[begin + place + 1:],
+                       begin + place)
+            goes_on('%d bytes of %s' % (place + 1, label), text[:begin + place + 1],
+                    name[place + 1:place + 2] or b')')
+        head = slack + line
+        at(label + ', then rates', head + rates + bare, len(head) + 1)
+        at(label + ', after rates', slack + rates + line + given, len(slack + rates) + 1)
+        at(label + ' twice', head + line + bare, len(head) + 1)
+        at(label + ', then the other', head + (ppc405lp if line == xscale else xscale) + bare,
+           len(head) + 1)
+        at(label + ' before the slack', line + slack + bare, 1)
+        at(label + ', then the slack', head + slack + bare, len(head) + 1)
+        at(label + ', no task', head, len(head))
+        at(label + ' with energies', head + given, len(head) + 27)
+        at(label + ' with energies at task 2', head + bare + given, len(head + bare) + 27)
+        at(label + ' with energies at task 32', head + bare * 31 + given, len(head + bare * 31) + 27)
+        same(label + ', 32 tasks', r.read_text(head + bare * 32, 1000)[0], 'read')
+        at(label + ', a 33rd task', head + bare * 33, len(head + bare * 32))
+        at(label + ', bytes left over', text + b' ', len(text))
+        at(label + ', then rates at last', text + rates, len(text) + 1)
+        goes_on('a task line of ' + label, text, b'(')
+        goes_on('32 task lines of ' + label, head + bare * 32, b'')
+        goes_on('the cycles of ' + label, text[:-2], b')')
+    at('rates without energies', slack + rates + bare, len(slack + rates) + 27)
+    at('rates without energies at task 2', slack + rates + given + bare,
+       len(slack + rates + given) + 27)
+    # `(chip xp`: the name departs at the p, and `(chip ps` at the s.
+    at('xp', slack + b'(chip xp', 17)
+    at('ps', slack + b'(chip ps', 17)
+    at('no name', slack + b'(chip )\n', 16)
+    at('no name and no space', slack + b'(chip)\n', 15)
+    at('two spaces', slack + b'(chip  xscale)\n', 16)
+    at('a number for a name', slack + b'(chip 150)\n', 16)
+    at('a name for rates', slack + b'(rates xscale)\n', 17)
+    at('a longer name', slack + b'(chip xscales)\n', 22)
+    at('two names', slack + b'(chip xscale ppc405lp)\n', 22)
+    goes_on('the slack line', slack, b'(')
+    goes_on('the second bracket', slack + b'(', b'cr')
+    goes_on('the word chip', slack + b'(chip', b' ')
+    goes_on('the space of a chip', slack + b'(chip ', b'px')
+    goes_on('the cycles of rates', slack + rates + given[:27], b' ')
+
+
+def chips_at_random():
+    """Expansions held to those in parts; what was read is a set that is written and read back,
+    and the program prints the same for both texts."""
+    g = random.Random(7)
+    seen = set()
+    for number in range(300):
+        chip = g.choice(list(MOST_CYCLES))
+        most = MOST_CYCLES[chip]
+        tasks = []
+        for _ in range(g.choice([1, 1, 2, 2, 3, 8, 32])):
+            cycles = g.choice([1, most, g.randint(1, most), g.randint(1, most), 1_000 * g.randint(
+                1, most // 1_000)])
+            if g.randint(1, 12) == 1:
+                cycles = g.choice([0, most + 1, most + g.randint(1, 10 ** 6), 4_294_967_295])
+            tasks.append((g.choice([1, 10, 50, 100, 200, 400, 800]), cycles))
+        slack = g.choice([300, 500, 1_000])
+        text, name = chip_text(chip, slack, tasks), 'chip %d, %s %r' % (number, chip, tasks)
+        want = chip_in_parts(chip, slack, tasks)
+        if want[0] == 'refused':
+            same(name, r.read_text(text, g.choice([0, PLENTY])), want)
+            same(name + ', printed', r.respond(text), b'(refused 9 %d)\n' % want[2])
+            seen.add((chip, 9))
+            continue
+        same(name, r.read_text(text, len(want)), ('read', want))
+        if number % 10 == 0:
+            same(name + ', a word short', r.read_text(text, len(want) - 1), refused(6, len(want)))
+        none = [place for place, (_, cycles) in enumerate(tasks) if cycles == 0]
+        if none:
+            M = len(r.CHIPS[chip])
+            place = 3 + M + (2 + M) * none[0] + 1
+            same(name + ', cycles of 0', r.check_set(want), refused(2, place))
+            same(name + ', cycles of 0, printed', r.respond(text), b'(refused 2 %d)\n' % place)
+            seen.add((chip, 2))
+            continue
+        kind, explicit = r.write_text(want, PLENTY)
+        same(name + ', written', kind, 'written')
+        same(name + ', with rates and energies', (explicit.count(b'(rates '),
+             explicit.count(b'(energy '), explicit.count(b'chip')), (1, len(tasks), 0))
+        same(name + ', read back', r.read_text(explicit, len(want)), ('read', want))
+        if len(tasks) <= 3:
+            printed = r.respond(text)
+            same(name + ', printed alike', printed, r.respond(explicit))
+            seen.add((chip, printed[:11] == b'(refused 7 '))
+    same('every kind of chip text was seen', seen,
+         {(chip, kind) for chip in MOST_CYCLES for kind in (9, 2, True, False)})
+
+
 # --------------------------------------------------------------- random sets
 
 def random_set(g, most_tasks, most_rates):
@@ -677,8 +1008,14 @@ def plain_reader(data):
     try:
         fixed(b'(slack ')
         number()
-        fixed(b')\n(rates')
-        M = row(2, 8)
+        fixed(b')\n(')
+        M = None                # under a chip there are no energies
+        if here() == b'c':
+            fixed(b'chip ')
+            fixed(b'xscale' if here() == b'x' else b'ppc405lp')
+        else:
+            fixed(b'rates')
+            M = row(2, 8)
         fixed(b')\n')
         for task in range(32):
             if task > 0 and at == len(data):
@@ -687,21 +1024,27 @@ def plain_reader(data):
             number()
             fixed(b') (cycles ')
             number()
-            fixed(b') (energy')
-            row(M, M)
+            if M is not None:
+                fixed(b') (energy')
+                row(M, M)
             fixed(b'))\n')
         return None if at == len(data) else at
     except Stop as stop:
         return stop.args[0]
 
 
-def completed(prefix):
-    """A text that begins with the prefix, made from one of its states."""
+def states_after(prefix):
     states = r.first_states()
     for byte in prefix:
         states = {after for state in states for after in r.next_states(state, byte)}
-    M, N, place, value = min(states, key=lambda state: state[:2])
-    items = r.shape(M, N)[place:]
+    return states
+
+
+def completed(prefix):
+    """A text that begins with the prefix, made from one of its states."""
+    second, N, place, value = min(states_after(prefix),
+                                  key=lambda state: (str(state[0]), state[1]))
+    items = r.shape(second, N)[place:]
     if value is not None:
         items = items[1:]       # a number has begun and may end here
     return prefix + b''.join(b'7' if i == r.NUMBER else bytes([i]) for i in items)
@@ -710,7 +1053,7 @@ def completed(prefix):
 def random_texts():
     g = random.Random(3)
     seen = set()
-    for number in range(400):
+    for number in range(600):
         M, N = g.choice([(0, 1), (1, 1), (2, 1), (2, 2), (3, 0), (3, 3), (8, 1), (9, 1)])
 
         def some():
@@ -719,15 +1062,18 @@ def random_texts():
         def some_row(count):
             return ''.join(' %d' % some() for _ in range(count))
 
-        text = '(slack %d)\n(rates%s)\n' % (some(), some_row(M))
+        chip = g.choice([None, None, 'xscale', 'ppc405lp'])
+        text = '(slack %d)\n' % some()
+        text += '(chip %s)\n' % chip if chip else '(rates%s)\n' % some_row(M)
         for _ in range(N):
+            bare = bool(chip) != (g.randint(1, 12) == 1)        # now and then the other kind of line
             energies = M + g.choice([0, 0, 0, 0, 0, -1, 1])
-            text += '(task (period %d) (cycles %d) (energy%s))\n' % (
-                some(), some(), some_row(max(0, energies)))
+            text += '(task (period %d) (cycles %d)%s)\n' % (
+                some(), some(), '' if bare else ' (energy%s)' % some_row(max(0, energies)))
         text = bytearray(text.encode('ascii'))
         for _ in range(g.choice([0, 1, 1, 1, 2])):
             place = g.randrange(len(text))
-            byte = g.choice(b'0123456789() \n\rabcdeiklnoprstxy\x00\xff')
+            byte = g.choice(b'0123456789() \n\rabcdehiklnoprstxy\x00\xff')
             what = g.choice(['change', 'insert', 'remove', 'cut', 'append'])
             if what == 'change':
                 text[place] = byte
@@ -743,20 +1089,22 @@ def random_texts():
         name = 'random text %d %r' % (number, text)
         offset = plain_reader(text)
         answer = r.read_text(text, 1000)
-        seen.add(answer[0])
+        seen.add((answer[0], bool(chip)))
         if offset is None:
-            same(name + ', read', answer[0], 'read')
+            # Under a chip a number of cycles may be too large.
+            same(name + ', read', answer[0] == 'read' or chip and answer[:2] == ('refused', 9), True)
         else:
             same(name + ', refused', answer, refused(1, offset))
             whole = completed(text[:offset])
             same(name + ', a text begins so', plain_reader(whole), None)
-    same('both kinds of text were seen', seen, {'read', 'refused'})
+    same('every kind of text was seen', seen, set(product(('read', 'refused'), (False, True))))
 
 
 def main():
     try:
         for part in (edges, errors, the_text, offsets, answers, preemptions,
                      generator_edges, generator_errors, generated_sets,
+                     chip_edges, chip_errors, chip_offsets, chips_at_random,
                      random_sets, objections, large_sets, random_texts):
             part()
     except AssertionError as failure:
