@@ -1,15 +1,13 @@
 """Records of the program's call, and what it prints, put together in a second way."""
 
-import re
-
 import reference as r
 from records.shared import (
     DAMAGED_PROGRAMS, Draw, EDGES, LONGEST_RANDOM, MOST_PRINTED, MOST_TEXT, MOST_WORK, PAST_ONE,
     RANDOM_PROGRAMS, RANGES, S, SEED, TOP, costed, head_of, line_of, needed, on_a_line, period_of,
-    put, record, refused, task_set, text_of, with_periods, with_rates)
+    put, record, refused, task_set, text_of, with_periods, with_rates, words_of)
 from records.walk import walked
 from records.planner import judged_plan, largest, least_slack, some_planned
-from records.reader import damaged_text
+from records.reader import damaged_text, read_again
 from test_reference import EXAMPLE, PRINTED, plain_reader
 
 
@@ -43,32 +41,20 @@ def plan_lines(unit, load, L, energy, rates, preempted):
                          form('preempted', preempted)))
 
 
-def words_of(text):
-    """The words of a well-formed text."""
-    lines = text.split(b'\n')[:-1]
-    M, N = lines[1].count(b' '), len(lines) - 2
-    numbers = [int(number) for number in re.findall(rb'[0-9]+', text)]
-    words = [numbers[0], M, *numbers[1:1 + M], N, *numbers[1 + M:]]
-    assert text_of(words) == text
-    return words
-
-
 def printed_for(name, text):
     """All that the program prints, put together here, and where L is not long by
     the reference too. That no more than 8,192 bytes are read is left to it."""
-    departs = plain_reader(text)
-    if departs is not None:
-        printed, L = refusal(1, departs), 0
-    else:
-        words = words_of(text)
+    answer = read_again(text, r.MOST_WORDS)
+    if answer[0] == 'read':
+        words = answer[1]
         answer = judged_plan(name, words, 32, MOST_WORK)
-        if answer[0] == 'refused':
-            printed, L = refusal(*answer[1:]), 0
-        else:
-            _, unit, load, L, energy, rates = answer
-            busy, idle, preempted = walked(words, rates)
-            assert (busy, idle) == (load, L - load), name
-            printed = plan_lines(unit, load, L, energy, rates, preempted)
+    if answer[0] == 'refused':
+        printed, L = refusal(*answer[1:]), 0
+    else:
+        _, unit, load, L, energy, rates = answer
+        busy, idle, preempted = walked(words, rates)
+        assert (busy, idle) == (load, L - load), name
+        printed = plan_lines(unit, load, L, energy, rates, preempted)
     if L <= LONGEST_RANDOM:
         assert r.respond(text) == printed, name
     return printed

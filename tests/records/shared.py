@@ -111,6 +111,23 @@ def costed(rates, tasks, slack=100):
     return words
 
 
+# Of each chip of document 02's note 2 the rates, and the microjoules that a tick takes at each.
+CHIPS = {'xscale': {150_000: 80, 400_000: 170, 600_000: 400, 800_000: 900, 1_000_000: 1_600},
+         'ppc405lp': {33_000: 19, 100_000: 72, 266_000: 600, 333_000: 750}}
+
+
+def expanded(chip, slack, tasks):
+    """The list of a chip and of tasks that are pairs of period and cycles. A job takes its full
+    ticks, and one more where cycles are left."""
+    whole = []
+    for period, cycles in tasks:
+        whole.append([period, cycles])
+        for rate, microjoules in CHIPS[chip].items():
+            full, left = divmod(cycles, rate)
+            whole[-1].append(microjoules * full + (microjoules if left else 0))
+    return costed(CHIPS[chip], whole, slack)
+
+
 def needed(words):
     """W of a good list."""
     M, N = words[1], words[2 + words[1]]
@@ -184,6 +201,37 @@ def text_of(words):
     tasks = [words[at:at + 2 + M] for at in range(3 + M, len(words), 2 + M)]
     assert words[2 + M] == len(tasks)
     return head_of(words[0], words[2:2 + M]) + b''.join(line_of(*task) for task in tasks)
+
+
+def chip_head(chip, slack):
+    return ('(slack %s)\n(chip %s)\n' % (slack, chip)).encode('latin-1')
+
+
+def chip_line(period, cycles):
+    return ('(task (period %s) (cycles %s))\n' % (period, cycles)).encode('latin-1')
+
+
+def chip_text(chip, slack, tasks):
+    return chip_head(chip, slack) + b''.join(chip_line(*task) for task in tasks)
+
+
+def chip_of(text):
+    """The chip that a well-formed text names, or None."""
+    line = text.split(b'\n')[1]
+    return line[6:-1].decode('ascii') if line.startswith(b'(chip ') else None
+
+
+def words_of(text):
+    """The words of a well-formed text, whatever their ranges; those of a chip's text expanded."""
+    (slack,), rates, *tasks = ([int(number) for number in re.findall(rb'[0-9]+', line)]
+                               for line in text.split(b'\n')[:-1])
+    chip = chip_of(text)
+    if chip:
+        assert chip_text(chip, slack, tasks) == text
+        return expanded(chip, slack, tasks)
+    words = costed(rates, tasks, slack)
+    assert text_of(words) == text
+    return words
 
 
 # ------------------------------------------------------------ random choices
