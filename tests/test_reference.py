@@ -518,7 +518,11 @@ CHIP_WORKED = [
      [9, *XSCALE, 1, 700, 625_000_000, 333_360, 265_710, 416_800, 703_800, 1_000_000]),
     ('ppc405lp', 9, [(700, 443_156_000)],
      [9, *PPC405LP, 1, 700, 443_156_000, 255_151, 319_104, 999_600, 998_250]),
-    # One more: 626 x 1,600 = 1,001,600, and 1,667 x 600 = 1,000,200.
+    # The fewest cycles of as many ticks at the highest rate; at the others one past a full tick:
+    # 4,161, 1,561, 1,041 and 781 ticks.
+    ('xscale', 9, [(700, 624_000_001)],
+     [9, *XSCALE, 1, 700, 624_000_001, 332_880, 265_370, 416_400, 702_900, 1_000_000]),
+    # A cycle more than the most: 626 x 1,600 = 1,001,600, and 1,667 x 600 = 1,000,200.
     ('xscale', 9, [(700, 625_000_001)], refused(9, 1)),
     ('ppc405lp', 9, [(700, 443_156_001)], refused(9, 1)),
     # The first such task's number.
