@@ -4,8 +4,9 @@ program's call and the load generator, and their answers.
     python3 tests/make_cases.py           writes crates/cases/stdin and stdout
     python3 tests/make_cases.py --check   writes nothing and compares with both
 
-Each call has a module of records/, and shared.py there has what they share. The
-order of the records is that of the groups in make, below.
+Each call has a module of records/, chips.py there has those of processors by name,
+for all calls, and shared.py has what they share. The order of the records is that of
+the groups in make, below.
 
 One record a line, one space between items, each line ended by byte 10:
 
@@ -38,7 +39,8 @@ reference must agree with it. A planner answer of a set with few plans is made
 in both of the reference's ways and judged by looking at every plan. Of every
 text a reader of the usual kind must say the same as the reference, which goes
 by the definition: which bytes begin some well-formed text. Words that were read
-or written are put into a text once more, in another way. What the program prints
+or written are put into a text once more, in another way; those of a chip are worked
+out again, and refusal 9 is found by the cycles alone. What the program prints
 is put together by program.py as well, with a walk from one event to the next, and the
 reference must print the same; where L is so long that its walk would be slow, it
 is not asked. A generated list is made by generator.py as well, with each draw worked
@@ -54,7 +56,7 @@ from pathlib import Path
 
 sys.dont_write_bytecode = True
 
-from records import checks, generator, planner, program, reader, walk, writer
+from records import checks, chips, generator, planner, program, reader, walk, writer
 from records.shared import answers, names, questions
 
 FOLDER = Path(__file__).resolve().parent.parent / 'crates' / 'cases'
@@ -126,6 +128,43 @@ SENTENCES = {
         'g-count-0-lent-400 g-length-01 g-length-32 g-count-33-lent-400 '
         'g-count-4294967295-lent-400',
     'Note 1: then 6': 'g-length-01-short g-length-32-short g-count-0-lent-0 g-count-33-lent-238',
+
+    'Note 2: A line (chip xscale) or (chip ppc405lp) replaces the rates line':
+        'r-chip-worked-01-lent-22 r-chip-worked-02-lent-19 r-chip-name-11 r-chip-name-13 '
+        'r-chip-xscale-then-rates r-chip-xscale-after-rates r-chip-ppc405lp-then-rates '
+        'r-chip-ppc405lp-after-rates r-chip-xscale-twice r-chip-ppc405lp-twice',
+    'Note 2: task lines then omit the energy form':
+        'r-chip-xscale-energies-at-1 r-chip-ppc405lp-energies-at-1 r-chip-xscale-energies-at-32 '
+        'r-chip-none-bare r-chip-none-bare-at-2 r-chip-xscale-rates-given-bare',
+    'Note 2: One tick is a millisecond, so rates are MHz x 1,000':
+        'r-chip-worked-01-lent-22 r-chip-worked-02-lent-19 a-chip-printed-03 a-chip-printed-04 '
+        'a-chip-printed-05 a-chip-printed-07',
+    'Note 2: an energy is power in mW times the job time':
+        'r-chip-worked-01-lent-22 r-chip-worked-02-lent-19 r-chip-worked-05-lent-22 '
+        'r-chip-worked-06-lent-19',
+    'Note 2: xscale 150, 400, 600, 800, 1000 MHz at 80, 170, 400, 900, 1600 mW':
+        'r-chip-worked-03-lent-22 r-chip-xscale-cycles-1',
+    'Note 2: ppc405lp 33, 100, 266, 333 MHz at 19, 72, 600, 750 mW':
+        'r-chip-worked-04-lent-19 r-chip-ppc405lp-cycles-1',
+    'Note 2: Reading gives the ordinary list, expanded':
+        'r-chip-worked-01-lent-22 a-chip-printed-01 a-chip-printed-01-given a-chip-printed-02 '
+        'a-chip-printed-02-given r-chip-list-7-of-chip p-chip-list-7 c-chip-list-7',
+    'Note 2: the writer writes that list in the old form': 't-chip-list-1 t-chip-list-2 t-chip-list-7',
+    'Note 2: The round trip is about lists and holds for these too':
+        'r-chip-list-1-of-chip t-chip-list-1 r-chip-list-1 r-chip-list-2-of-chip t-chip-list-2 '
+        'r-chip-list-2',
+    'Note 2: 9, an energy worked out here is over 1,000,000':
+        'r-chip-xscale-at-1000000-625000000 r-chip-xscale-at-1000000-625000001 '
+        'r-chip-ppc405lp-at-266000-443156000 r-chip-ppc405lp-at-266000-443156001 '
+        'r-chip-xscale-cycles-4294967295 r-chip-xscale-given a-chip-xscale-given '
+        'a-chip-ppc405lp-given a-chip-9',
+    "Note 2: with the first such task's number":
+        'r-chip-xscale-of-2-dear-1 r-chip-xscale-of-2-dear-2 r-chip-xscale-of-32-dear-32 '
+        'r-chip-ppc405lp-of-32-dear-31-32 r-chip-ppc405lp-of-32-dear-9-10-and-on',
+    'Note 2: after 1, before 6':
+        'r-chip-xscale-1-before-9-line-end r-chip-ppc405lp-1-before-9-cut r-chip-xscale-9-lent-0 '
+        'r-chip-xscale-9-lent-21 r-chip-xscale-6-lent-21 r-chip-xscale-6-lent-22 '
+        'a-chip-xscale-slack-0-and-9 a-chip-ppc405lp-9-before-4',
 }
 
 
@@ -146,7 +185,11 @@ def make():
                   program.program_large, program.random_programs, generator.generator_worked,
                   generator.generator_lengths, generator.generator_counts,
                   generator.generator_seeds, generator.generator_draws,
-                  generator.random_generated, generator.generator_for_others):
+                  generator.random_generated, generator.generator_for_others,
+                  chips.chip_worked, chips.chip_sizes, chips.chip_names, chips.chip_bytes,
+                  chips.chip_lines, chips.chip_numbers, chips.chip_nine, chips.chip_programs,
+                  chips.chip_lists, chips.random_chips, chips.random_chip_programs,
+                  chips.random_chip_lists):
         group()
     for sentence, found in SENTENCES.items():
         assert names.issuperset(found.split()), sentence

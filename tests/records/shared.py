@@ -22,6 +22,9 @@ RANDOM_LISTS = 300              # each is written and read back
 RANDOM_PROGRAMS = 300           # texts of sets, and
 DAMAGED_PROGRAMS = 200          # damaged ones
 RANDOM_GENERATED = 400
+RANDOM_CHIPS = 150              # texts of chips for the reader,
+RANDOM_CHIP_PROGRAMS = 100      # for the program, and
+RANDOM_CHIP_LISTS = 20          # lists of chips, each written and read back
 FEW_PLANS = 1_024               # up to so many, the reference looks at all of them
 TOP = 4_294_967_295             # the largest word
 
