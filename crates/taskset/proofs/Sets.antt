@@ -21,7 +21,7 @@ use Rattle.selection.proofs.Fastest.{Falling}
 use Rattle.layout.specs.Words.{mostTasks, headSize, word, rateCount, taskCount, ratePlace, rate, period}
 use Rattle.taskset.specs.Quantities.{hyperLimit, jobTime, hyperPeriod, taskLoad, taskEnergy, problemOf, endlessTasks}
 use Rattle.taskset.specs.Refusals.{RateFault, PassesLimit, Passes, Accepts, _▹_, wordCheck, rateCheck, wordChecks, hyperCheck}
-use Rattle.taskset.proofs.Checks.{no-word-fault, no-rate-fault, none-passes}
+use Rattle.taskset.proofs.Checks.{accepts-next, no-word-fault, no-rate-fault, none-passes}
 use Rattle.layout.proofs.Whole.{IsWhole, whole-of, whole-iff}
 use Rattle.layout.specs.declared.Layout.{Layout}
 
@@ -65,17 +65,8 @@ module _ (layout : Layout) (s : List ℕ) where
         least = λ c all. running-least (period layout s) (taskCount layout s) (λ t l. w .period-range t l .0) (taskCount layout s) c (omega arith) all;
       }
 
-  -- And back: who builds a list shows that it passes the three checks from the facts of its words. c is a common
-  -- multiple of its periods, and within the limit.
-  module _ (w : IsWhole layout s) (up : (r : ℕ) → 1 ≤ r → r < rateCount layout s → rate layout s r < rate layout s (suc r))
-      (c : ℕ) (some : 0 < c) (few : c ≤ hyperLimit) (multiple : (t : ℕ) → t < taskCount layout s → period layout s t ∣ c) where
-    divides-multiple : (t : ℕ) → t ≤ taskCount layout s → running (period layout s) t ∣ c
-    divides-multiple t h =
-        running-least (period layout s) (taskCount layout s) (λ t l. w .period-range t l .0) t c h (λ i l. multiple i (omega arith))
-
-    pub hyper-divides : hyperPeriod layout s ∣ c
-    hyper-divides = divides-multiple (taskCount layout s) (omega arith)
-
+  -- And back: who builds a list shows that it passes checks 2 and 3 from the facts of its words.
+  module _ (w : IsWhole layout s) (up : (r : ℕ) → 1 ≤ r → r < rateCount layout s → rate layout s r < rate layout s (suc r)) where
     no-fall : (q : ℕ) → RateFault layout s q → ⊥
     no-fall q f =
         let r : ℕ = q - headSize layout in
@@ -87,11 +78,22 @@ module _ (layout : Layout) (s : List ℕ) where
         let low : rate layout s (r - 1) ≡ word s (q - 1) = ap (word s) before in
         omega (arith, f .2)
 
-    pub set-passes : Accepts (wordChecks layout s ▹ hyperCheck layout s)
-    set-passes =
-        let long : (q : ℕ) → hyperCheck layout s .cause q → ⊥ =
-        λ q h. let f = h .1 .here in omega (arith, f .1, le-of-dvd some (divides-multiple (suc (h .0)) (omega (arith, f .0)))) in
-        ((λ q h. whole-iff layout s .0 w q (h .here)), ((λ q h. no-fall q (h .here)), (long, tt)))
+    pub words-pass : Accepts (wordChecks layout s)
+    words-pass = ((λ q h. whole-iff layout s .0 w q (h .here)), ((λ q h. no-fall q (h .here)), tt))
+
+    -- And check 4, where c is a common multiple of its periods, and within the limit.
+    module _ (c : ℕ) (some : 0 < c) (few : c ≤ hyperLimit) (multiple : (t : ℕ) → t < taskCount layout s → period layout s t ∣ c) where
+      divides-multiple : (t : ℕ) → t ≤ taskCount layout s → running (period layout s) t ∣ c
+      divides-multiple t h =
+          running-least (period layout s) (taskCount layout s) (λ t l. w .period-range t l .0) t c h (λ i l. multiple i (omega arith))
+
+      pub hyper-divides : hyperPeriod layout s ∣ c
+      hyper-divides = divides-multiple (taskCount layout s) (omega arith)
+
+      pub set-passes : Accepts (wordChecks layout s ▹ hyperCheck layout s)
+      set-passes =
+          accepts-next (wordChecks layout s) (hyperCheck layout s) words-pass
+          (λ q h. let f = h .1 .here in omega (arith, f .1, le-of-dvd some (divides-multiple (suc (h .0)) (omega (arith, f .0)))))
 
   module _ (set : IsSet layout s) where
     -- No rate is above the last.

@@ -9,4 +9,5 @@ pub mod Grammar
 pub mod Sizes
 pub mod RoundTrip
 pub mod Copies
+pub mod Expanded
 pub mod Theorems

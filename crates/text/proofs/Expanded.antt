@@ -1,0 +1,245 @@
+-- The list of a script that names a chip: what stands where in it, and which checks it passes.
+-- Assumes nothing.
+use Prim.Native.Nat.{ℕ, zero, suc, _+_, _-_, _*_, _≤_, _<_}
+use mathlib.Core.Path.{_≡_, refl, sym, ap, _∙_, subst}
+use mathlib.Core.List.{List, [], _∷_, _++_, append-assoc}
+use mathlib.Core.Bool.{true}
+use mathlib.Core.Logic.{⊎-elim}
+use native.Mathlib.Nat.{add-zero, suc-mul}
+use native.Mathlib.Decide.{decLe, decLt}
+use native.Mathlib.Omega.{arith}
+use lib.ListN.{length, getD, length-append, List·getD-append}
+use lib.Seq.{getD-append-add}
+use Rattle.numbers.specs.Numbers.{All, joined}
+use Rattle.numbers.proofs.Lists.{each-at}
+use Rattle.numbers.proofs.Search.{no-lowest}
+use Rattle.numbers.proofs.Tests.{lt-or-le, true-between}
+use Rattle.layout.specs.Words.{headKinds, extraKinds, headSize, extraSize, headKind, kindIn, allows, longestPeriod, mostEnergy, word, slack, rateCount, taskCount, ratePlace, taskCountPlace, tasksPlace, taskSize, periodPlace, wordCount, rate, period, cycles, energy}
+use Rattle.layout.specs.declared.Layout.the-variants.{Ordinary}
+use Rattle.layout.proofs.Whole.{IsWhole}
+use Rattle.chips.specs.Chips.{chipCount, chipRate, chipEnergy, chipRates, chipEnergies}
+use Rattle.chips.specs.declared.Chip.{Chip}
+use Rattle.chips.proofs.Tables.{count-range, rates-length, energies-length, rate-range, rates-rise, energy-positive}
+use Rattle.taskset.specs.Refusals.{Passes, Accepts, wordChecks}
+use Rattle.taskset.proofs.Sets.{words-pass}
+use Rattle.text.specs.Text.{TaskLine, Clock, chip, Script, TaskLineOk, ScriptOk, IsTextOf, ratesOf, headWords, extraWords, taskWords, words}
+use Rattle.text.specs.Calls.{HasOver, energyCheck}
+use Rattle.text.proofs.Sizes.{task-size, words-size}
+use Rattle.text.proofs.Copies.{NoneOver}
+
+-- ---- items of one size, joined: what stands at each place, and what holds of the item there
+item-at : {A : Type 0} (P : A → Type 0) (g : A → List ℕ) (size : ℕ) → ((a : A) → P a → length (g a) ≡ size)
+    → (xs : List A) → All P xs → (t : ℕ) → t < length xs
+    → (a : A) × P a × ((k : ℕ) → k < size → getD (joined g xs) (t * size + k) 0 ≡ getD (g a) k 0)
+item-at P g size sized [] all t h = absurd (omega arith)
+item-at P g size sized (x ∷ xs) all zero h =
+    (x, all .0, λ k l.
+    let here : 0 * size + k ≡ k = omega arith in
+    ap (λ (p : ℕ). getD (g x ++ joined g xs) p 0) here ∙ List·getD-append (g x) (joined g xs) 0 k (omega (arith, sized x (all .0))))
+item-at P g size sized (x ∷ xs) all (suc t) h =
+    let r = item-at P g size sized xs (all .1) t (omega arith) in
+    (r .0, r .1, λ k l.
+    let there : suc t * size + k ≡ length (g x) + (t * size + k) = omega (arith, sized x (all .0), suc-mul t size) in
+    ap (λ (p : ℕ). getD (g x ++ joined g xs) p 0) there ∙ getD-append-add (g x) (joined g xs) (t * size + k) 0 ∙ r .2 k l)
+
+-- What a customer's own numbers are to be.
+pub record LineIn (l : TaskLine) : Type 0 where
+  pub period : (1 ≤ l .period) × (l .period ≤ longestPeriod)
+  pub cycles : (1 ≤ l .cycles) × (l .cycles ≤ 4000000000)
+
+head-length : (s : Script) → length (headWords s) ≡ headSize Ordinary
+unfolding headKinds
+head-length s = refl
+
+-- ---- what stands where
+module _ (c : Chip) (g : ℕ) (ts : List TaskLine) (ok : ScriptOk (record { slack = g; clock = chip c; tasks = ts })) where
+  abbrev s : Script
+  s = record { slack = g; clock = chip c; tasks = ts }
+
+  abbrev m : ℕ
+  m = length (chipRates c)
+
+  extra-length : (l : TaskLine) → length (l .period ∷ l .cycles ∷ extraWords l) ≡ taskSize Ordinary 0
+  unfolding extraKinds
+  extra-length l = refl
+
+  abbrev tasks : List ℕ
+  tasks = joined (taskWords (chip c)) ts
+
+  abbrev rest : List ℕ
+  rest = m ∷ (chipRates c ++ (length ts ∷ tasks))
+
+  parts : words s ≡ headWords s ++ rest
+  unfolding words
+  parts = refl
+
+  behind : (q k : ℕ) → q ≡ headSize Ordinary + k → word (words s) q ≡ word rest k
+  behind q k e =
+      let there : q ≡ length (headWords s) + k = omega (arith, head-length s) in
+      ap (λ (l : List ℕ). word l q) parts ∙ ap (word (headWords s ++ rest)) there ∙ getD-append-add (headWords s) rest k 0
+
+  rates-is : rateCount Ordinary (words s) ≡ m
+  rates-is = behind (headSize Ordinary) 0 (omega arith)
+
+  rate-is : (r : ℕ) → 1 ≤ r → r ≤ m → rate Ordinary (words s) r ≡ chipRate c r
+  unfolding chipRates
+  rate-is r a b =
+      let k : suc (r - 1) ≡ r = omega arith in
+      let number : 1 + (r - 1) ≡ r = omega arith in
+      behind (ratePlace Ordinary r) r refl ∙ ap (word rest) (sym k) ∙
+      List·getD-append (chipRates c) (length ts ∷ tasks) 0 (r - 1) (omega arith) ∙
+      each-at (chipRate c) 1 (chipCount c) (r - 1) (omega (arith, rates-length c)) 0 ∙ ap (chipRate c) number
+
+  -- Behind the rates.
+  behind-rates : (k : ℕ) → word rest (suc m + k) ≡ word (length ts ∷ tasks) k
+  behind-rates k = getD-append-add (m ∷ chipRates c) (length ts ∷ tasks) k 0
+
+  tasks-is : taskCount Ordinary (words s) ≡ length ts
+  tasks-is =
+      ap (λ (k : ℕ). word (words s) (taskCountPlace Ordinary k)) rates-is ∙
+      behind (taskCountPlace Ordinary m) (suc m + 0) (omega arith) ∙ behind-rates 0
+
+  -- Word k of the task at t is that of its line.
+  module _ (P : TaskLine → Type 0) (held : All (λ l. TaskLineOk 0 l × P l) ts) (t : ℕ) (h : t < length ts) where
+    found : (l : TaskLine) × (TaskLineOk 0 l × P l) × ((k : ℕ) → k < taskSize Ordinary m → getD tasks (t * taskSize Ordinary m + k) 0 ≡ getD (taskWords (chip c) l) k 0)
+    found = item-at (λ l. TaskLineOk 0 l × P l) (taskWords (chip c)) (taskSize Ordinary m) (λ l d. task-size (chip c) l (d .0)) ts held t h
+
+    abbrev line : TaskLine
+    line = found .0
+
+    task-word : (k : ℕ) → k < taskSize Ordinary m → word (words s) (periodPlace Ordinary (rateCount Ordinary (words s)) t + k) ≡ word (taskWords (chip c) line) k
+    task-word k l =
+        ap (λ (j : ℕ). word (words s) (periodPlace Ordinary j t + k)) rates-is ∙
+        behind (periodPlace Ordinary m t + k) (suc m + suc (t * taskSize Ordinary m + k)) (omega arith) ∙
+        behind-rates (suc (t * taskSize Ordinary m + k)) ∙ found .2 k l
+
+    period-is : period Ordinary (words s) t ≡ line .period
+    period-is = ap (word (words s)) (sym (add-zero (periodPlace Ordinary (rateCount Ordinary (words s)) t))) ∙ task-word 0 (omega arith)
+
+    cycles-is : cycles Ordinary (words s) t ≡ line .cycles
+    cycles-is = task-word 1 (omega arith)
+
+    energy-is : (r : ℕ) → 1 ≤ r → r ≤ m → energy Ordinary (words s) t r ≡ chipEnergy c (line .cycles) r
+    unfolding chipEnergies
+    energy-is r a b =
+        let number : 1 + (r - 1) ≡ r = omega arith in
+        let extra : List ℕ = line .period ∷ line .cycles ∷ extraWords line in
+        let size : length extra ≡ taskSize Ordinary 0 = extra-length line in
+        let place : 1 + extraSize Ordinary + r ≡ length extra + (r - 1) = omega arith in
+        task-word (1 + extraSize Ordinary + r) (omega arith) ∙ ap (word (taskWords (chip c) line)) place ∙
+        getD-append-add extra (chipEnergies c (line .cycles)) (r - 1) 0 ∙
+        each-at (chipEnergy c (line .cycles)) 1 (chipCount c) (r - 1) (omega (arith, rates-length c)) 0 ∙ ap (chipEnergy c (line .cycles)) number
+
+-- ---- which checks it passes
+-- Whether a task has an energy over the largest can be told, so where no first task has one none has.
+over-by : (f : ℕ → ℕ) (j : ℕ) → Dec ((r : ℕ) × (1 ≤ r) × (r ≤ j) × (mostEnergy < f r))
+over-by f zero = no (λ h. omega (arith, h .1, h .2))
+over-by f (suc j) = go (decLt mostEnergy (f (suc j))) (over-by f j)
+  where
+    go : Dec (mostEnergy < f (suc j)) → Dec ((r : ℕ) × (1 ≤ r) × (r ≤ j) × (mostEnergy < f r))
+        → Dec ((r : ℕ) × (1 ≤ r) × (r ≤ suc j) × (mostEnergy < f r))
+    go (yes h) d = yes (suc j, omega arith, omega arith, h)
+    go (no h) (yes d) = yes (d .0, d .1, omega (arith, d .2), d .3)
+    go (no h) (no d) = no (λ x.
+        ⊎-elim (λ (l : x .0 < suc j). d (x .0, x .1, omega arith, x .3))
+        (λ (l : suc j ≤ x .0). let e : x .0 ≡ suc j = omega (arith, x .2) in h (subst (λ (r : ℕ). mostEnergy < f r) e (x .3)))
+        (lt-or-le (x .0) (suc j)))
+
+has-over : (s : Script) (k : ℕ) → Dec (HasOver s k)
+has-over s k = go (decLe 1 k) (decLe k (length (s .tasks))) (over-by (energy Ordinary (words s) (k - 1)) (length (ratesOf (s .clock))))
+  where
+    go : Dec (1 ≤ k) → Dec (k ≤ length (s .tasks))
+        → Dec ((r : ℕ) × (1 ≤ r) × (r ≤ length (ratesOf (s .clock))) × (mostEnergy < energy Ordinary (words s) (k - 1) r)) → Dec (HasOver s k)
+    go (yes a) (yes b) (yes x) = yes (record { from = a; to = b; rate = x .0; rate-from = x .1; rate-to = x .2; over = x .3 })
+    go (yes a) (yes b) (no x) = no (λ h. x (h .rate, h .rate-from, h .rate-to, h .over))
+    go (yes a) (no b) x = no (λ h. b (h .to))
+    go (no a) b x = no (λ h. a (h .from))
+
+pub passes-over : (s : Script) (t : List ℕ) → IsTextOf s t → Passes (energyCheck t) → NoneOver s
+passes-over s t is pass w = no-lowest (HasOver s) (has-over s) (λ k l. pass k (s, is, w, l))
+
+both : {A : Type 0} (P Q : A → Type 0) (xs : List A) → All P xs → All Q xs → All (λ x. P x × Q x) xs
+both P Q [] p q = tt
+both P Q (x ∷ xs) p q = ((p .0, q .0), both P Q xs (p .1) (q .1))
+
+-- Where its slack, its periods and its cycles are in their ranges, and no energy is over the largest, a chip's list
+-- passes checks 2 and 3.
+module _ (c : Chip) (g : ℕ) (ts : List TaskLine) (ok : ScriptOk (record { slack = g; clock = chip c; tasks = ts }))
+    (slack-in : (1 ≤ g) × (g ≤ 1000)) (lines-in : All LineIn ts)
+    (none : NoneOver (record { slack = g; clock = chip c; tasks = ts })) where
+  abbrev list : List ℕ
+  list = words (record { slack = g; clock = chip c; tasks = ts })
+
+  held : All (λ l. TaskLineOk 0 l × LineIn l) ts
+  held = both (TaskLineOk 0) LineIn ts (ok .tasks .each) lines-in
+
+  task : (t : ℕ) → t < taskCount Ordinary list → t < length ts
+  task t h = omega (arith, tasks-is c g ts ok)
+
+  head-in : (q : ℕ) → q < headSize Ordinary → allows list q (headKind Ordinary q) ≡ true
+  unfolding allows headKinds headKind kindIn words
+  head-in zero h = true-between 1 1000 g (slack-in .0) (slack-in .1)
+  head-in (suc q) h = absurd (omega arith)
+
+  extra-in : (t k : ℕ) → t < taskCount Ordinary list → k < extraSize Ordinary
+      → allows list (periodPlace Ordinary (rateCount Ordinary list) t + (2 + k)) (kindIn (extraKinds Ordinary) k) ≡ true
+  unfolding extraKinds
+  extra-in t k h l = absurd (omega arith)
+
+  few : (r : ℕ) → r ≤ rateCount Ordinary list → r ≤ length (chipRates c)
+  few r b = omega (arith, rates-is c g ts ok)
+
+  energy-in : (t r : ℕ) → t < taskCount Ordinary list → 1 ≤ r → r ≤ rateCount Ordinary list
+      → (1 ≤ energy Ordinary list t r) × (energy Ordinary list t r ≤ 1000000)
+  energy-in t r h a b =
+      let l = found c g ts ok LineIn held t (task t h) in
+      let e = energy-is c g ts ok LineIn held t (task t h) r a (few r b) in (
+        omega (arith, energy-positive c (l .0 .cycles) r (l .1 .1 .cycles .0) a (omega (arith, few r b, rates-length c))),
+        ⊎-elim
+            (λ (over : mostEnergy < energy Ordinary list t r).
+            let back : suc t - 1 ≡ t = omega arith in
+            absurd (none tt (suc t) (record {
+              from = omega arith;
+              to = omega (arith, task t h);
+              rate = r;
+              rate-from = a;
+              rate-to = few r b;
+              over = rw back over;
+            })))
+            (λ (within : energy Ordinary list t r ≤ mostEnergy). within)
+            (lt-or-le mostEnergy (energy Ordinary list t r)),
+      )
+
+  whole : IsWhole Ordinary list
+  whole =
+      let m = rates-is c g ts ok in
+      let n = tasks-is c g ts ok in
+      record {
+        size = words-size (record { slack = g; clock = chip c; tasks = ts }) ok
+            ∙ ap (λ (j : ℕ). periodPlace Ordinary j (length ts)) (sym m) ∙ ap (periodPlace Ordinary (rateCount Ordinary list)) (sym n);
+        rates-range = (omega (arith, rates-length c, count-range c), omega (arith, rates-length c, count-range c));
+        tasks-range = (omega (arith, ok .tasks .least), omega (arith, ok .tasks .most));
+        head-word = head-in;
+        rate-range = λ r a b.
+            let e = rate-is c g ts ok r a (few r b) in
+            let k = rate-range c r a (omega (arith, few r b, rates-length c)) in
+            (omega arith, omega arith);
+        period-range = λ t h.
+            let l = found c g ts ok LineIn held t (task t h) .1 .1 .period in
+            let e = period-is c g ts ok LineIn held t (task t h) in
+            (omega arith, omega arith);
+        cycles-range = λ t h.
+            let l = found c g ts ok LineIn held t (task t h) .1 .1 .cycles in
+            let e = cycles-is c g ts ok LineIn held t (task t h) in
+            (omega arith, omega arith);
+        extra-word = extra-in;
+        energy-range = energy-in;
+      }
+
+  rising : (r : ℕ) → 1 ≤ r → r < rateCount Ordinary list → rate Ordinary list r < rate Ordinary list (suc r)
+  rising r a b =
+      omega (arith, rate-is c g ts ok r a (few r (omega arith)), rate-is c g ts ok (suc r) (omega arith) (few (suc r) b),
+      rates-rise c r a (omega (arith, few (suc r) b, rates-length c)))
+
+  pub list-passes : Accepts (wordChecks Ordinary list)
+  list-passes = words-pass Ordinary list whole rising
