@@ -14,6 +14,18 @@ pub printed-lines : printed ≡ planLine 1 29 30 41 ++ (rateLines 1 (2 ∷ 1 ∷
 unfolding printed planLine rateLine walkLine decimal digits
 printed-lines = refl
 
+-- The lines of a text with the chip ppc405lp (document 02, note 2), and of its refusal 9.
+unfoldable pub chip-printed : List ℕ
+chip-printed = bytes "(plan (unit 128) (load 20 40) (energy 1440))\n(rate 1 2)\n(rate 2 2)\n(walk (busy 20) (idle 20) (preempted 0))\n"
+
+pub chip-lines : chip-printed ≡ planLine 128 20 40 1440 ++ (rateLines 1 (2 ∷ 2 ∷ []) ++ walkLine 20 20 0)
+unfolding chip-printed planLine rateLine walkLine decimal digits
+chip-lines = refl
+
+pub refused-9-2 : refusedLine 9 2 ≡ bytes "(refused 9 2)\n"
+unfolding refusedLine decimal digits
+refused-9-2 = refl
+
 -- "it prints only `(refused 7 0)`"
 pub refused-7-0 : refusedLine 7 0 ≡ bytes "(refused 7 0)\n"
 unfolding refusedLine decimal digits

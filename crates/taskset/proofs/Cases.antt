@@ -50,6 +50,13 @@ one-period p = 100 ∷ 2 ∷ 2 ∷ 4 ∷ 1 ∷ p ∷ 1 ∷ 1 ∷ 1 ∷ []
 two-periods : ℕ → ℕ → List ℕ
 two-periods p q = 100 ∷ 2 ∷ 2 ∷ 4 ∷ 2 ∷ p ∷ 1 ∷ 1 ∷ 1 ∷ q ∷ 1 ∷ 1 ∷ 1 ∷ []
 
+-- The list that a text with the chip ppc405lp says (document 02, note 2): rates 33, 100, 266 and 333 MHz, one tick a
+-- millisecond. At 33 MHz the jobs take 31 and 16 ticks, rounded up: two of the second do not fit beside the first.
+unfoldable pub chip-set : List ℕ
+chip-set =
+    500 ∷ 4 ∷ 33000 ∷ 100000 ∷ 266000 ∷ 333000 ∷ 2 ∷ 40 ∷ 1000000 ∷ 589 ∷ 720 ∷ 2400 ∷ 3000 ∷ 20 ∷ 500000 ∷ 304 ∷ 360 ∷ 1200 ∷
+    1500 ∷ []
+
 -- Two tasks alike.
 even-tasks : List ℕ
 even-tasks = 100 ∷ 2 ∷ 1 ∷ 3 ∷ 2 ∷ 4 ∷ 3 ∷ 1 ∷ 5 ∷ 4 ∷ 3 ∷ 1 ∷ 5 ∷ []
@@ -198,6 +205,10 @@ pub record Cases : Type 0 where
   -- number for task 2.
   plan-list-1 : (plan work : List ℕ) → length plan ≡ 1 → length work ≡ 243 → PlannerGives (S 100) plan work plan work (NotPlanned (TooShort 2))
   tie : (plan work : List ℕ) → length plan ≡ 2 → length work ≡ 243 → PlannerGives even-tasks plan work (2 ∷ 1 ∷ []) (replicate 243 0) (Planned 1 4 4 6)
+  -- A chip's list: its plan, and the walk of it.
+  pub planned-chip : (plan work : List ℕ) → length plan ≡ 2 → length work ≡ 51
+      → PlannerGives chip-set plan work (2 ∷ 2 ∷ []) (replicate 51 0) (Planned 128 20 40 1440)
+  pub walk-chip : WalkAnswers chip-set (2 ∷ 2 ∷ []) (Kept 20 20 0)
   -- Attempt 1, "A planner that gives every task the fastest rate": plan 3 3 for S has load 12 and energy 120. It fits;
   -- but plan 2 1 keeps every deadline for ever too, with 41, and demand 3's bound stops 120.
   pub plan-3-3 : (planLoad (problem (S 100)) (3 ∷ 3 ∷ []) ≡ 12) × (reportedEnergy (S 100) (3 ∷ 3 ∷ []) ≡ 120) × Keeps (S 100) (3 ∷ 3 ∷ [])
@@ -212,7 +223,7 @@ pub record Cases : Type 0 where
   empty-plan : WalkAnswers (S 100) [] (NotWalked (BadPlan 0))
 
 pub cases : Cases
-unfolding S one-task one-period two-periods even-tasks with-rates checkedOf shapeOf afterShape isBad isFall isOver headKinds extraKinds kindIn kindAt headKind taskKind allows isUnfit planVerdict seek total gcdIn gcd lcm running fastest exponent usedExponent usedFrom leastEnergy cell best leastOf firstOf via spend trace choose IsLe
+unfolding S one-task one-period two-periods chip-set even-tasks with-rates checkedOf shapeOf afterShape isBad isFall isOver headKinds extraKinds kindIn kindAt headKind taskKind allows isUnfit planVerdict seek total gcdIn gcd lcm running fastest exponent usedExponent usedFrom leastEnergy cell best leastOf firstOf via spend trace choose IsLe
 cases = record {
   planned-100 = planned (S 100) 3 2 30 refl (2 ∷ 1 ∷ []) 0 1 29 41 (le-by-compare _ _ tt) (le-by-compare _ _ tt) refl refl refl refl refl refl;
   work-242 = λ plan work h. work-short (S 100) 3 2 30 refl plan work (omega arith);
@@ -237,6 +248,8 @@ cases = record {
   long-bad-plan = plan-refused (S 100) 3 2 30 refl (1 ∷ 1 ∷ 9 ∷ 9 ∷ []) 2 refl;
   plan-list-1 = λ plan work p q. plan-short (S 100) 3 2 30 refl plan work (omega arith) (omega arith);
   tie = planned even-tasks 2 2 4 refl (2 ∷ 1 ∷ []) 0 1 4 6 (le-by-compare _ _ tt) (le-by-compare _ _ tt) refl refl refl refl refl refl;
+  planned-chip = planned chip-set 4 2 40 refl (2 ∷ 2 ∷ []) 7 128 20 1440 (le-by-compare _ _ tt) (le-by-compare _ _ tt) refl refl refl refl refl refl;
+  walk-chip = (walks chip-set 4 2 40 refl (2 ∷ 2 ∷ []) refl, refl);
   plan-3-3 = (refl, refl, walk-owes (S 100) (3 ∷ 3 ∷ []) (Kept 12 18 0) (walks (S 100) 3 2 30 refl (3 ∷ 3 ∷ []) refl, refl) .0);
   plan-3-3-stopped = λ p.
       let other : Keeps (S 100) (2 ∷ 1 ∷ []) = walk-owes (S 100) (2 ∷ 1 ∷ []) (Kept 29 1 1) (walks (S 100) 3 2 30 refl (2 ∷ 1 ∷ []) refl, refl) .0 in

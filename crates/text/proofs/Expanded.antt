@@ -32,15 +32,21 @@ item-at : {A : Type 0} (P : A → Type 0) (g : A → List ℕ) (size : ℕ) → 
     → (xs : List A) → All P xs → (t : ℕ) → t < length xs
     → (a : A) × P a × ((k : ℕ) → k < size → getD (joined g xs) (t * size + k) 0 ≡ getD (g a) k 0)
 item-at P g size sized [] all t h = absurd (omega arith)
-item-at P g size sized (x ∷ xs) all zero h =
-    (x, all .0, λ k l.
-    let here : 0 * size + k ≡ k = omega arith in
-    ap (λ (p : ℕ). getD (g x ++ joined g xs) p 0) here ∙ List·getD-append (g x) (joined g xs) 0 k (omega (arith, sized x (all .0))))
+item-at P g size sized (x ∷ xs) all zero h = (
+  x,
+  all .0,
+  λ k l.
+      let here : 0 * size + k ≡ k = omega arith in
+      ap (λ (p : ℕ). getD (g x ++ joined g xs) p 0) here ∙ List·getD-append (g x) (joined g xs) 0 k (omega (arith, sized x (all .0))),
+)
 item-at P g size sized (x ∷ xs) all (suc t) h =
-    let r = item-at P g size sized xs (all .1) t (omega arith) in
-    (r .0, r .1, λ k l.
-    let there : suc t * size + k ≡ length (g x) + (t * size + k) = omega (arith, sized x (all .0), suc-mul t size) in
-    ap (λ (p : ℕ). getD (g x ++ joined g xs) p 0) there ∙ getD-append-add (g x) (joined g xs) (t * size + k) 0 ∙ r .2 k l)
+    let r = item-at P g size sized xs (all .1) t (omega arith) in (
+      r .0,
+      r .1,
+      λ k l.
+          let there : suc t * size + k ≡ length (g x) + (t * size + k) = omega (arith, sized x (all .0), suc-mul t size) in
+          ap (λ (p : ℕ). getD (g x ++ joined g xs) p 0) there ∙ getD-append-add (g x) (joined g xs) (t * size + k) 0 ∙ r .2 k l,
+    )
 
 -- What a customer's own numbers are to be.
 pub record LineIn (l : TaskLine) : Type 0 where
@@ -238,8 +244,12 @@ module _ (c : Chip) (g : ℕ) (ts : List TaskLine) (ok : ScriptOk (record { slac
 
   rising : (r : ℕ) → 1 ≤ r → r < rateCount Ordinary list → rate Ordinary list r < rate Ordinary list (suc r)
   rising r a b =
-      omega (arith, rate-is c g ts ok r a (few r (omega arith)), rate-is c g ts ok (suc r) (omega arith) (few (suc r) b),
-      rates-rise c r a (omega (arith, few (suc r) b, rates-length c)))
+      omega (
+        arith,
+        rate-is c g ts ok r a (few r (omega arith)),
+        rate-is c g ts ok (suc r) (omega arith) (few (suc r) b),
+        rates-rise c r a (omega (arith, few (suc r) b, rates-length c)),
+      )
 
   pub list-passes : Accepts (wordChecks Ordinary list)
   list-passes = words-pass Ordinary list whole rising

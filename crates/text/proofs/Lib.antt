@@ -11,3 +11,4 @@ pub mod RoundTrip
 pub mod Copies
 pub mod Expanded
 pub mod Theorems
+pub mod Cases

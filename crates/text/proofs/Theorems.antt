@@ -2,23 +2,20 @@
 -- Assumes nothing.
 use Prim.Native.Nat.{ℕ, _^_, _≤_, _<_}
 use mathlib.Core.Path.{_≡_, refl, sym, _∙_}
-use mathlib.Core.List.{List, [], _∷_, _++_}
+use mathlib.Core.List.{List, _++_}
 use mathlib.Core.Logic.{_↔_, _⊎_, inl, inr}
-use lib.ListN.{length, take, drop, replicate}
-use Rattle.numbers.specs.Numbers.{All, joined}
-use Rattle.layout.specs.Words.{headKinds, extraKinds}
+use lib.ListN.{length, take, drop}
+use Rattle.numbers.specs.Numbers.{All}
 use Rattle.layout.specs.declared.Layout.the-variants.{Ordinary}
-use Rattle.chips.specs.Chips.{megahertz, milliwatts, chipRates, chipEnergies}
 use Rattle.chips.specs.declared.Chip.{Chip}
-use Rattle.chips.specs.declared.Chip.the-variants.{Xscale, Ppc405lp}
 use Rattle.taskset.specs.Refusals.{Passes, Accepts, wordCheck, wordChecks}
 use Rattle.taskset.proofs.Checks.{passed}
 use Rattle.taskset.specs.declared.CopyAnswer.{CopyAnswer}
 use Rattle.taskset.specs.declared.CopyAnswer.the-variants.{Wrote}
 use Rattle.taskset.proofs.Copied.{SameCopied}
-use Rattle.text.specs.Text.{TaskLine, chip, Script, bytes, decimal, scriptText, IsTextOf, WellFormed, FirstBad, words, scriptOf}
+use Rattle.text.specs.Text.{TaskLine, chip, Script, decimal, scriptText, IsTextOf, WellFormed, FirstBad, words, scriptOf}
 use Rattle.text.specs.Calls.{readerChecks, ReaderGives, WriterGives}
-use Rattle.text.proofs.Reading.{Res, got, bad, literal, more, number, many, readText}
+use Rattle.text.proofs.Reading.{Res, got, bad, readText}
 use Rattle.text.proofs.Numerals as numerals
 use Rattle.text.proofs.Numerals.{said}
 use Rattle.text.proofs.Pieces.{first-bad-one, no-first-bad}
@@ -111,105 +108,3 @@ pub chip-passes : (c : Chip) (g : ℕ) (ts : List TaskLine) (t d d′ : List ℕ
 chip-passes c g ts t d d′ n is gives slack-in lines-in =
     list-passes c g ts (is .script) slack-in lines-in
     (passes-over (record { slack = g; clock = chip c; tasks = ts }) t is (passed 9 (readerChecks t (length d)) refl (gives .0)))
-
--- ---- examples
--- Document 01's input of the program is the text of "the set list S", and says the words of S.
-abbrev S : List ℕ
-S = 100 ∷ 3 ∷ 2 ∷ 4 ∷ 8 ∷ 2 ∷ 10 ∷ 12 ∷ 4 ∷ 9 ∷ 20 ∷ 15 ∷ 20 ∷ 7 ∷ 15 ∷ 30 ∷ []
-
-unfoldable pub example : List ℕ
-example = bytes "(slack 100)\n(rates 2 4 8)\n(task (period 10) (cycles 12) (energy 4 9 20))\n(task (period 15) (cycles 20) (energy 7 15 30))\n"
-
-pub example-text : IsTextOf (scriptOf S) example
-unfolding example readText number more literal many scriptOf headKinds extraKinds
-example-text = accepts-well-formed (scriptOf S) example .0 refl
-
-pub example-words : words (scriptOf S) ≡ S
-unfolding words scriptOf headKinds extraKinds
-example-words = refl
-
--- A text for each chip, and the words that it says: at 33 MHz a million cycles take 31 ticks, the last not all used.
-unfoldable pub xscale : List ℕ
-xscale = bytes "(slack 100)\n(chip xscale)\n(task (period 10) (cycles 1500000))\n(task (period 20) (cycles 3000000))\n"
-
-abbrev pub xscaleWords : List ℕ
-xscaleWords =
-    100 ∷ 5 ∷ 150000 ∷ 400000 ∷ 600000 ∷ 800000 ∷ 1000000 ∷ 2 ∷ 10 ∷ 1500000 ∷ 800 ∷ 680 ∷ 1200 ∷ 1800 ∷ 3200 ∷ 20 ∷ 3000000 ∷
-    1600 ∷ 1360 ∷ 2000 ∷ 3600 ∷ 4800 ∷ []
-
-unfoldable pub ppc405lp : List ℕ
-ppc405lp = bytes "(slack 500)\n(chip ppc405lp)\n(task (period 40) (cycles 1000000))\n(task (period 20) (cycles 500000))\n"
-
-abbrev pub ppc405lpWords : List ℕ
-ppc405lpWords =
-    500 ∷ 4 ∷ 33000 ∷ 100000 ∷ 266000 ∷ 333000 ∷ 2 ∷ 40 ∷ 1000000 ∷ 589 ∷ 720 ∷ 2400 ∷ 3000 ∷ 20 ∷ 500000 ∷ 304 ∷ 360 ∷ 1200 ∷
-    1500 ∷ []
-
--- A script of two tasks under a chip.
-abbrev pub underChip : ℕ → Chip → ℕ → ℕ → ℕ → ℕ → Script
-underChip g c p₁ c₁ p₂ c₂ = record {
-  slack = g;
-  clock = chip c;
-  tasks = record { period = p₁; cycles = c₁; energies = [] } ∷ record { period = p₂; cycles = c₂; energies = [] } ∷ [];
-}
-
-pub record Chips : Type 0 where
-  pub xscale-text : IsTextOf (underChip 100 Xscale 10 1500000 20 3000000) xscale
-  pub xscale-words : words (underChip 100 Xscale 10 1500000 20 3000000) ≡ xscaleWords
-  pub ppc405lp-text : IsTextOf (underChip 500 Ppc405lp 40 1000000 20 500000) ppc405lp
-  pub ppc405lp-words : words (underChip 500 Ppc405lp 40 1000000 20 500000) ≡ ppc405lpWords
-
-pub chips : Chips
-unfolding xscale ppc405lp readText number more literal many words chipRates chipEnergies megahertz milliwatts
-chips = record {
-  xscale-text = accepts-well-formed (underChip 100 Xscale 10 1500000 20 3000000) xscale .0 refl;
-  xscale-words = refl;
-  ppc405lp-text = accepts-well-formed (underChip 500 Ppc405lp 40 1000000 20 500000) ppc405lp .0 refl;
-  ppc405lp-words = refl;
-}
-
--- Two rates, and n tasks all alike.
-unfoldable pub alike : ℕ → List ℕ
-alike n = bytes "(slack 1)\n(rates 1 2)\n" ++ joined (λ (k : ℕ). bytes "(task (period 1) (cycles 1) (energy 1 1))\n") (replicate n 0)
-
--- "A ninth rate, a 33rd task or a digit that passes the largest number is refusal 1 at that byte." "Empty text: refusal
--- 1, offset 0." After the largest number only a bracket may follow, after a first digit 0 no other, and a text that
--- ends before its first task ends early. With chips: an unknown name departs at the first letter that no name has there,
--- an energy form under a chip at the space in front of it, a missing one under rates at the bracket in its place, and
--- where a chip and a line of rates both stand, the second at the first byte that no text has.
-pub record Departures : Type 0 where
-  ninth-rate : FirstBad WellFormed (bytes "(slack 1)\n(rates 1 2 3 4 5 6 7 8 9)\n") 32
-  task-33 : FirstBad WellFormed (alike 33) 1366
-  largest-passed : FirstBad WellFormed (bytes "(slack 4294967296)\n") 16
-  empty : FirstBad WellFormed [] 0
-  leading-zero : FirstBad WellFormed (bytes "(slack 01)\n") 8
-  after-largest : FirstBad WellFormed (bytes "(slack 4294967295 ") 17
-  no-task : FirstBad WellFormed (bytes "(slack 1)\n(rates 1 2)\n") 22
-  unknown-name : FirstBad WellFormed (bytes "(slack 1)\n(chip xp)\n") 17
-  other-name : FirstBad WellFormed (bytes "(slack 1)\n(chip arm)\n") 16
-  name-cut : FirstBad WellFormed (bytes "(slack 1)\n(chip ppc405") 22
-  energies-under-chip : FirstBad WellFormed (bytes "(slack 1)\n(chip xscale)\n(task (period 1) (cycles 1) (energy 1 1 1 1 1))\n") 51
-  no-energies : FirstBad WellFormed (bytes "(slack 1)\n(rates 1 2)\n(task (period 1) (cycles 1))\n") 49
-  chip-then-rates : FirstBad WellFormed (bytes "(slack 1)\n(chip xscale)\n(rates 1 2)\n") 25
-  rates-then-chip : FirstBad WellFormed (bytes "(slack 1)\n(rates 1 2)\n(chip xscale)\n") 23
-  two-chips : FirstBad WellFormed (bytes "(slack 1)\n(chip xscale)\n(chip xscale)\n") 25
-
-pub departures : Departures
-unfolding alike readText number more literal many
-departures = record {
-  ninth-rate = refuses-first-bad _ 32 .0 refl;
-  task-33 = refuses-first-bad _ 1366 .0 refl;
-  largest-passed = refuses-first-bad _ 16 .0 refl;
-  empty = refuses-first-bad [] 0 .0 refl;
-  leading-zero = refuses-first-bad _ 8 .0 refl;
-  after-largest = refuses-first-bad _ 17 .0 refl;
-  no-task = refuses-first-bad _ 22 .0 refl;
-  unknown-name = refuses-first-bad _ 17 .0 refl;
-  other-name = refuses-first-bad _ 16 .0 refl;
-  name-cut = refuses-first-bad _ 22 .0 refl;
-  energies-under-chip = refuses-first-bad _ 51 .0 refl;
-  no-energies = refuses-first-bad _ 49 .0 refl;
-  chip-then-rates = refuses-first-bad _ 25 .0 refl;
-  rates-then-chip = refuses-first-bad _ 23 .0 refl;
-  two-chips = refuses-first-bad _ 25 .0 refl;
-}

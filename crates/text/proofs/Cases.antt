@@ -1,0 +1,228 @@
+-- The cases of the bracketed text, worked in the documents or beside them, proved of the definitions: document 01's
+-- example, a text for each chip, both sides of refusal 9, and where texts depart.
+-- Assumes nothing.
+use Prim.Native.Nat.{ℕ, _-_, _^_, _≤_, _<_}
+use mathlib.Core.Path.{_≡_, refl, _∙_, subst}
+use mathlib.Core.List.{List, [], _∷_, _++_}
+use mathlib.Core.Bool.{true}
+use mathlib.Core.Logic.{inl, inr, ⊎-elim}
+use native.Mathlib.Omega.{arith}
+use native.Mathlib.Bridge.{le-by-compare, IsLe}
+use lib.ListN.{length, getD, replicate}
+use lib.Dec.{leb}
+use borrow.Author.Tests.{leb-true}
+use Rattle.numbers.specs.Numbers.{each, joined}
+use Rattle.numbers.proofs.Lists.{each-length, each-at, every, every-at}
+use Rattle.numbers.proofs.Tests.{lt-or-le}
+use Rattle.layout.specs.Words.{headKinds, extraKinds, mostEnergy, energy}
+use Rattle.layout.specs.declared.Layout.the-variants.{Ordinary}
+use Rattle.chips.specs.Chips.{megahertz, milliwatts, chipRates, chipEnergies}
+use Rattle.chips.specs.declared.Chip.{Chip}
+use Rattle.chips.specs.declared.Chip.the-variants.{Xscale, Ppc405lp}
+use Rattle.taskset.specs.Refusals.{Accepts, Refuses}
+use Rattle.text.specs.Text.{chip, Script, bytes, digits, decimal, scriptText, TaskLineOk, ScriptOk, IsTextOf, WellFormed, FirstBad, ratesOf, words, scriptOf}
+use Rattle.text.specs.Calls.{HasOver, readerChecks}
+use Rattle.text.proofs.Reading.{literal, more, number, many, readText}
+use Rattle.text.proofs.Pieces.{no-first-bad}
+use Rattle.text.proofs.Copies.{NoneOver, takes}
+use Rattle.text.proofs.Theorems.{accepts-well-formed, refuses-first-bad}
+
+-- Document 01's input of the program is the text of "the set list S", and says the words of S.
+abbrev S : List ℕ
+S = 100 ∷ 3 ∷ 2 ∷ 4 ∷ 8 ∷ 2 ∷ 10 ∷ 12 ∷ 4 ∷ 9 ∷ 20 ∷ 15 ∷ 20 ∷ 7 ∷ 15 ∷ 30 ∷ []
+
+unfoldable pub example : List ℕ
+example = bytes "(slack 100)\n(rates 2 4 8)\n(task (period 10) (cycles 12) (energy 4 9 20))\n(task (period 15) (cycles 20) (energy 7 15 30))\n"
+
+pub example-text : IsTextOf (scriptOf S) example
+unfolding example readText number more literal many scriptOf headKinds extraKinds
+example-text = accepts-well-formed (scriptOf S) example .0 refl
+
+pub example-words : words (scriptOf S) ≡ S
+unfolding words scriptOf headKinds extraKinds
+example-words = refl
+
+-- A text for each chip, and the words that it says: at 33 MHz a million cycles take 31 ticks, the last not all used.
+unfoldable pub xscale : List ℕ
+xscale = bytes "(slack 100)\n(chip xscale)\n(task (period 10) (cycles 1500000))\n(task (period 20) (cycles 3000000))\n"
+
+abbrev pub xscaleWords : List ℕ
+xscaleWords =
+    100 ∷ 5 ∷ 150000 ∷ 400000 ∷ 600000 ∷ 800000 ∷ 1000000 ∷ 2 ∷ 10 ∷ 1500000 ∷ 800 ∷ 680 ∷ 1200 ∷ 1800 ∷ 3200 ∷ 20 ∷ 3000000 ∷
+    1600 ∷ 1360 ∷ 2000 ∷ 3600 ∷ 4800 ∷ []
+
+unfoldable pub ppc405lp : List ℕ
+ppc405lp = bytes "(slack 500)\n(chip ppc405lp)\n(task (period 40) (cycles 1000000))\n(task (period 20) (cycles 500000))\n"
+
+abbrev pub ppc405lpWords : List ℕ
+ppc405lpWords =
+    500 ∷ 4 ∷ 33000 ∷ 100000 ∷ 266000 ∷ 333000 ∷ 2 ∷ 40 ∷ 1000000 ∷ 589 ∷ 720 ∷ 2400 ∷ 3000 ∷ 20 ∷ 500000 ∷ 304 ∷ 360 ∷ 1200 ∷
+    1500 ∷ []
+
+-- A script of two tasks under a chip.
+abbrev pub underChip : ℕ → Chip → ℕ → ℕ → ℕ → ℕ → Script
+underChip g c p₁ c₁ p₂ c₂ = record {
+  slack = g;
+  clock = chip c;
+  tasks = record { period = p₁; cycles = c₁; energies = [] } ∷ record { period = p₂; cycles = c₂; energies = [] } ∷ [];
+}
+
+pub record Chips : Type 0 where
+  pub xscale-text : IsTextOf (underChip 100 Xscale 10 1500000 20 3000000) xscale
+  pub xscale-words : words (underChip 100 Xscale 10 1500000 20 3000000) ≡ xscaleWords
+  pub ppc405lp-text : IsTextOf (underChip 500 Ppc405lp 40 1000000 20 500000) ppc405lp
+  pub ppc405lp-words : words (underChip 500 Ppc405lp 40 1000000 20 500000) ≡ ppc405lpWords
+
+pub chips : Chips
+unfolding xscale ppc405lp readText number more literal many words chipRates chipEnergies megahertz milliwatts
+chips = record {
+  xscale-text = accepts-well-formed (underChip 100 Xscale 10 1500000 20 3000000) xscale .0 refl;
+  xscale-words = refl;
+  ppc405lp-text = accepts-well-formed (underChip 500 Ppc405lp 40 1000000 20 500000) ppc405lp .0 refl;
+  ppc405lp-words = refl;
+}
+
+-- Refusal 9, either side of its edge: at 1,000 MHz 625,000,000 cycles take 625 ticks at 1,600 mW, which is 1,000,000
+-- exactly; a cycle more is a tick more. The second task's number is given, whatever is lent; and a byte behind the last
+-- line comes first.
+abbrev pub tooMuch : Script
+tooMuch = underChip 9 Xscale 7 625000000 7 625000001
+
+abbrev enough : Script
+enough = underChip 9 Xscale 7 625000000 7 625000000
+
+pub record Overs : Type 0 where
+  pub over : (lent : ℕ) → Refuses (readerChecks (scriptText tooMuch) lent) 9 2
+  pub at-most : (lent : ℕ) → 22 ≤ lent → Accepts (readerChecks (scriptText enough) lent)
+  pub left-over : (lent : ℕ) → Refuses (readerChecks (scriptText tooMuch ++ (10 ∷ [])) lent) 1 98
+
+-- That a task has no energy over the largest is computed, rate by rate.
+abbrev AllWithin : Script → ℕ → Type 0
+AllWithin s k = every (λ r. leb (energy Ordinary (words s) (k - 1) r) mostEnergy) (each (λ j. j) 1 (length (ratesOf (s .clock)))) ≡ true
+
+has-none : (s : Script) (k : ℕ) → AllWithin s k → HasOver s k → ⊥
+has-none s k all h =
+    let rs : List ℕ = each (λ j. j) 1 (length (ratesOf (s .clock))) in
+    let f : ℕ → ℕ = energy Ordinary (words s) (k - 1) in
+    let size = each-length (λ (j : ℕ). j) 1 (length (ratesOf (s .clock))) in
+    let here : getD rs (h .rate - 1) 0 ≡ h .rate =
+    each-at (λ j. j) 1 (length (ratesOf (s .clock))) (h .rate - 1) (omega (arith, h .rate-from, h .rate-to)) 0 ∙ omega (arith, h .rate-from) in
+    let e : leb (f (getD rs (h .rate - 1) 0)) mostEnergy ≡ true =
+    every-at (λ r. leb (f r) mostEnergy) rs all (h .rate - 1) 0 (omega (arith, size, h .rate-from, h .rate-to)) in
+    omega (arith, leb-true (f (h .rate)) mostEnergy (rw here at e), h .over)
+
+two-ok : (n : ℕ) → n < 2 ^ 32 → ScriptOk (underChip 9 Xscale 7 625000000 7 n)
+two-ok n h =
+    let line : (k : ℕ) → k < 2 ^ 32 → TaskLineOk 0 (record { period = 7; cycles = k; energies = [] }) = λ k l.
+    record { period = omega arith; cycles = l; energies = record { least = omega arith; most = omega arith; each = tt } } in
+    record {
+      slack = omega arith;
+      clock = tt;
+      tasks = record { least = omega arith; most = omega arith; each = (line 625000000 (omega arith), (line n h, tt)) };
+    }
+
+is-much : IsTextOf tooMuch (scriptText tooMuch)
+is-much = record { script = two-ok 625000001 (omega arith); text = refl }
+
+is-enough : IsTextOf enough (scriptText enough)
+is-enough = record { script = two-ok 625000000 (omega arith); text = refl }
+
+much-1 : AllWithin tooMuch 1
+unfolding words chipRates chipEnergies megahertz milliwatts headKinds extraKinds
+much-1 = refl
+
+much-2 : HasOver tooMuch 2
+unfolding words chipRates chipEnergies megahertz milliwatts headKinds extraKinds IsLe
+much-2 = record { from = omega arith; to = omega arith; rate = 5; rate-from = omega arith; rate-to = omega arith; over = le-by-compare _ _ tt }
+
+enough-words : length (words enough) ≡ 22
+unfolding words chipRates chipEnergies megahertz headKinds extraKinds
+enough-words = refl
+
+left : FirstBad WellFormed (scriptText tooMuch ++ (10 ∷ [])) 98
+unfolding readText number more literal many decimal digits
+left = refuses-first-bad (scriptText tooMuch ++ (10 ∷ [])) 98 .0 refl
+
+-- Of two tasks, none has an energy over the largest.
+two-within : (s : Script) → length (s .tasks) ≡ 2 → AllWithin s 1 → AllWithin s 2 → NoneOver s
+two-within s two a b w k h =
+    ⊎-elim
+    (λ (l : k < 2). let e : k ≡ 1 = omega (arith, h .from) in has-none s 1 a (subst (HasOver s) e h))
+    (λ (l : 2 ≤ k). let e : k ≡ 2 = omega (arith, h .to) in has-none s 2 b (subst (HasOver s) e h))
+    (lt-or-le k 2)
+
+enough-within : NoneOver enough
+unfolding words chipRates chipEnergies megahertz milliwatts headKinds extraKinds
+enough-within = two-within enough refl refl refl
+
+pub ppc405lp-within : NoneOver (underChip 500 Ppc405lp 40 1000000 20 500000)
+unfolding words chipRates chipEnergies megahertz milliwatts headKinds extraKinds
+ppc405lp-within = two-within (underChip 500 Ppc405lp 40 1000000 20 500000) refl refl refl
+
+pub overs : Overs
+overs = record {
+  over = λ lent.
+      inr (
+        (λ o. no-first-bad WellFormed (scriptText tooMuch) o (tooMuch, is-much)),
+        inl (
+          refl,
+          (
+            tooMuch,
+            is-much,
+            tt,
+            record {
+              here = much-2;
+              before = λ j l h. let e : j ≡ 1 = omega (arith, h .from) in has-none tooMuch 1 much-1 (subst (HasOver tooMuch) e h);
+            },
+          ),
+        ),
+      );
+  at-most = λ lent room. takes enough (scriptText enough) lent is-enough enough-within (omega (arith, room, enough-words));
+  left-over = λ lent. inl (refl, left);
+}
+
+-- Two rates, and n tasks all alike.
+unfoldable pub alike : ℕ → List ℕ
+alike n = bytes "(slack 1)\n(rates 1 2)\n" ++ joined (λ (k : ℕ). bytes "(task (period 1) (cycles 1) (energy 1 1))\n") (replicate n 0)
+
+-- "A ninth rate, a 33rd task or a digit that passes the largest number is refusal 1 at that byte." "Empty text: refusal
+-- 1, offset 0." After the largest number only a bracket may follow, after a first digit 0 no other, and a text that
+-- ends before its first task ends early. With chips: an unknown name departs at the first letter that no name has there,
+-- an energy form under a chip at the space in front of it, a missing one under rates at the bracket in its place, and
+-- where a chip and a line of rates both stand, the second at the first byte that no text has.
+pub record Departures : Type 0 where
+  ninth-rate : FirstBad WellFormed (bytes "(slack 1)\n(rates 1 2 3 4 5 6 7 8 9)\n") 32
+  task-33 : FirstBad WellFormed (alike 33) 1366
+  largest-passed : FirstBad WellFormed (bytes "(slack 4294967296)\n") 16
+  empty : FirstBad WellFormed [] 0
+  leading-zero : FirstBad WellFormed (bytes "(slack 01)\n") 8
+  after-largest : FirstBad WellFormed (bytes "(slack 4294967295 ") 17
+  no-task : FirstBad WellFormed (bytes "(slack 1)\n(rates 1 2)\n") 22
+  unknown-name : FirstBad WellFormed (bytes "(slack 1)\n(chip xp)\n") 17
+  other-name : FirstBad WellFormed (bytes "(slack 1)\n(chip arm)\n") 16
+  name-cut : FirstBad WellFormed (bytes "(slack 1)\n(chip ppc405") 22
+  energies-under-chip : FirstBad WellFormed (bytes "(slack 1)\n(chip xscale)\n(task (period 1) (cycles 1) (energy 1 1 1 1 1))\n") 51
+  no-energies : FirstBad WellFormed (bytes "(slack 1)\n(rates 1 2)\n(task (period 1) (cycles 1))\n") 49
+  chip-then-rates : FirstBad WellFormed (bytes "(slack 1)\n(chip xscale)\n(rates 1 2)\n") 25
+  rates-then-chip : FirstBad WellFormed (bytes "(slack 1)\n(rates 1 2)\n(chip xscale)\n") 23
+  two-chips : FirstBad WellFormed (bytes "(slack 1)\n(chip xscale)\n(chip xscale)\n") 25
+
+pub departures : Departures
+unfolding alike readText number more literal many
+departures = record {
+  ninth-rate = refuses-first-bad _ 32 .0 refl;
+  task-33 = refuses-first-bad _ 1366 .0 refl;
+  largest-passed = refuses-first-bad _ 16 .0 refl;
+  empty = refuses-first-bad [] 0 .0 refl;
+  leading-zero = refuses-first-bad _ 8 .0 refl;
+  after-largest = refuses-first-bad _ 17 .0 refl;
+  no-task = refuses-first-bad _ 22 .0 refl;
+  unknown-name = refuses-first-bad _ 17 .0 refl;
+  other-name = refuses-first-bad _ 16 .0 refl;
+  name-cut = refuses-first-bad _ 22 .0 refl;
+  energies-under-chip = refuses-first-bad _ 51 .0 refl;
+  no-energies = refuses-first-bad _ 49 .0 refl;
+  chip-then-rates = refuses-first-bad _ 25 .0 refl;
+  rates-then-chip = refuses-first-bad _ 23 .0 refl;
+  two-chips = refuses-first-bad _ 25 .0 refl;
+}
