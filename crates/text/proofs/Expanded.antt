@@ -22,7 +22,7 @@ use Rattle.chips.specs.declared.Chip.{Chip}
 use Rattle.chips.proofs.Tables.{count-range, rates-length, energies-length, rate-range, rates-rise, energy-positive}
 use Rattle.taskset.specs.Refusals.{Passes, Accepts, wordChecks}
 use Rattle.taskset.proofs.Sets.{words-pass}
-use Rattle.text.specs.Text.{TaskLine, Clock, chip, Script, TaskLineOk, ScriptOk, IsTextOf, ratesOf, headWords, extraWords, taskWords, words}
+use Rattle.text.specs.Text.{TaskLine, Clock, chip, Script, energyCount, TaskLineOk, ScriptOk, IsTextOf, ratesOf, headWords, extraWords, taskWords, words}
 use Rattle.text.specs.Calls.{HasOver, energyCheck}
 use Rattle.text.proofs.Sizes.{task-size, words-size}
 use Rattle.text.proofs.Copies.{NoneOver}
@@ -106,9 +106,9 @@ module _ (c : Chip) (g : ℕ) (ts : List TaskLine) (ok : ScriptOk (record { slac
       behind (taskCountPlace Ordinary m) (suc m + 0) (omega arith) ∙ behind-rates 0
 
   -- Word k of the task at t is that of its line.
-  module _ (P : TaskLine → Type 0) (held : All (λ l. TaskLineOk 0 l × P l) ts) (t : ℕ) (h : t < length ts) where
-    found : (l : TaskLine) × (TaskLineOk 0 l × P l) × ((k : ℕ) → k < taskSize Ordinary m → getD tasks (t * taskSize Ordinary m + k) 0 ≡ getD (taskWords (chip c) l) k 0)
-    found = item-at (λ l. TaskLineOk 0 l × P l) (taskWords (chip c)) (taskSize Ordinary m) (λ l d. task-size (chip c) l (d .0)) ts held t h
+  module _ (P : TaskLine → Type 0) (held : All (λ l. TaskLineOk (energyCount (chip c)) l × P l) ts) (t : ℕ) (h : t < length ts) where
+    found : (l : TaskLine) × (TaskLineOk (energyCount (chip c)) l × P l) × ((k : ℕ) → k < taskSize Ordinary m → getD tasks (t * taskSize Ordinary m + k) 0 ≡ getD (taskWords (chip c) l) k 0)
+    found = item-at (λ l. TaskLineOk (energyCount (chip c)) l × P l) (taskWords (chip c)) (taskSize Ordinary m) (λ l d. task-size (chip c) l (d .0)) ts held t h
 
     abbrev line : TaskLine
     line = found .0
@@ -156,8 +156,8 @@ has-over s k = go (decLe 1 k) (decLe k (length (s .tasks))) (over-by (energy Ord
   where
     go : Dec (1 ≤ k) → Dec (k ≤ length (s .tasks))
         → Dec ((r : ℕ) × (1 ≤ r) × (r ≤ length (ratesOf (s .clock))) × (mostEnergy < energy Ordinary (words s) (k - 1) r)) → Dec (HasOver s k)
-    go (yes a) (yes b) (yes x) = yes (record { from = a; to = b; rate = x .0; rate-from = x .1; rate-to = x .2; over = x .3 })
-    go (yes a) (yes b) (no x) = no (λ h. x (h .rate, h .rate-from, h .rate-to, h .over))
+    go (yes a) (yes b) (yes x) = yes (record { from = a; to = b; rate = x .0; rate-from = x .1; rate-to = x .2; over = omega (arith, x .3) })
+    go (yes a) (yes b) (no x) = no (λ h. x (h .rate, h .rate-from, h .rate-to, omega (arith, h .over)))
     go (yes a) (no b) x = no (λ h. b (h .to))
     go (no a) b x = no (λ h. a (h .from))
 
@@ -176,8 +176,8 @@ module _ (c : Chip) (g : ℕ) (ts : List TaskLine) (ok : ScriptOk (record { slac
   abbrev list : List ℕ
   list = words (record { slack = g; clock = chip c; tasks = ts })
 
-  held : All (λ l. TaskLineOk 0 l × LineIn l) ts
-  held = both (TaskLineOk 0) LineIn ts (ok .tasks .each) lines-in
+  held : All (λ l. TaskLineOk (energyCount (chip c)) l × LineIn l) ts
+  held = both (TaskLineOk (energyCount (chip c))) LineIn ts (ok .tasks .each) lines-in
 
   task : (t : ℕ) → t < taskCount Ordinary list → t < length ts
   task t h = omega (arith, tasks-is c g ts ok)

@@ -169,11 +169,11 @@ clock-piece =
     from-chip (chip c) d = tt
 
     from-rates : (k : Clock) → OfRates k → ClockOk k
-    from-rates (rates fs) d = d
+    from-rates (rates fs) d = record { least = omega (arith, d .least); most = omega (arith, d .most); each = d .each }
     from-rates (chip c) d = absurd d
 
     which : (k : Clock) → ClockOk k → OfChip k ⊎ OfRates k
-    which (rates fs) d = inr d
+    which (rates fs) d = inr (record { least = omega (arith, d .least); most = omega (arith, d .most); each = d .each })
     which (chip c) d = inl tt
 
     chip-begins : (k : Clock) → OfChip k → (r : List ℕ) → starts 99 (clockText k ++ r) ≡ true
@@ -197,9 +197,13 @@ pub script-piece : Piece scriptText ScriptOk (λ r. starts 40 r ≡ false) readS
 script-piece =
     seq-piece mkScript scriptText ScriptOk (field-piece (bytes "(slack ")) (λ _ _. behind-slack)
     (λ a b. refl)
-    (λ a b d e. record { slack = d; clock = e .0; tasks = e .1 })
+    (λ a b d e. record {
+      slack = d;
+      clock = e .0;
+      tasks = record { least = e .1 .least; most = omega (arith, e .1 .most); each = e .1 .each };
+    })
     (λ s d. (s .slack, (s .clock, s .tasks), d .slack, (d .clock, d .tasks), refl))
-    (λ _ _. let t = some-tasks 0 in ((chip Xscale, t .0), (tt, t .1))) (λ a b r _ _ _. refl)
+    (λ _ _. let t = some-tasks (energyCount (chip Xscale)) in ((chip Xscale, t .0), (tt, t .1))) (λ a b r _ _ _. refl)
 
 -- a script's text is read as that script
 pub read-render : (s : Script) → ScriptOk s → readText (scriptText s) ≡ got s (length (scriptText s))

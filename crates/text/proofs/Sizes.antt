@@ -152,7 +152,7 @@ rates-few (chip c) d = omega (arith, rates-length c, count-range c)
 
 as-many : (k : Clock) (t : TaskLine) → TaskLineOk (energyCount k) t → length (energiesOf k t) ≡ length (ratesOf k)
 as-many (rates fs) t h = omega (arith, h .energies .least, h .energies .most)
-as-many (chip c) t h = energies-length-of c (t .cycles) ∙ sym (rates-length c)
+as-many (chip c) t h = energies-length-of c _ ∙ sym (rates-length c)
 
 pub task-size : (k : Clock) (t : TaskLine) → TaskLineOk (energyCount k) t → length (taskWords k t) ≡ taskSize Ordinary (length (ratesOf k))
 unfolding extraKinds

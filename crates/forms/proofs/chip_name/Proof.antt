@@ -17,8 +17,8 @@ slice-aggregate-named c = search needs
 named-requires : tie.Need-named-requires
 named-requires c κs = search needs
 
-returns : tie.Need-returns
-returns c =
+xscale-named : tie.Need-returns
+xscale-named c =
     let x = c .before .before in
     c .named .ensures ∙ sym (either-first 120 _ _ _ _ (sym (x .before .is-letter .ensures) ∙ x .if1 .taken))
 
@@ -40,7 +40,7 @@ chip-name-spec =
     is-letter-requires
     slice-aggregate-named
     named-requires
-    returns
+    xscale-named
     slice-aggregate-named-2
     named-requires-2
     returns-2)

@@ -39,8 +39,8 @@ returns c =
 same-length-2 : tie.Need-same-length-2
 same-length-2 c = search needs
 
-returns-2 : tie.Need-returns-2
-returns-2 c =
+chip-energies : tie.Need-returns-2
+chip-energies c =
     let x = c .before .before in
     let a = x .before .before .before in
     rw (a .clock2 .given .1) (gives (no-energies _ _) refl (x .put-energies .ensures))
@@ -56,4 +56,4 @@ energies-spec =
     same-length
     returns
     same-length-2
-    returns-2)
+    chip-energies)

@@ -27,8 +27,8 @@ number c =
     let x = c .before in
     with-fact (subst WorkedOut (sym (x .before .enum-told2 .given .1)) tt) (numbered (x .first-over .ensures) (c .if1 .taken))
 
-returns-2 : tie.Need-returns-2
-returns-2 c = never _ (λ t h. absurd (subst WorkedOut (c .enum-told .given .1) (h .0)))
+nothing-worked-out : tie.Need-returns-2
+nothing-worked-out c = never _ (λ t h. absurd (subst WorkedOut (c .enum-told .given .1) (h .0)))
 
 returns-3 : tie.Need-returns-3
 returns-3 c =
@@ -36,4 +36,4 @@ returns-3 c =
     with-fact (subst WorkedOut (sym (x .before .enum-told2 .given .1)) tt) (none-numbered (x .first-over .ensures) (omega arith))
 
 pub over-task-spec : {M : Type 1} → statement M
-over-task-spec = tie.close (tie.spec enum-told enum-told-2 first-over-requires add-result number returns-2 returns-3)
+over-task-spec = tie.close (tie.spec enum-told enum-told-2 first-over-requires add-result number nothing-worked-out returns-3)
