@@ -63,21 +63,27 @@ module _ (s P out lent words words′ : List ℕ) (unit load hyper energy busy i
 plan : PrintsPlan (S 100) (2 ∷ 1 ∷ []) printed 1 29 30 41 29 1 1
 unfolding S headKinds extraKinds
 plan =
-    prints (S 100) (2 ∷ 1 ∷ []) printed (replicate 2 0) (replicate 243 0) (replicate 243 0) 1 29 30 41 29 1 1 (cases .planned-100 (replicate 2 0) (replicate 243 0) refl refl)
+    prints (S 100) (2 ∷ 1 ∷ []) printed (replicate 2 0) (replicate 243 0) (replicate 243 0) 1 29 30 41 29 1 1
+    (cases .planned-100 (replicate 2 0) (replicate 243 0) refl refl)
     (omega arith) (omega arith) refl (cases .walk-of-2-1 .1) printed-lines
 
 pub example-printed : Prints example printed
 unfolding S headKinds extraKinds scriptOf
 example-printed =
     planned (scriptOf (S 100)) (2 ∷ 1 ∷ []) 1 29 30 41 29 1 1
-    (record { accepts = takes (scriptOf (S 100)) example setLent example-text (λ w. absurd w) (words-length (scriptOf (S 100)) (example-text .script)); text = example-text })
+    (record {
+      accepts = takes (scriptOf (S 100)) example setLent example-text (λ w. absurd w)
+          (words-length (scriptOf (S 100)) (example-text .script));
+      text = example-text;
+    })
     (subst (λ (w : List ℕ). PrintsPlan w (2 ∷ 1 ∷ []) printed 1 29 30 41 29 1 1) (sym example-words) plan)
 
 -- A text with a chip prints its four lines too; and where an energy is over the largest, the one line of refusal 9.
 chip-plan : PrintsPlan chip-set (2 ∷ 2 ∷ []) chip-printed 128 20 40 1440 20 20 0
 unfolding chip-set headKinds extraKinds
 chip-plan =
-    prints chip-set (2 ∷ 2 ∷ []) chip-printed (replicate 2 0) (replicate 51 0) (replicate 51 0) 128 20 40 1440 20 20 0 (cases .planned-chip (replicate 2 0) (replicate 51 0) refl refl)
+    prints chip-set (2 ∷ 2 ∷ []) chip-printed (replicate 2 0) (replicate 51 0) (replicate 51 0) 128 20 40 1440 20 20 0
+    (cases .planned-chip (replicate 2 0) (replicate 51 0) refl refl)
     (omega arith) (omega arith) refl (cases .walk-chip .1) chip-lines
 
 pub chip-example-printed : Prints ppc405lp chip-printed
@@ -89,7 +95,8 @@ chip-example-printed =
       accepts = takes s ppc405lp setLent (chips .ppc405lp-text) ppc405lp-within (words-length s (chips .ppc405lp-text .script));
       text = chips .ppc405lp-text;
     })
-    (subst (λ (w : List ℕ). PrintsPlan w (2 ∷ 2 ∷ []) chip-printed 128 20 40 1440 20 20 0) (sym (chips .ppc405lp-words)) chip-plan)
+    (subst (λ (w : List ℕ). PrintsPlan w (2 ∷ 2 ∷ []) chip-printed 128 20 40 1440 20 20 0)
+    (sym (chips .ppc405lp-words)) chip-plan)
 
 pub over-printed : Prints (scriptText tooMuch) (bytes "(refused 9 2)\n")
 over-printed = unread 9 2 (overs .over setLent) (sym refused-9-2)

@@ -60,7 +60,8 @@ joined-alone [] = refl
 joined-alone (x ∷ xs) = ap (λ (ys : List ℕ). x ∷ ys) (joined-alone xs)
 
 -- The words of numbers, one by one, are the numbers.
-pub plainly : {k : ℕ} {d e : List ℕ} {x : Res (List ℕ)} {y : Res ℕ} → Gives length (joined alone) k d e x y → Gives length plain k d e x y
+pub plainly : {k : ℕ} {d e : List ℕ} {x : Res (List ℕ)} {y : Res ℕ} → Gives length (joined alone) k d e x y
+    → Gives length plain k d e x y
 plainly {x = got xs i} g = record { answers = g .answers; wrote = rw joined-alone at (g .wrote) }
 plainly {x = bad o} g = record { answers = g .answers; wrote = tt }
 
@@ -130,7 +131,8 @@ module _ {A : Type 0} {p : List ℕ → Res A} {c low spare : ℕ} {f : A → Li
     pub refused : (o : ℕ) → readAt p s i ≡ bad o → readAt (many p c low spare) s at ≡ bad o
     refused o q = h .rest ∙ rw (turn, seq-at, q)
 
-  ended : readAt (left p c low spare n) s i ≡ got [] i → Gives length (joined f) k d e (readAt (many p c low spare) s at) (got n i)
+  ended : readAt (left p c low spare n) s i ≡ got [] i → Gives length (joined f) k d e
+      (readAt (many p c low spare) s at) (got n i)
   ended q =
       let a : readAt (many p c low spare) s at ≡ got (h .items) i = h .rest ∙ rw (q, append-nil) in
       record { answers = rw a (ap (λ (z : ℕ). got z i) (sym (h .count))); wrote = rw a (h .in-place) }

@@ -10,7 +10,8 @@ use Rattle.numbers.specs.Numbers.{joined}
 use Rattle.layout.specs.Words.{mostRates, headKinds, extraKinds, headSize, taskCountPlace, tasksPlace, taskSize}
 use Rattle.layout.specs.declared.Layout.the-variants.{Ordinary}
 use Rattle.chips.proofs.Tables.{count-range, rates-length, energies-length}
-use Rattle.text.specs.Text.{bytes, TaskLine, Clock, rates, chip, Script, ClockOk, energyCount, TaskLineOk, ratesOf, headWords, extraWords, taskWords, words}
+use Rattle.text.specs.Text.{bytes, TaskLine, Clock, rates, chip, Script, ClockOk, energyCount, TaskLineOk, ratesOf}
+use Rattle.text.specs.Text.{headWords, extraWords, taskWords, words}
 use Rattle.text.proofs.Reading.{got, skip, upTo, numbers, readEnergies, readTask, readAt}
 use Rattle.text.proofs.Grammar.{dom-of, task-piece}
 use Rattle.taskset.proofs.Writing.{written, written-then, length-written}

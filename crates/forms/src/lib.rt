@@ -8,9 +8,10 @@ ghost use Rattle.layout.specs.Words.{mostRates, mostTasks, mostWords, tasksPlac
 ghost use Rattle.layout.specs.declared.Layout.the-variants.{Ordinary};
 ghost use Rattle.text.specs.Text;
 ghost use Rattle.text.proofs.Reading;
-ghost use Rattle.text.proofs.Reading.{ext, mapRes, mapped, skip, readAt, starts};
+ghost use Rattle.text.proofs.Reading.{ext, mapped, readAt, starts};
 ghost use Rattle.scanner.specs.Steps.{ofRead, noValue};
-ghost use Rattle.forms.specs.Forms.{spacedNumber, Gives, plain, ofChip, ofClock, ofSet, clockOf, ratesIn, energiesIn, Fits, energiesBy, wordsBy, saidOf};
+ghost use Rattle.forms.specs.Forms.{spacedNumber, Gives, plain, ofChip, ofClock, ofSet, clockOf, saidOf};
+ghost use Rattle.forms.specs.Forms.{ratesIn, energiesIn, Fits, energiesBy, wordsBy};
 use chips::Chip;
 use layout::Layout;
 use scanner::Class;
@@ -58,7 +59,8 @@ fn spaced(s: &[u8], at: usize) -> Read
 // At least low numbers and up to spare more, each behind a space, to the list from k on.
 fn numbers(s: &[u8], at: usize, out: &mut [u32], k: usize, low: usize, spare: usize) -> Read
     requires { ⌜ (low + spare ≤ mostRates) × (k + (low + spare) ≤ length (now out)) ⌝ }
-    ensures { λ r. ⌜ Gives length plain k (now (out .entry)) (now (out .exit)) (readAt (Reading.numbers low spare) (now (s .entry)) at) (ofRead r) ⌝ }
+    ensures { λ r. ⌜ Gives length plain k (now (out .entry)) (now (out .exit))
+        (readAt (Reading.numbers low spare) (now (s .entry)) at) (ofRead r) ⌝ }
 {
     let mut i = at;
     let mut n = 0;
@@ -102,7 +104,8 @@ fn chip_name(s: &[u8], at: usize) -> ChipRead
 // A chip's line from its name on: the chip's rates, to the list from k on.
 fn chip_line(s: &[u8], at: usize, out: &mut [u32], k: usize) -> ClockRead
     requires { ⌜ k + mostRates ≤ length (now out) ⌝ }
-    ensures { λ r. ⌜ Gives clockOf Text.ratesOf k (now (out .entry)) (now (out .exit)) (readAt (mapped Text.chip (skip (Text.bytes "chip ") Reading.readChip)) (now (s .entry)) at) (ofClock r) ⌝ }
+    ensures { λ r. ⌜ Gives clockOf Text.ratesOf k (now (out .entry)) (now (out .exit))
+        (readAt Reading.readChipLine (now (s .entry)) at) (ofClock r) ⌝ }
 {
     let line = scanner::literal(s, at, b"chip ");
     let Read::Got(_, i) = line else {
@@ -120,7 +123,8 @@ fn chip_line(s: &[u8], at: usize, out: &mut [u32], k: usize) -> ClockRead
 // A line of rates from its name on: the rates, to the list from k on.
 fn rates_line(s: &[u8], at: usize, out: &mut [u32], k: usize) -> ClockRead
     requires { ⌜ k + mostRates ≤ length (now out) ⌝ }
-    ensures { λ r. ⌜ Gives clockOf Text.ratesOf k (now (out .entry)) (now (out .exit)) (readAt (mapped Text.rates (skip (Text.bytes "rates") (Reading.numbers 2 6))) (now (s .entry)) at) (ofClock r) ⌝ }
+    ensures { λ r. ⌜ Gives clockOf Text.ratesOf k (now (out .entry)) (now (out .exit))
+        (readAt Reading.readRatesLine (now (s .entry)) at) (ofClock r) ⌝ }
 {
     let line = scanner::literal(s, at, b"rates");
     let Read::Got(_, i) = line else {
@@ -135,7 +139,8 @@ fn rates_line(s: &[u8], at: usize, out: &mut [u32], k: usize) -> ClockRead
 // The line behind the slack's, from its name on: a c begins the chip's.
 fn clock_line(s: &[u8], at: usize, out: &mut [u32], k: usize) -> ClockRead
     requires { ⌜ k + mostRates ≤ length (now out) ⌝ }
-    ensures { λ r. ⌜ Gives clockOf Text.ratesOf k (now (out .entry)) (now (out .exit)) (readAt Reading.readClock (now (s .entry)) at) (ofClock r) ⌝ }
+    ensures { λ r. ⌜ Gives clockOf Text.ratesOf k (now (out .entry)) (now (out .exit))
+        (readAt Reading.readClock (now (s .entry)) at) (ofClock r) ⌝ }
 {
     if scanner::is_letter(s, at, b'c') {
         return chip_line(s, at, out, k);
@@ -166,7 +171,8 @@ fn rate_count(clock: Clock) -> usize
 // The energy form of a task's line, with m energies, to the list from k on.
 fn energy_form(s: &[u8], at: usize, out: &mut [u32], k: usize, m: usize) -> Read
     requires { ⌜ (1 ≤ m) × (m ≤ mostRates) × (k + m ≤ length (now out)) ⌝ }
-    ensures { λ r. ⌜ Gives noValue plain k (now (out .entry)) (now (out .exit)) (readAt (Reading.readEnergies m) (now (s .entry)) at) (ofRead r) ⌝ }
+    ensures { λ r. ⌜ Gives noValue plain k (now (out .entry)) (now (out .exit))
+        (readAt (Reading.readEnergies m) (now (s .entry)) at) (ofRead r) ⌝ }
 {
     let form = scanner::literal(s, at, b" (energy");
     let Read::Got(_, i) = form else {
@@ -183,7 +189,8 @@ fn energy_form(s: &[u8], at: usize, out: &mut [u32], k: usize, m: usize) -> Read
 // out.
 fn energies(s: &[u8], at: usize, out: &mut [u32], k: usize, clock: Clock, cycles: u32) -> Read
     requires { ⌜ Fits clock × (k + ratesIn clock ≤ length (now out)) ⌝ }
-    ensures { λ r. ⌜ Gives noValue (energiesBy clock cycles) k (now (out .entry)) (now (out .exit)) (readAt (Reading.readEnergies (energiesIn clock)) (now (s .entry)) at) (ofRead r) ⌝ }
+    ensures { λ r. ⌜ Gives noValue (energiesBy clock cycles) k (now (out .entry)) (now (out .exit))
+        (readAt (Reading.readEnergies (energiesIn clock)) (now (s .entry)) at) (ofRead r) ⌝ }
 {
     match clock {
         Clock::Rates(m) => energy_form(s, at, out, k, m),
@@ -197,7 +204,8 @@ fn energies(s: &[u8], at: usize, out: &mut [u32], k: usize, clock: Clock, cycles
 // A task's line, to the list from k on: the period and the cycles are the first words of a task in every layout.
 fn task(s: &[u8], at: usize, out: &mut [u32], k: usize, clock: Clock) -> Read
     requires { ⌜ Fits clock × (k + taskSize Ordinary (ratesIn clock) ≤ length (now out)) ⌝ }
-    ensures { λ r. ⌜ Gives noValue (wordsBy clock) k (now (out .entry)) (now (out .exit)) (readAt (Reading.readTask (energiesIn clock)) (now (s .entry)) at) (ofRead r) ⌝ }
+    ensures { λ r. ⌜ Gives noValue (wordsBy clock) k (now (out .entry)) (now (out .exit))
+        (readAt (Reading.readTask (energiesIn clock)) (now (s .entry)) at) (ofRead r) ⌝ }
 {
     let period = scanner::field(s, at, b"(task (period ");
     let Read::Got(p, i) = period else {
@@ -234,7 +242,8 @@ fn opens(s: &[u8], at: usize) -> bool
 // The tasks, one to 32, to the list, where they stand behind the clock's rates.
 fn tasks(s: &[u8], at: usize, out: &mut [u32], clock: Clock) -> Read
     requires { ⌜ Fits clock × (periodPlace Ordinary (ratesIn clock) mostTasks ≤ length (now out)) ⌝ }
-    ensures { λ r. ⌜ Gives length (joined (wordsBy clock)) (tasksPlace Ordinary (ratesIn clock)) (now (out .entry)) (now (out .exit)) (readAt (Reading.readTasks (energiesIn clock)) (now (s .entry)) at) (ofRead r) ⌝ }
+    ensures { λ r. ⌜ Gives length (joined (wordsBy clock)) (tasksPlace Ordinary (ratesIn clock)) (now (out .entry)) (now (out .exit))
+        (readAt (Reading.readTasks (energiesIn clock)) (now (s .entry)) at) (ofRead r) ⌝ }
 {
     let m = rate_count(clock);
     let mut i = at;
@@ -266,7 +275,8 @@ fn tasks(s: &[u8], at: usize, out: &mut [u32], clock: Clock) -> Read
 // when what it counts stands in the list, so the words in front of a list are stored after it.
 pub fn read_set(s: &[u8], out: &mut [u32]) -> SetRead
     requires { ⌜ mostWords ≤ length (now out) ⌝ }
-    ensures { λ r. ⌜ Gives saidOf Text.words 0 (now (out .entry)) (now (out .exit)) (readAt Reading.readScript (now (s .entry)) 0) (ofSet r) ⌝ }
+    ensures { λ r. ⌜ Gives saidOf Text.words 0 (now (out .entry)) (now (out .exit))
+        (readAt Reading.readScript (now (s .entry)) 0) (ofSet r) ⌝ }
 {
     let head = layout::head_size(Layout::Ordinary);
     let slack = scanner::field(s, 0, b"(slack ");

@@ -59,12 +59,14 @@ module _ (t d : List ℕ) where
         let x = is-text h in
         (inr (departs-nowhere x, inl (refl, (s, x, o .0, o .1))), refl)
 
-    pub too-short : (n : ℕ) → length t ≤ i → NoneOver s → length (words s) ≡ n → length d < n → ReaderGives t d d (NotCopied (TooShort n))
+    pub too-short : (n : ℕ) → length t ≤ i → NoneOver s → length (words s) ≡ n → length d < n
+        → ReaderGives t d d (NotCopied (TooShort n))
     too-short n h none w l =
         let x = is-text h in
         (inr (departs-nowhere x, inr (none-refused s t x none, inl (refl, (s, x, (omega arith, sym w))))), refl)
 
-    pub all-written : (n : ℕ) (f : List ℕ) → length t ≤ i → NoneOver s → n ≡ length (words s) → length (words s) ≤ length d → f ≡ placed (words s) d
+    pub all-written : (n : ℕ) (f : List ℕ) → length t ≤ i → NoneOver s → n ≡ length (words s)
+        → length (words s) ≤ length d → f ≡ placed (words s) d
         → ReaderGives t d f (Wrote n)
     unfolding placed
     all-written n f h none w l p =

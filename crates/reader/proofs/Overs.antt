@@ -63,7 +63,13 @@ with-fact fact f = record {
 
 -- Nothing is worked out.
 pub never : {P : ℕ → Type 0} (n : ℕ) → ((t : ℕ) → P t → ⊥) → FirstNumber P n 0
-never n h = record { few = omega arith; none = λ z t l. h t; here = λ z. absurd (omega arith); before = λ z. absurd (omega arith) }
+never n h = record {
+  few = omega arith;
+  none = λ z t l. h t;
+  here = λ z. absurd (omega arith);
+  before = λ z.
+      absurd (omega arith);
+}
 
 -- ---- the words at the front of the reader's own list
 pub front : (ws d e : List ℕ) (n : ℕ) → length ws ≡ n → e ≡ written 0 ws d → take n e ≡ ws
@@ -125,8 +131,13 @@ module _ (s : Script) (ok : ScriptOk s) (z d : List ℕ) (stands : d ≡ written
   }
 
   is-over : (k : ℕ) → HasOver s k → OverIn d m (k - 1)
-  is-over k h =
-      (h .rate, h .rate-from, h .rate-to, omega (arith, h .over, energy-is (k - 1) (h .rate) (omega (arith, h .from, h .to)) (h .rate-from) (h .rate-to)))
+  is-over k h = (
+    h .rate,
+    h .rate-from,
+    h .rate-to,
+    omega
+        (arith, h .over, energy-is (k - 1) (h .rate) (omega (arith, h .from, h .to)) (h .rate-from) (h .rate-to)),
+  )
 
   -- The number that the code found is that of the first task with such an energy; and where it found none, there is none.
   module _ (k : ℕ) (f : OverTask d (saidOf s) k) where

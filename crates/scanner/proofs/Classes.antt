@@ -73,7 +73,8 @@ module _ (s : List ℕ) (i : ℕ) where
   not-bracket (Letter x) e h l a b = omega arith
   not-bracket Other e h l a b = e .no-bracket a (omega arith)
 
-  pub not-letter : (c : ℕ) → 97 ≤ c → c ≤ 122 → (r : Class) → Stands r s i → OneOf (0 ∷ 1 ∷ 2 ∷ 3 ∷ 4 ∷ 6 ∷ []) (tagOf enum.the-type r) → Clear c c
+  pub not-letter : (c : ℕ) → 97 ≤ c → c ≤ 122 → (r : Class) → Stands r s i → OneOf (0 ∷ 1 ∷ 2 ∷ 3 ∷ 4 ∷ 6 ∷ [])
+      (tagOf enum.the-type r) → Clear c c
   not-letter c x y End e h l a b = omega arith
   not-letter c x y (Digit d) e h l a b = omega arith
   not-letter c x y (Bracket z) e h l a b = omega arith

@@ -10,7 +10,8 @@ use native.Mathlib.Numerals.{add-one}
 use lib.ListN.{length, getD, drop, drop-of-length-le}
 use lib.Seq.{drop-cons, drop-drop}
 use borrow.Author.Tests.{eq-eqb, ne-eqb}
-use Rattle.text.proofs.Reading.{Res, got, bad, ext, next, later, mapRes, mapped, after, seq, literal, more, number, starts, either, readAt}
+use Rattle.text.proofs.Reading.{Res, got, bad, ext, next, later, mapRes, mapped, after, seq, literal, more, number}
+use Rattle.text.proofs.Reading.{starts, either, readAt}
 use Rattle.text.proofs.Digits.{NoDigit}
 use Rattle.scanner.specs.Steps.{Stands}
 use Rattle.scanner.specs.declared.Class.the-variants.{Digit}
@@ -62,7 +63,8 @@ module _ {A : Type 0} (c : ℕ) (p q : List ℕ → Res A) (s : List ℕ) (at : 
   unfolding readAt
   either-second e = rw e
 
-pub map-at : {A B : Type 0} (f : A → B) (p : List ℕ → Res A) (s : List ℕ) (at : ℕ) → readAt (mapped f p) s at ≡ mapRes f (readAt p s at)
+pub map-at : {A B : Type 0} (f : A → B) (p : List ℕ → Res A) (s : List ℕ) (at : ℕ) → readAt
+    (mapped f p) s at ≡ mapRes f (readAt p s at)
 unfolding readAt
 map-at f p s at = later-map f at (p (drop at s))
 

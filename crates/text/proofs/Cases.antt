@@ -20,7 +20,8 @@ use Rattle.chips.specs.Chips.{megahertz, milliwatts, chipRates, chipEnergies}
 use Rattle.chips.specs.declared.Chip.{Chip}
 use Rattle.chips.specs.declared.Chip.the-variants.{Xscale, Ppc405lp}
 use Rattle.taskset.specs.Refusals.{Accepts, Refuses}
-use Rattle.text.specs.Text.{chip, Script, bytes, digits, decimal, scriptText, TaskLineOk, ScriptOk, IsTextOf, WellFormed, FirstBad, ratesOf, words, scriptOf}
+use Rattle.text.specs.Text.{chip, Script, bytes, digits, decimal, scriptText, TaskLineOk, ScriptOk, IsTextOf}
+use Rattle.text.specs.Text.{WellFormed, FirstBad, ratesOf, words, scriptOf}
 use Rattle.text.specs.Calls.{HasOver, readerChecks}
 use Rattle.text.proofs.Reading.{literal, more, number, many, readText}
 use Rattle.text.proofs.Pieces.{no-first-bad}
@@ -98,7 +99,8 @@ pub record Overs : Type 0 where
 
 -- That a task has no energy over the largest is computed, rate by rate.
 abbrev AllWithin : Script → ℕ → Type 0
-AllWithin s k = every (λ r. leb (energy Ordinary (words s) (k - 1) r) mostEnergy) (each (λ j. j) 1 (length (ratesOf (s .clock)))) ≡ true
+AllWithin s k = every (λ r. leb (energy Ordinary (words s) (k - 1) r) mostEnergy)
+    (each (λ j. j) 1 (length (ratesOf (s .clock)))) ≡ true
 
 has-none : (s : Script) (k : ℕ) → AllWithin s k → HasOver s k → ⊥
 has-none s k all h =
@@ -106,7 +108,8 @@ has-none s k all h =
     let f : ℕ → ℕ = energy Ordinary (words s) (k - 1) in
     let size = each-length (λ (j : ℕ). j) 1 (length (ratesOf (s .clock))) in
     let here : getD rs (h .rate - 1) 0 ≡ h .rate =
-    each-at (λ j. j) 1 (length (ratesOf (s .clock))) (h .rate - 1) (omega (arith, h .rate-from, h .rate-to)) 0 ∙ omega (arith, h .rate-from) in
+    each-at (λ j. j) 1 (length (ratesOf (s .clock))) (h .rate - 1) (omega (arith, h .rate-from, h .rate-to)) 0
+    ∙ omega (arith, h .rate-from) in
     let e : leb (f (getD rs (h .rate - 1) 0)) mostEnergy ≡ true =
     every-at (λ r. leb (f r) mostEnergy) rs all (h .rate - 1) 0 (omega (arith, size, h .rate-from, h .rate-to)) in
     omega (arith, leb-true (f (h .rate)) mostEnergy (rw here at e), h .over)
@@ -133,7 +136,15 @@ much-1 = refl
 
 much-2 : HasOver tooMuch 2
 unfolding words chipRates chipEnergies megahertz milliwatts headKinds extraKinds IsLe
-much-2 = record { from = omega arith; to = omega arith; rate = 5; rate-from = omega arith; rate-to = omega arith; over = le-by-compare _ _ tt }
+much-2 = record {
+  from = omega arith;
+  to = omega arith;
+  rate = 5;
+  rate-from = omega arith;
+  rate-to =
+      omega arith;
+  over = le-by-compare _ _ tt;
+}
 
 enough-words : length (words enough) ≡ 22
 unfolding words chipRates chipEnergies megahertz headKinds extraKinds
@@ -183,7 +194,8 @@ overs = record {
 
 -- Two rates, and n tasks all alike.
 unfoldable pub alike : ℕ → List ℕ
-alike n = bytes "(slack 1)\n(rates 1 2)\n" ++ joined (λ (k : ℕ). bytes "(task (period 1) (cycles 1) (energy 1 1))\n") (replicate n 0)
+alike n = bytes "(slack 1)\n(rates 1 2)\n" ++ joined (λ (k : ℕ). bytes "(task (period 1) (cycles 1) (energy 1 1))\n")
+    (replicate n 0)
 
 -- "A ninth rate, a 33rd task or a digit that passes the largest number is refusal 1 at that byte." "Empty text: refusal
 -- 1, offset 0." After the largest number only a bracket may follow, after a first digit 0 no other, and a text that
@@ -201,7 +213,8 @@ pub record Departures : Type 0 where
   unknown-name : FirstBad WellFormed (bytes "(slack 1)\n(chip xp)\n") 17
   other-name : FirstBad WellFormed (bytes "(slack 1)\n(chip arm)\n") 16
   name-cut : FirstBad WellFormed (bytes "(slack 1)\n(chip ppc405") 22
-  energies-under-chip : FirstBad WellFormed (bytes "(slack 1)\n(chip xscale)\n(task (period 1) (cycles 1) (energy 1 1 1 1 1))\n") 51
+  energies-under-chip : FirstBad WellFormed
+      (bytes "(slack 1)\n(chip xscale)\n(task (period 1) (cycles 1) (energy 1 1 1 1 1))\n") 51
   no-energies : FirstBad WellFormed (bytes "(slack 1)\n(rates 1 2)\n(task (period 1) (cycles 1))\n") 49
   chip-then-rates : FirstBad WellFormed (bytes "(slack 1)\n(chip xscale)\n(rates 1 2)\n") 25
   rates-then-chip : FirstBad WellFormed (bytes "(slack 1)\n(rates 1 2)\n(chip xscale)\n") 23

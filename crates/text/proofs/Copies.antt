@@ -18,7 +18,8 @@ use Rattle.taskset.specs.Calls.{Copied}
 use Rattle.taskset.proofs.Unique.{refusal-unique, short-single, single-next, word-single, copy-unique}
 use Rattle.taskset.proofs.Copied.{SameCopied, copied, count-is, front-is, copied-one}
 use Rattle.text.specs.Text.{Script, scriptText, IsTextOf, WellFormed, FirstBad, words, scriptOf}
-use Rattle.text.specs.Calls.{WorksOut, HasOver, energyCheck, wordsCheck, readerChecks, ReaderGives, writerChecks, WriterGives}
+use Rattle.text.specs.Calls.{WorksOut, HasOver, energyCheck, wordsCheck, readerChecks, ReaderGives}
+use Rattle.text.specs.Calls.{writerChecks, WriterGives}
 use Rattle.text.proofs.Reading.{Res, got, bad, readText}
 use Rattle.text.proofs.Pieces.{first-bad-one, no-first-bad}
 use Rattle.text.proofs.Grammar.{Answer, read-render, read-right}
@@ -55,9 +56,11 @@ none-refused s t is none k h =
     none (subst (λ (r : Script). WorksOut (r .clock)) same (h .2)) k (subst (λ (r : Script). HasOver r k) same (h .3 .here))
 
 -- A script's text is taken wherever none is and the list lent has room for its words.
-pub takes : (s : Script) (t : List ℕ) (lent : ℕ) → IsTextOf s t → NoneOver s → length (words s) ≤ lent → Accepts (readerChecks t lent)
+pub takes : (s : Script) (t : List ℕ) (lent : ℕ) → IsTextOf s t → NoneOver s → length (words s) ≤ lent
+    → Accepts (readerChecks t lent)
 takes s t lent is none room =
-    let short : Passes (wordsCheck t lent) = λ k h. omega (arith, h .2 .0, ap (λ (r : Script). length (words r)) (one-script (h .0) s t (h .1) is)) in
+    let short : Passes (wordsCheck t lent) = λ k h.
+    omega (arith, h .2 .0, ap (λ (r : Script). length (words r)) (one-script (h .0) s t (h .1) is)) in
     ((λ o h. no-first-bad WellFormed t o (s, is) h), (none-refused s t is none, (short, tt)))
 
 -- A list that passes check 2 has a text, which says its words.
@@ -125,7 +128,8 @@ module _ (s d d′ e : List ℕ) (n : ℕ) (wrote : WriterGives s d d′ (Wrote 
   read-back e′ a h = reader-unique (take n d′) e e′ (s ++ drop (length s) e) a (Wrote (length s)) h back
 
 -- ---- read, written and read again
-module _ (t e e₁ d d′ : List ℕ) (n k : ℕ) (gives : ReaderGives t e e₁ (Wrote n)) (wrote : WriterGives (take n e₁) d d′ (Wrote k)) where
+module _ (t e e₁ d d′ : List ℕ) (n k : ℕ) (gives : ReaderGives t e e₁ (Wrote n))
+    (wrote : WriterGives (take n e₁) d d′ (Wrote k)) where
   abbrev said : List ℕ
   said = words (gives .1 .0)
 
@@ -136,7 +140,8 @@ module _ (t e e₁ d d′ : List ℕ) (n k : ℕ) (gives : ReaderGives t e e₁ 
   enough : length said ≤ length e
   enough =
       ⊎-elim
-      (λ (l : length e < length said). absurd (passed 6 (readerChecks t (length e)) refl (gives .0) (length said) (gives .1 .0, gives .1 .1, (l, refl))))
+      (λ (l : length e < length said). absurd (passed 6 (readerChecks t (length e)) refl (gives .0) (length said)
+      (gives .1 .0, gives .1 .1, (l, refl))))
       (λ (l : length said ≤ length e). l)
       (lt-or-le (length e) (length said))
 

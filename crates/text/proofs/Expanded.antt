@@ -14,7 +14,9 @@ use Rattle.numbers.specs.Numbers.{All, joined}
 use Rattle.numbers.proofs.Lists.{each-at}
 use Rattle.numbers.proofs.Search.{no-lowest}
 use Rattle.numbers.proofs.Tests.{lt-or-le, true-between}
-use Rattle.layout.specs.Words.{headKinds, extraKinds, headSize, extraSize, headKind, kindIn, allows, longestPeriod, mostEnergy, word, slack, rateCount, taskCount, ratePlace, taskCountPlace, tasksPlace, taskSize, periodPlace, wordCount, rate, period, cycles, energy}
+use Rattle.layout.specs.Words.{headKinds, extraKinds, headSize, extraSize, headKind, kindIn, allows, longestPeriod}
+use Rattle.layout.specs.Words.{mostEnergy, word, slack, rateCount, taskCount, ratePlace, taskCountPlace, tasksPlace}
+use Rattle.layout.specs.Words.{taskSize, periodPlace, wordCount, rate, period, cycles, energy}
 use Rattle.layout.specs.declared.Layout.the-variants.{Ordinary}
 use Rattle.layout.proofs.Whole.{IsWhole}
 use Rattle.chips.specs.Chips.{chipCount, chipRate, chipEnergy, chipRates, chipEnergies}
@@ -22,7 +24,8 @@ use Rattle.chips.specs.declared.Chip.{Chip}
 use Rattle.chips.proofs.Tables.{count-range, rates-length, energies-length, rate-range, rates-rise, energy-positive}
 use Rattle.taskset.specs.Refusals.{Passes, Accepts, wordChecks}
 use Rattle.taskset.proofs.Sets.{words-pass}
-use Rattle.text.specs.Text.{TaskLine, Clock, chip, Script, energyCount, TaskLineOk, ScriptOk, IsTextOf, ratesOf, headWords, extraWords, taskWords, words}
+use Rattle.text.specs.Text.{TaskLine, Clock, chip, Script, energyCount, TaskLineOk, ScriptOk, IsTextOf, ratesOf}
+use Rattle.text.specs.Text.{headWords, extraWords, taskWords, words}
 use Rattle.text.specs.Calls.{HasOver, energyCheck}
 use Rattle.text.proofs.Sizes.{task-size, words-size}
 use Rattle.text.proofs.Copies.{NoneOver}
@@ -37,7 +40,8 @@ item-at P g size sized (x ∷ xs) all zero h = (
   all .0,
   λ k l.
       let here : 0 * size + k ≡ k = omega arith in
-      ap (λ (p : ℕ). getD (g x ++ joined g xs) p 0) here ∙ List·getD-append (g x) (joined g xs) 0 k (omega (arith, sized x (all .0))),
+      ap (λ (p : ℕ). getD (g x ++ joined g xs) p 0) here ∙ List·getD-append (g x) (joined g xs) 0 k
+      (omega (arith, sized x (all .0))),
 )
 item-at P g size sized (x ∷ xs) all (suc t) h =
     let r = item-at P g size sized xs (all .1) t (omega arith) in (
@@ -106,21 +110,26 @@ module _ (c : Chip) (g : ℕ) (ts : List TaskLine) (ok : ScriptOk (record { slac
       behind (taskCountPlace Ordinary m) (suc m + 0) (omega arith) ∙ behind-rates 0
 
   -- Word k of the task at t is that of its line.
-  module _ (P : TaskLine → Type 0) (held : All (λ l. TaskLineOk (energyCount (chip c)) l × P l) ts) (t : ℕ) (h : t < length ts) where
-    found : (l : TaskLine) × (TaskLineOk (energyCount (chip c)) l × P l) × ((k : ℕ) → k < taskSize Ordinary m → getD tasks (t * taskSize Ordinary m + k) 0 ≡ getD (taskWords (chip c) l) k 0)
-    found = item-at (λ l. TaskLineOk (energyCount (chip c)) l × P l) (taskWords (chip c)) (taskSize Ordinary m) (λ l d. task-size (chip c) l (d .0)) ts held t h
+  module _ (P : TaskLine → Type 0) (held : All (λ l. TaskLineOk (energyCount (chip c)) l × P l) ts) (t : ℕ)
+      (h : t < length ts) where
+    found : (l : TaskLine) × (TaskLineOk (energyCount (chip c)) l × P l) ×
+        ((k : ℕ) → k < taskSize Ordinary m → getD tasks (t * taskSize Ordinary m + k) 0 ≡ getD (taskWords (chip c) l) k 0)
+    found = item-at (λ l. TaskLineOk (energyCount (chip c)) l × P l) (taskWords (chip c)) (taskSize Ordinary m)
+        (λ l d. task-size (chip c) l (d .0)) ts held t h
 
     abbrev line : TaskLine
     line = found .0
 
-    task-word : (k : ℕ) → k < taskSize Ordinary m → word (words s) (periodPlace Ordinary (rateCount Ordinary (words s)) t + k) ≡ word (taskWords (chip c) line) k
+    task-word : (k : ℕ) → k < taskSize Ordinary m → word (words s)
+        (periodPlace Ordinary (rateCount Ordinary (words s)) t + k) ≡ word (taskWords (chip c) line) k
     task-word k l =
         ap (λ (j : ℕ). word (words s) (periodPlace Ordinary j t + k)) rates-is ∙
         behind (periodPlace Ordinary m t + k) (suc m + suc (t * taskSize Ordinary m + k)) (omega arith) ∙
         behind-rates (suc (t * taskSize Ordinary m + k)) ∙ found .2 k l
 
     period-is : period Ordinary (words s) t ≡ line .period
-    period-is = ap (word (words s)) (sym (add-zero (periodPlace Ordinary (rateCount Ordinary (words s)) t))) ∙ task-word 0 (omega arith)
+    period-is = ap (word (words s)) (sym (add-zero (periodPlace Ordinary (rateCount Ordinary (words s)) t)))
+        ∙ task-word 0 (omega arith)
 
     cycles-is : cycles Ordinary (words s) t ≡ line .cycles
     cycles-is = task-word 1 (omega arith)
@@ -134,7 +143,8 @@ module _ (c : Chip) (g : ℕ) (ts : List TaskLine) (ok : ScriptOk (record { slac
         let place : 1 + extraSize Ordinary + r ≡ length extra + (r - 1) = omega arith in
         task-word (1 + extraSize Ordinary + r) (omega arith) ∙ ap (word (taskWords (chip c) line)) place ∙
         getD-append-add extra (chipEnergies c (line .cycles)) (r - 1) 0 ∙
-        each-at (chipEnergy c (line .cycles)) 1 (chipCount c) (r - 1) (omega (arith, rates-length c)) 0 ∙ ap (chipEnergy c (line .cycles)) number
+        each-at (chipEnergy c (line .cycles)) 1 (chipCount c) (r - 1) (omega (arith, rates-length c)) 0
+        ∙ ap (chipEnergy c (line .cycles)) number
 
 -- ---- which checks it passes
 -- Whether a task has an energy over the largest can be told, so where no first task has one none has.
@@ -152,11 +162,21 @@ over-by f (suc j) = go (decLt mostEnergy (f (suc j))) (over-by f j)
         (lt-or-le (x .0) (suc j)))
 
 has-over : (s : Script) (k : ℕ) → Dec (HasOver s k)
-has-over s k = go (decLe 1 k) (decLe k (length (s .tasks))) (over-by (energy Ordinary (words s) (k - 1)) (length (ratesOf (s .clock))))
+has-over s k = go (decLe 1 k) (decLe k (length (s .tasks)))
+    (over-by (energy Ordinary (words s) (k - 1)) (length (ratesOf (s .clock))))
   where
     go : Dec (1 ≤ k) → Dec (k ≤ length (s .tasks))
-        → Dec ((r : ℕ) × (1 ≤ r) × (r ≤ length (ratesOf (s .clock))) × (mostEnergy < energy Ordinary (words s) (k - 1) r)) → Dec (HasOver s k)
-    go (yes a) (yes b) (yes x) = yes (record { from = a; to = b; rate = x .0; rate-from = x .1; rate-to = x .2; over = omega (arith, x .3) })
+        → Dec ((r : ℕ) × (1 ≤ r) × (r ≤ length (ratesOf (s .clock))) ×
+        (mostEnergy < energy Ordinary (words s) (k - 1) r)) → Dec (HasOver s k)
+    go (yes a) (yes b) (yes x) = yes (record {
+      from = a;
+      to = b;
+      rate = x .0;
+      rate-from = x .1;
+      rate-to = x .2;
+      over =
+          omega (arith, x .3);
+    })
     go (yes a) (yes b) (no x) = no (λ h. x (h .rate, h .rate-from, h .rate-to, omega (arith, h .over)))
     go (yes a) (no b) x = no (λ h. b (h .to))
     go (no a) b x = no (λ h. a (h .from))
@@ -222,7 +242,8 @@ module _ (c : Chip) (g : ℕ) (ts : List TaskLine) (ok : ScriptOk (record { slac
       let n = tasks-is c g ts ok in
       record {
         size = words-size (record { slack = g; clock = chip c; tasks = ts }) ok
-            ∙ ap (λ (j : ℕ). periodPlace Ordinary j (length ts)) (sym m) ∙ ap (periodPlace Ordinary (rateCount Ordinary list)) (sym n);
+            ∙ ap (λ (j : ℕ). periodPlace Ordinary j (length ts)) (sym m)
+            ∙ ap (periodPlace Ordinary (rateCount Ordinary list)) (sym n);
         rates-range = (omega (arith, rates-length c, count-range c), omega (arith, rates-length c, count-range c));
         tasks-range = (omega (arith, ok .tasks .least), omega (arith, ok .tasks .most));
         head-word = head-in;

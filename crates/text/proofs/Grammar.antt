@@ -12,10 +12,12 @@ use lib.ListN.{length, drop}
 use Rattle.numbers.specs.Numbers.{All, joined}
 use Rattle.chips.specs.declared.Chip.{Chip}
 use Rattle.chips.specs.declared.Chip.the-variants.{Xscale, Ppc405lp}
-use Rattle.text.specs.Text.{TaskLine, Clock, rates, chip, Script, bytes, decimal, spaced, energyText, taskText, chipName, clockText, scriptText}
+use Rattle.text.specs.Text.{TaskLine, Clock, rates, chip, Script, bytes, decimal, spaced, energyText, taskText}
+use Rattle.text.specs.Text.{chipName, clockText, scriptText}
 use Rattle.text.specs.Text.{Word, Between, ClockOk, energyCount, TaskLineOk, ScriptOk, IsTextOf, WellFormed, FirstBad}
 use Rattle.text.proofs.Reading.{Res, got, bad, later, seq, skip, upTo, field, numbers, starts, both}
-use Rattle.text.proofs.Reading.{mkTask, mkScript, readEnergies, readTask, readTasks, moreTasks, readName, readChip, readClock, readScript, readText, readAt}
+use Rattle.text.proofs.Reading.{mkTask, mkScript, readEnergies, readTask, readTasks, moreTasks, readName}
+use Rattle.text.proofs.Reading.{readChip, readClock, readScript, readText, readAt}
 use Rattle.text.proofs.Pieces.{Good, Piece, seq-piece, Form, Right, whole-exact, whole-right, first-bad-same}
 use Rattle.text.proofs.Literals.{literal-piece, Any}
 use Rattle.text.proofs.Branches.{map-piece, either-piece}
@@ -95,10 +97,13 @@ module _ (m : ℕ) where
           (skip-piece (bytes " (energy") (zeros (suc m))
           (end-piece (bytes ")") (λ r. (refl, refl)) (rw add-zero at (numbers-piece (suc m) 0))))
 
-  cycles-piece : Piece (λ (x : ℕ × List ℕ). bytes ") (cycles " ++ (decimal (x .0) ++ (bytes ")" ++ (energyText (x .1) ++ bytes ")\n"))))
-      (λ x. Word (x .0) × Between Word m m (x .1)) Any (seq both (field (bytes ") (cycles ")) (λ _. skip (bytes ")") (upTo (readEnergies m) (bytes ")\n"))))
+  cycles-piece : Piece (λ (x : ℕ × List ℕ). bytes ") (cycles " ++
+      (decimal (x .0) ++ (bytes ")" ++ (energyText (x .1) ++ bytes ")\n"))))
+      (λ x. Word (x .0) × Between Word m m (x .1)) Any
+      (seq both (field (bytes ") (cycles ")) (λ _. skip (bytes ")") (upTo (readEnergies m) (bytes ")\n"))))
   cycles-piece =
-      seq-piece both _ _ (field-piece (bytes ") (cycles ")) (λ _ _. skip-piece (bytes ")") (zeros m) (end-piece (bytes ")\n") (λ r. tt) energies-piece))
+      seq-piece both _ _ (field-piece (bytes ") (cycles "))
+      (λ _ _. skip-piece (bytes ")") (zeros m) (end-piece (bytes ")\n") (λ r. tt) energies-piece))
       (λ a b. refl) (λ a b d e. (d, e)) (λ x d. (x .0, x .1, d .0, d .1, refl)) (λ _ _. zeros m) (λ a b r _ _ _. refl)
 
   pub task-piece : Piece taskText (TaskLineOk m) Any (readTask m)
@@ -149,11 +154,14 @@ OfChip (chip c) = Unit {0}
 pub clock-piece : Piece clockText ClockOk NoItem readClock
 clock-piece =
     either-piece clockText ClockOk 99
-    (map-piece chip clockText OfChip (follows (skip-piece (bytes "chip ") (Xscale, tt) chip-piece)) (λ c. refl) (λ c d. tt) chip-part)
-    (map-piece rates clockText OfRates (skip-piece (bytes "rates") (0 ∷ 0 ∷ [], two) (numbers-piece 2 6)) (λ fs. refl) (λ fs d. d) rates-part)
+    (map-piece chip clockText OfChip (follows (skip-piece (bytes "chip ") (Xscale, tt) chip-piece)) (λ c. refl)
+    (λ c d. tt) chip-part)
+    (map-piece rates clockText OfRates (skip-piece (bytes "rates") (0 ∷ 0 ∷ [], two) (numbers-piece 2 6)) (λ fs. refl)
+    (λ fs d. d) rates-part)
     from-chip from-rates which chip-begins rates-begin
   where
-    follows : {A : Type 0} {text : A → List ℕ} {Dom : A → Type 0} {read : List ℕ → Res A} → Piece text Dom Any read → Piece text Dom NoItem read
+    follows : {A : Type 0} {text : A → List ℕ} {Dom : A → Type 0} {read : List ℕ → Res A} → Piece text Dom Any read
+        → Piece text Dom NoItem read
     follows P = record { exact = λ a d r f. P .exact a d r tt; good = P .good; local = P .local }
 
     chip-part : (k : Clock) → OfChip k → (c : Chip) × Any c × (chip c ≡ k)
@@ -184,14 +192,16 @@ clock-piece =
     rates-begin (rates fs) d r f = refl
     rates-begin (chip c) d r f = absurd d
 
-behind-slack : Piece (λ (x : Clock × List TaskLine). bytes ")\n(" ++ (clockText (x .0) ++ (bytes ")\n" ++ joined taskText (x .1))))
+behind-slack : Piece (λ (x : Clock × List TaskLine). bytes ")\n(" ++
+    (clockText (x .0) ++ (bytes ")\n" ++ joined taskText (x .1))))
     (λ x. ClockOk (x .0) × Between (TaskLineOk (energyCount (x .0))) 1 32 (x .1)) (λ r. starts 40 r ≡ false)
     (seq both (skip (bytes ")\n(") readClock) (λ k. skip (bytes ")\n") (readTasks (energyCount k))))
 behind-slack =
     seq-piece both _ _
     (skip-piece (bytes ")\n(") (chip Xscale, tt) clock-piece)
     (λ k d. skip-piece (bytes ")\n") (some-tasks (energyCount k)) (tasks-piece (energyCount k)))
-    (λ a b. refl) (λ a b d e. (d, e)) (λ x d. (x .0, x .1, d .0, d .1, refl)) (λ k _. some-tasks (energyCount k)) (λ a b r _ _ _. (refl, refl))
+    (λ a b. refl) (λ a b d e. (d, e)) (λ x d. (x .0, x .1, d .0, d .1, refl)) (λ k _. some-tasks (energyCount k))
+    (λ a b r _ _ _. (refl, refl))
 
 pub script-piece : Piece scriptText ScriptOk (λ r. starts 40 r ≡ false) readScript
 script-piece =

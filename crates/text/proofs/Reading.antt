@@ -136,9 +136,15 @@ readName c = mapped (λ _. c) (literal (chipName c))
 abbrev pub readChip : List ℕ → Res Chip
 readChip = either 120 (readName Xscale) (readName Ppc405lp)
 
--- what stands behind the slack's line: a c begins the name of the chip's line
+-- what stands behind the slack's line, from its name on: a c begins the chip's
+abbrev pub readChipLine : List ℕ → Res Clock
+readChipLine = mapped chip (skip (bytes "chip ") readChip)
+
+abbrev pub readRatesLine : List ℕ → Res Clock
+readRatesLine = mapped rates (skip (bytes "rates") (numbers 2 6))
+
 abbrev pub readClock : List ℕ → Res Clock
-readClock = either 99 (mapped chip (skip (bytes "chip ") readChip)) (mapped rates (skip (bytes "rates") (numbers 2 6)))
+readClock = either 99 readChipLine readRatesLine
 
 abbrev pub readScript : List ℕ → Res Script
 readScript =

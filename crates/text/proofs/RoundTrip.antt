@@ -12,7 +12,8 @@ use Rattle.numbers.proofs.Lists.{each-length, each-all}
 use Rattle.layout.specs.Words.{headKinds, extraKinds, headSize, extraSize, word, slack, rateCount, taskCountPlace, taskCount, taskSize, periodPlace, rate, energy}
 use Rattle.layout.proofs.Whole.{IsWhole, in-list, slack-in}
 use Rattle.layout.specs.declared.Layout.the-variants.{Ordinary}
-use Rattle.text.specs.Text.{rates, Word, TaskLineOk, ScriptOk, headWords, extraWords, taskWords, words, listRates, lineOf, scriptOf}
+use Rattle.text.specs.Text.{rates, Word, TaskLineOk, ScriptOk, headWords, extraWords, taskWords, words}
+use Rattle.text.specs.Text.{listRates, lineOf, scriptOf}
 
 -- Words that stand in a row of a list, and what follows them.
 module _ (s : List ℕ) (f : ℕ → ℕ) (p : ℕ) (stands : (j : ℕ) → f j ≡ word s (p + j)) where
@@ -83,13 +84,16 @@ module _ (s : List ℕ) (w : IsWhole Ordinary s) where
       ap (λ (k : ℕ). word s (place t) ∷ word s k ∷ drop (suc (suc (place t))) s) one ∙
       sym (drop-cons s (place t) 0 (omega arith) ∙ ap (λ (l : List ℕ). word s (place t) ∷ l) (drop-cons s (suc (place t)) 0 (omega arith)))
 
-  lines-words : (t k : ℕ) → t + k ≤ n → joined (taskWords (rates (listRates s))) (each (lineOf s) t k) ++ drop (place (t + k)) s ≡ drop (place t) s
+  lines-words : (t k : ℕ) → t + k ≤ n → joined (taskWords (rates (listRates s))) (each (lineOf s) t k) ++ drop
+      (place (t + k)) s ≡ drop (place t) s
   lines-words t zero h = ap (λ (j : ℕ). drop (place j) s) (add-zero t)
   lines-words t (suc k) h =
       let there : t + suc k ≡ suc t + k = omega arith in
-      let rest : joined (taskWords (rates (listRates s))) (each (lineOf s) (suc t) k) ++ drop (place (suc t + k)) s ≡ drop (place (suc t)) s = lines-words (suc t) k (omega arith) in
+      let rest : joined (taskWords (rates (listRates s))) (each (lineOf s) (suc t) k) ++ drop
+      (place (suc t + k)) s ≡ drop (place (suc t)) s = lines-words (suc t) k (omega arith) in
       ap (λ (j : ℕ). joined (taskWords (rates (listRates s))) (each (lineOf s) t (suc k)) ++ drop (place j) s) there ∙
-      append-assoc (lineWords t) (joined (taskWords (rates (listRates s))) (each (lineOf s) (suc t) k)) (drop (place (suc t + k)) s) ∙
+      append-assoc (lineWords t) (joined (taskWords (rates (listRates s))) (each (lineOf s) (suc t) k))
+      (drop (place (suc t + k)) s) ∙
       ap (λ (l : List ℕ). lineWords t ++ l) rest ∙ line-words t (omega arith)
 
   all-lines : joined (taskWords (rates (listRates s))) (each (lineOf s) 0 n) ≡ drop (suc (taskCountPlace Ordinary m)) s

@@ -17,9 +17,11 @@ use Rattle.layout.proofs.Layouts.{words-few}
 use Rattle.chips.specs.declared.Chip.{Chip}
 use Rattle.chips.specs.declared.Chip.the-variants.{Xscale, Ppc405lp}
 use Rattle.chips.proofs.Tables.{count-range, rates-length, energies-length as energies-length-of}
-use Rattle.text.specs.Text.{TaskLine, Clock, rates, chip, Script, bytes, digits, decimal, spaced, energyText, taskText, chipName, clockText, scriptText}
+use Rattle.text.specs.Text.{TaskLine, Clock, rates, chip, Script, bytes, digits, decimal, spaced, energyText}
+use Rattle.text.specs.Text.{taskText, chipName, clockText, scriptText}
 use Rattle.text.proofs.Grammar.{energy-form}
-use Rattle.text.specs.Text.{ratesOf, energiesOf, taskWords, words, Word, ClockOk, energyCount, TaskLineOk, ScriptOk, IsTextOf}
+use Rattle.text.specs.Text.{ratesOf, energiesOf, taskWords, words, Word, ClockOk, energyCount, TaskLineOk}
+use Rattle.text.specs.Text.{ScriptOk, IsTextOf}
 
 -- ---- numbers
 digits-length : (k n : ℕ) → length (digits k n) ≤ k
@@ -132,7 +134,8 @@ script-length : (s : Script) → ScriptOk s → length (scriptText s) ≤ length
 script-length s k =
     let g = word-widest (s .slack) (k .slack) in
     let r = clock-length (s .clock) (k .clock) in
-    let t = lines-length (energyCount (s .clock)) (energies-few (s .clock) (k .clock)) (s .tasks) (k .tasks .each) (k .tasks .most) in
+    let t = lines-length (energyCount (s .clock)) (energies-few (s .clock) (k .clock)) (s .tasks) (k .tasks .each)
+    (k .tasks .most) in
     simp length-append (omega arith)
 
 widest-length : length (scriptText widestScript) < 5000
@@ -154,7 +157,8 @@ as-many : (k : Clock) (t : TaskLine) → TaskLineOk (energyCount k) t → length
 as-many (rates fs) t h = omega (arith, h .energies .least, h .energies .most)
 as-many (chip c) t h = energies-length-of c _ ∙ sym (rates-length c)
 
-pub task-size : (k : Clock) (t : TaskLine) → TaskLineOk (energyCount k) t → length (taskWords k t) ≡ taskSize Ordinary (length (ratesOf k))
+pub task-size : (k : Clock) (t : TaskLine) → TaskLineOk (energyCount k) t → length (taskWords k t) ≡ taskSize Ordinary
+    (length (ratesOf k))
 unfolding extraKinds
 task-size k t h = omega (arith, as-many k t h)
 
@@ -163,13 +167,25 @@ words-of-tasks : (k : Clock) (ts : List TaskLine) → All (TaskLineOk (energyCou
 words-of-tasks k [] a = omega arith
 words-of-tasks k (t ∷ ts) a =
     length-append (taskWords k t) (joined (taskWords k) ts)
-    ∙ omega (arith, task-size k t (a .0), words-of-tasks k ts (a .1), suc-mul (length ts) (taskSize Ordinary (length (ratesOf k))))
+    ∙ omega (
+      arith,
+      task-size k t (a .0),
+      words-of-tasks k ts (a .1),
+      suc-mul (length ts)
+          (taskSize Ordinary (length (ratesOf k))),
+    )
 
-pub words-size : (s : Script) → ScriptOk s → length (words s) ≡ periodPlace Ordinary (length (ratesOf (s .clock))) (length (s .tasks))
+pub words-size : (s : Script) → ScriptOk s → length (words s) ≡ periodPlace Ordinary (length (ratesOf (s .clock)))
+    (length (s .tasks))
 unfolding words headKinds
 words-size s k =
     simp length-append (omega (arith, words-of-tasks (s .clock) (s .tasks) (k .tasks .each)))
 
 pub words-length : (s : Script) → ScriptOk s → length (words s) ≤ mostWords
 words-length s k =
-    omega (arith, words-size s k, words-few (length (ratesOf (s .clock))) (length (s .tasks)) (rates-few (s .clock) (k .clock)) (k .tasks .most))
+    omega (
+      arith,
+      words-size s k,
+      words-few (length (ratesOf (s .clock))) (length (s .tasks))
+          (rates-few (s .clock) (k .clock)) (k .tasks .most),
+    )

@@ -21,7 +21,8 @@ use Rattle.text.proofs.Numerals.{said}
 use Rattle.text.proofs.Pieces.{first-bad-one, no-first-bad}
 use Rattle.text.proofs.Grammar.{Answer, read-render, read-right}
 use Rattle.text.proofs.Sizes.{text-length}
-use Rattle.text.proofs.Copies.{reads, is-read, is-refused, refuses, one-script, list-text, list-words, reader-unique, writer-unique, read-back, read-again}
+use Rattle.text.proofs.Copies.{reads, is-read, is-refused, refuses, one-script, list-text, list-words}
+use Rattle.text.proofs.Copies.{reader-unique, writer-unique, read-back, read-again}
 use Rattle.text.proofs.Expanded.{LineIn, passes-over, list-passes}
 
 -- ---- numbers
@@ -103,7 +104,8 @@ read-written-read = read-again
 
 -- A chip's text that the reader takes gives a list that passes checks 2 and 3, if its slack, its periods and its cycles
 -- are in their ranges: of what the tables bring nothing is refused.
-pub chip-passes : (c : Chip) (g : ℕ) (ts : List TaskLine) (t d d′ : List ℕ) (n : ℕ) → let s : Script = record { slack = g; clock = chip c; tasks = ts } in
+pub chip-passes : (c : Chip) (g : ℕ) (ts : List TaskLine) (t d d′ : List ℕ) (n : ℕ) → let s : Script =
+    record { slack = g; clock = chip c; tasks = ts } in
     IsTextOf s t → ReaderGives t d d′ (Wrote n) → (1 ≤ g) × (g ≤ 1000) → All LineIn ts → Accepts (wordChecks Ordinary (words s))
 chip-passes c g ts t d d′ n is gives slack-in lines-in =
     list-passes c g ts (is .script) slack-in lines-in

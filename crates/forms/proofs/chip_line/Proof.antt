@@ -51,7 +51,13 @@ enum-known-chip : tie.Need-enum-known-chip
 enum-known-chip c = search needs
 
 put-rates-requires : tie.Need-put-rates-requires
-put-rates-requires c κs = omega (arith, count-range (c .before .before .chip .given .0 .0) .1, c .before .before .before .before .before .before .before .before .before .before .before .before .pre)
+put-rates-requires c κs = omega (
+  arith,
+  count-range
+      (c .before .before .chip .given .0 .0) .1,
+  c .before .before .before .before .before .before .before .before
+      .before .before .before .before .pre,
+)
 
 enum-known-o : tie.Need-enum-known-o
 enum-known-o c = search needs
@@ -65,7 +71,8 @@ returns-2 c =
     let n = x .before .before .before in
     let l = n .before .before .before .before in
     let name = sym (n .before .before .chip-name .ensures) ∙ ap ofChip (n .chip .given .1) in
-    gives {a = chip (n .chip .given .0 .0)} {i = n .chip .given .0 .1 .0} (rw (map-at, seq-at, begun l, map-id, name)) refl (x .put-rates .ensures)
+    gives {a = chip (n .chip .given .0 .0)} {i = n .chip .given .0 .1 .0}
+    (rw (map-at, seq-at, begun l, map-id, name)) refl (x .put-rates .ensures)
 
 returns-3 : tie.Need-returns-3
 returns-3 c =

@@ -22,7 +22,8 @@ form-of x = x .before .before .before .before .before
 
 -- What is left to read behind the form's name.
 to-energies : (f : tie.After-form) → let a = start f .args in
-    readAt (readEnergies (a .m)) (now (a .s)) (a .at) ≡ readAt (upTo (numbers (a .m) 0) (bytes ")")) (now (a .s)) (f .form .given .0 .1 .0)
+    readAt (readEnergies (a .m)) (now (a .s)) (a .at) ≡ readAt (upTo (numbers (a .m) 0) (bytes ")")) (now (a .s))
+    (f .form .given .0 .1 .0)
 to-energies f =
     let named = took noValue (readAt (literal _) _ _) (f .before .before .literal .ensures) (ap ofRead (f .form .given .1)) .is in
     rw (some-energies (start f .args .m) (start f .pre .0), seq-at, named, map-id)

@@ -27,8 +27,10 @@ call x = x .before .before
 
 -- The rates that were read.
 read-rates : (n : tie.After-n) → let x = n .before .before in let l = line-of x in
-    Took length (readAt (numbers 2 6) (now (l .before .before .before .before .before .before .args .s)) (l .line .given .0 .1 .0)) (n .n .given .0 .0) (n .n .given .0 .1 .0)
-read-rates n = took length (readAt (numbers 2 6) _ _) (call (n .before .before) .numbers .ensures .answers) (ap ofRead (n .n .given .1))
+    Took length (readAt (numbers 2 6) (now (l .before .before .before .before .before .before .args .s))
+    (l .line .given .0 .1 .0)) (n .n .given .0 .0) (n .n .given .0 .1 .0)
+read-rates n = took length (readAt (numbers 2 6) _ _) (call (n .before .before) .numbers .ensures .answers)
+    (ap ofRead (n .n .given .1))
 
 slice-aggregate-literal : tie.Need-slice-aggregate-literal
 slice-aggregate-literal c = search needs

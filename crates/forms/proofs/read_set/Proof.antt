@@ -72,7 +72,8 @@ to-clock : (o : tie.After-next) → let t = now (start (slack-of o) .args .s) in
 to-clock o = rw (seq-at, slack (slack-of o), seq-at, seq-at, next o, map-id)
 
 clock : (k : tie.After-line) → let o = next-of k in
-    Took clockOf (readAt readClock (now (first k .args .s)) (o .next .given .0 .1 .0)) (k .line .given .0 .0) (k .line .given .0 .1 .0)
+    Took clockOf (readAt readClock (now (first k .args .s)) (o .next .given .0 .1 .0)) (k .line .given .0 .0)
+    (k .line .given .0 .1 .0)
 clock k = took clockOf (readAt readClock _ _) (clock-call k .clock-line .ensures .answers) (ap ofClock (k .line .given .1))
 
 ended : (e : tie.After-end) → let k = line-of e in
@@ -93,9 +94,11 @@ few : (k : tie.After-line) → ratesIn (k .line .given .0 .0) ≤ mostRates
 few k = few-rates (k .line .given .0 .0) (fit k)
 
 tasks : (n : tie.After-lines) → let e = end-of n in let k = line-of e in
-    Took length (readAt (readTasks (energiesIn (k .line .given .0 .0))) (now (first k .args .s)) (e .end .given .0 .1 .0)) (n .lines .given .0 .0) (n .lines .given .0 .1 .0)
+    Took length (readAt (readTasks (energiesIn (k .line .given .0 .0))) (now (first k .args .s))
+    (e .end .given .0 .1 .0)) (n .lines .given .0 .0) (n .lines .given .0 .1 .0)
 tasks n =
-    took length (readAt (readTasks (energiesIn (line-of (end-of n) .line .given .0 .0))) _ _) (tasks-call n .tasks .ensures .answers) (ap ofRead (n .lines .given .1))
+    took length (readAt (readTasks (energiesIn (line-of (end-of n) .line .given .0 .0))) _ _)
+    (tasks-call n .tasks .ensures .answers) (ap ofRead (n .lines .given .1))
 
 -- The same, by the clock of the script.
 to-tasks : (e : tie.After-end) → let k = line-of e in let t = now (first k .args .s) in
@@ -104,13 +107,16 @@ to-tasks : (e : tie.After-end) → let k = line-of e in let t = now (first k .ar
 to-tasks e =
     let k = line-of e in
     to-clock (next-of k) ∙ rw (clock k .is, seq-at, ended e, map-id)
-    (ap (λ (m : ℕ). mapRes (mkScript (slack-of (next-of k) .slack .given .0 .0)) (mapRes (both (clock k .item)) (readAt (readTasks m) (now (first k .args .s)) (e .end .given .0 .1 .0)))) (sym (energies k)))
+    (ap (λ (m : ℕ). mapRes (mkScript (slack-of (next-of k) .slack .given .0 .0))
+    (mapRes (both (clock k .item)) (readAt (readTasks m) (now (first k .args .s)) (e .end .given .0 .1 .0))))
+    (sym (energies k)))
 
 -- The script that was read.
 abbrev script : tie.After-lines → Script
 script n = let k = line-of (end-of n) in mkScript (slack-of (next-of k) .slack .given .0 .0) (clock k .item, tasks n .item)
 
-is-read : (n : tie.After-lines) → readAt readScript (now (first (line-of (end-of n)) .args .s)) 0 ≡ got (script n) (n .lines .given .0 .1 .0)
+is-read : (n : tie.After-lines) → readAt readScript (now (first (line-of (end-of n)) .args .s)) 0 ≡ got (script n)
+    (n .lines .given .0 .1 .0)
 is-read n = rw (to-tasks (end-of n), tasks n .is)
 
 is-ok : (n : tie.After-lines) → ScriptOk (script n)
@@ -125,7 +131,8 @@ record Sizes (head m n lent : ℕ) : Type 0 where
   room : mostWords ≤ lent
 
 sizes : (r : tie.After-rate-count) → let n = lines-of r in let k = line-of (end-of n) in
-    Sizes (head-call (next-of k) .head-size .result) (r .rate-count .result) (n .lines .given .0 .0) (length (tasks-call n .tasks .last .1 .1 .0))
+    Sizes (head-call (next-of k) .head-size .result) (r .rate-count .result) (n .lines .given .0 .0)
+    (length (tasks-call n .tasks .last .1 .1 .0))
 sizes r =
     let n = lines-of r in
     let k = line-of (end-of n) in
@@ -195,7 +202,13 @@ add-clock-line : tie.Need-add-clock-line
 add-clock-line c = omega (arith, head-few Ordinary, head-call (c .before .before) .head-size .ensures)
 
 clock-line-requires : tie.Need-clock-line-requires
-clock-line-requires c κs = omega (arith, head-few Ordinary, head-call (c .before .before) .head-size .ensures, start (slack-of (c .before .before)) .pre)
+clock-line-requires c κs = omega (
+  arith,
+  head-few Ordinary,
+  head-call (c .before .before) .head-size .ensures,
+  start
+      (slack-of (c .before .before)) .pre,
+)
 
 enum-known-line : tie.Need-enum-known-line
 enum-known-line c = search needs
@@ -245,8 +258,17 @@ returns-4 c =
 
 tasks-requires : tie.Need-tasks-requires
 tasks-requires c κs =
-    let k = line-of (c .before .before) in
-    (fit k, omega (arith, few k, words-few _ mostTasks (few k) (omega arith), clock-call k .clock-line .kept .1 .1 .0, first k .pre))
+    let k = line-of (c .before .before) in (
+      fit k,
+      omega (
+        arith,
+        few k,
+        words-few _ mostTasks (few k)
+            (omega arith),
+        clock-call k .clock-line .kept .1 .1 .0,
+        first k .pre,
+      ),
+    )
 
 enum-known-lines : tie.Need-enum-known-lines
 enum-known-lines c = search needs
@@ -310,14 +332,18 @@ returns-6 c =
     let k = line-of (end-of n) in
     let s = script n in
     let m : length (ratesOf (s .clock)) ≡ r .rate-count .result = sym (r .rate-count .ensures ∙ rates k) in
-    let size : length (words s) ≡ c .period-place .result = words-size s (is-ok n) ∙ rw (m, tasks n .shows) (sym (c .period-place .ensures)) in
-    let by : wordsBy (k .line .given .0 .0) ≡ taskWords (s .clock) = ap wordsBy (sym (clock k .shows)) ∙ words-by (clock k .item) in
+    let size : length (words s) ≡ c .period-place .result = words-size s (is-ok n) ∙ rw (m, tasks n .shows)
+    (sym (c .period-place .ensures)) in
+    let by : wordsBy (k .line .given .0 .0) ≡ taskWords (s .clock) = ap wordsBy (sym (clock k .shows)) ∙ words-by
+    (clock k .item) in
     gives {a = s} {i = n .lines .given .0 .1 .0} (is-read n)
     (ap (λ (v : Said). got v (n .lines .given .0 .1 .0)) (sym (said-is s _ _ _ _ (clock k .shows) m (tasks n .shows) size)))
-    (set-words s (now (first k .args .out)) (tasks-call n .tasks .last .1 .1 .0) _ _ _ _ (head-call (next-of k) .head-size .ensures) (c .before .task-count-place .ensures)
+    (set-words s (now (first k .args .out)) (tasks-call n .tasks .last .1 .1 .0) _ _ _ _
+    (head-call (next-of k) .head-size .ensures) (c .before .task-count-place .ensures)
     m (tasks n .shows) (omega (arith, sizes r, first k .pre))
     ((rw (tasks n .is, ← r .rate-count .ensures, by) at (tasks-call n .tasks .ensures .wrote))
-    ∙ ap (written _ (joined (taskWords (s .clock)) (tasks n .item))) (rw (clock k .is) at (clock-call k .clock-line .ensures .wrote))))
+    ∙ ap (written _ (joined (taskWords (s .clock)) (tasks n .item)))
+    (rw (clock k .is) at (clock-call k .clock-line .ensures .wrote))))
 
 pub read-set-spec : {M : Type 1} → statement M
 read-set-spec =

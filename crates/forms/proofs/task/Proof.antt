@@ -46,17 +46,21 @@ cycles : (c : tie.After-cycles) → let p = period-of c in
 cycles c = sym (c .before .before .field2 .ensures) ∙ ap ofRead (c .cycles .given .1)
 
 shut : (h : tie.After-closed) → let c = cycles-of h in
-    readAt (literal (bytes ")")) (now (start (period-of c) .args .s)) (c .cycles .given .0 .1 .0) ≡ got tt (h .closed .given .0 .1 .0)
+    readAt (literal (bytes ")")) (now (start (period-of c) .args .s)) (c .cycles .given .0 .1 .0) ≡ got tt
+    (h .closed .given .0 .1 .0)
 shut h = took noValue (readAt (literal _) _ _) (h .before .before .literal .ensures) (ap ofRead (h .closed .given .1)) .is
 
 -- What is left to read behind the cycles.
 to-energies : (h : tie.After-closed) → let y = cycles-of h in let a = start (period-of y) .args in
     readAt (readTask (energiesIn (a .clock))) (now (a .s)) (a .at)
-    ≡ mapRes (mkTask (period-of y .period .given .0 .0)) (mapRes (both (y .cycles .given .0 .0)) (readAt (upTo (readEnergies (energiesIn (a .clock))) (bytes ")\n")) (now (a .s)) (h .closed .given .0 .1 .0)))
+    ≡ mapRes (mkTask (period-of y .period .given .0 .0))
+    (mapRes (both (y .cycles .given .0 .0))
+    (readAt (upTo (readEnergies (energiesIn (a .clock))) (bytes ")\n")) (now (a .s)) (h .closed .given .0 .1 .0)))
 to-energies h = rw (seq-at, period (period-of (cycles-of h)), seq-at, cycles (cycles-of h), seq-at, shut h, map-id)
 
 energies : (e : tie.After-form) → let h = closed-of e in let a = start (period-of (cycles-of h)) .args in
-    Took noValue (readAt (readEnergies (energiesIn (a .clock))) (now (a .s)) (h .closed .given .0 .1 .0)) (e .form .given .0 .0) (e .form .given .0 .1 .0)
+    Took noValue (readAt (readEnergies (energiesIn (a .clock))) (now (a .s)) (h .closed .given .0 .1 .0))
+    (e .form .given .0 .0) (e .form .given .0 .1 .0)
 energies e =
     let m = energiesIn (start (period-of (cycles-of (closed-of e))) .args .clock) in
     took noValue (readAt (readEnergies m) _ _) (form-call e .energies .ensures .answers) (ap ofRead (e .form .given .1))
@@ -185,7 +189,8 @@ returns-5 c =
     rw (to-energies (closed-of e), seq-at, g .is, map-map, map-map)
     (closed t (readAt (literal _) _ _) (c .literal2 .ensures)
     (ap (stored (a .args .k) (t .period ∷ t .cycles ∷ extraWords t)) (rw (g .is) at (x .energies .ensures .wrote))
-    ∙ in-front (t .period ∷ t .cycles ∷ extraWords t) es (now (a .args .out)) (a .args .k) _ (omega (arith, task-front t, size)) (omega (arith, size, a .pre .1))))
+    ∙ in-front (t .period ∷ t .cycles ∷ extraWords t) es (now (a .args .out)) (a .args .k) _
+    (omega (arith, task-front t, size)) (omega (arith, size, a .pre .1))))
 
 pub task-spec : {M : Type 1} → statement M
 task-spec =

@@ -73,7 +73,8 @@ same-length c = search needs
 returns : tie.Need-returns Inv-loop μ-loop
 returns c =
     let q = c .before .before .before .before in
-    whole q (stopped (q .loop .inv) (omega arith) (sym (c .before .opens .ensures) ∙ not-true (c .before .opens .result) (c .if2 .taken)))
+    whole q (stopped (q .loop .inv) (omega arith)
+    (sym (c .before .opens .ensures) ∙ not-true (c .before .opens .result) (c .if2 .taken)))
 
 period-place-requires : tie.Need-period-place-requires Inv-loop μ-loop
 period-place-requires c κs = let q = c .before .before .before in omega (arith, counted q, few q)
@@ -85,7 +86,14 @@ task-requires c κs =
     let size = taskSize Ordinary (ratesIn (a .args .clock)) in
     let there = c .period-place .ensures ∙ ap (λ (m : ℕ). periodPlace Ordinary m (q .loop .n)) (counted q) in (
       a .pre .0,
-      omega (arith, before-end mostTasks size (q .loop .n) (size - 1) (omega arith) (omega arith), there, a .pre .1, q .loop .inv .same),
+      omega (
+        arith,
+        before-end mostTasks size (q .loop .n) (size - 1) (omega arith)
+            (omega arith),
+        there,
+        a .pre .1,
+        q .loop .inv .same,
+      ),
     )
 
 enum-known-r : tie.Need-enum-known-r Inv-loop μ-loop
@@ -120,7 +128,8 @@ loop-again c =
     let q = j .before .before in
     let k = start q .args .clock in
     let t = took noValue (readAt (readTask (energiesIn k)) _ _) (x .task .ensures .answers) (ap ofRead (r .r .given .1)) in
-    let size : length (wordsBy k (t .item)) ≡ taskSize Ordinary (q .before .rate-count .result) = task-words k _ _ _ (t .item) (t .is) ∙ ap (taskSize Ordinary) (sym (counted q)) in
+    let size : length (wordsBy k (t .item)) ≡ taskSize Ordinary (q .before .rate-count .result) = task-words k _ _ _
+    (t .item) (t .is) ∙ ap (taskSize Ordinary) (sym (counted q)) in
     one-more (q .loop .inv) (omega arith) (starting j) (t .item) _ _ (t .is) size (omega arith) (x .task .kept .1 .1 .0)
     (rw (t .is, x .before .period-place .ensures) at (x .task .ensures .wrote))
 

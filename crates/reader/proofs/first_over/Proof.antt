@@ -27,7 +27,8 @@ found : tie.Need-returns Inv-loop μ-loop
 found c =
     let x = c .before .over-rate in
     let q = c .before .before .before in
-    found-here (omega arith) (q .loop .inv .1) (omega arith) (x .result, x .ensures .from, c .if1 .taken, x .ensures .hit (omega arith))
+    found-here (omega arith) (q .loop .inv .1) (omega arith)
+    (x .result, x .ensures .from, c .if1 .taken, x .ensures .hit (omega arith))
 
 add-t : tie.Need-add-t Inv-loop μ-loop
 add-t c = search needs

@@ -21,7 +21,8 @@ abbrev μ-loop : tie.MeasureT-loop
 μ-loop set m t r₀ r = m + 1 - r
 
 -- The energy's place is in the list.
-inside : (e : tie.After-energy-place Inv-loop μ-loop) → e .energy-place .result < length (now (e .before .before .before .before .args .set))
+inside : (e : tie.After-energy-place Inv-loop μ-loop) → e .energy-place .result < length
+    (now (e .before .before .before .before .args .set))
 inside e =
     let q = e .before .before in
     let a = q .before .before in

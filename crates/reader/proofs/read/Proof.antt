@@ -29,7 +29,8 @@ call n = n .before .before .before
 abbrev first : tie.After-said → tie.Start
 first n = call n .before .before .before .before
 
-read-as : (n : tie.After-said) → Took saidOf (readAt readScript (now (first n .args .text)) 0) (n .said .given .0 .0) (n .said .given .0 .1 .0)
+read-as : (n : tie.After-said) → Took saidOf (readAt readScript (now (first n .args .text)) 0) (n .said .given .0 .0)
+    (n .said .given .0 .1 .0)
 read-as n = took saidOf (readAt readScript _ _) (call n .read-set .ensures .answers) (ap ofSet (n .said .given .1))
 
 -- How many words these are.
@@ -54,9 +55,11 @@ holds n =
 abbrev said-of : tie.After-over-task → tie.After-said
 said-of k = k .before .before .before
 
-over : (k : tie.After-over-task) → OverTask (call (said-of k) .read-set .last .1 .0) (saidOf (read-as (said-of k) .item)) (k .over-task .result)
+over : (k : tie.After-over-task) → OverTask (call (said-of k) .read-set .last .1 .0)
+    (saidOf (read-as (said-of k) .item)) (k .over-task .result)
 over k =
-    subst (λ (v : Said). OverTask (call (said-of k) .read-set .last .1 .0) v (k .over-task .result)) (sym (read-as (said-of k) .shows)) (k .over-task .ensures)
+    subst (λ (v : Said). OverTask (call (said-of k) .read-set .last .1 .0) v (k .over-task .result))
+    (sym (read-as (said-of k) .shows)) (k .over-task .ensures)
 
 none : (k : tie.After-over-task) → k .over-task .result ≡ 0 → NoneOver (read-as (said-of k) .item)
 none k e = let n = said-of k in overs.none-over (read-as n .item) (ok n) _ _ (stands n) (k .over-task .result) (over k) e
@@ -95,7 +98,8 @@ too-few-words c =
     let k = c .before .before .before in
     let n = said-of k in
     let t = read-as n in
-    laws.too-short _ _ (t .item) (n .said .given .0 .1 .0) (t .is) _ (c .before .before .if1 .left) (none k (omega arith)) (size n) (c .if3 .taken)
+    laws.too-short _ _ (t .item) (n .said .given .0 .1 .0) (t .is) _ (c .before .before .if1 .left)
+    (none k (omega arith)) (size n) (c .if3 .taken)
 
 array-share-prefix-set : tie.Need-array-share-prefix-set
 array-share-prefix-set c =
@@ -126,14 +130,17 @@ returns-4 c =
     let n = said-of k in
     let t = read-as n in
     let a = first n .args in
-    laws.all-written (now (a .text)) (now (a .words)) (t .item) (n .said .given .0 .1 .0) (t .is) (w .put-words .result) (w .put-words .last .0)
-    (e .before .before .if1 .left) (none k (omega (arith, e .before .if2 .left))) (w .put-words .ensures .0 ∙ ap length (front n)) (omega (arith, size n, e .if3 .left))
+    laws.all-written (now (a .text)) (now (a .words)) (t .item) (n .said .given .0 .1 .0) (t .is)
+    (w .put-words .result) (w .put-words .last .0)
+    (e .before .before .if1 .left) (none k (omega (arith, e .before .if2 .left)))
+    (w .put-words .ensures .0 ∙ ap length (front n)) (omega (arith, size n, e .if3 .left))
     (w .put-words .ensures .1 ∙ ap (λ (z : List ℕ). placed z (now (a .words))) (front n))
 
 returns-5 : tie.Need-returns-5
 returns-5 c =
     let x = c .before .before .before .before in
-    laws.not-read _ _ (c .before .o .given .0 .0) (lost saidOf (readAt readScript _ 0) (x .read-set .ensures .answers) (ap ofSet (c .before .o .given .1)))
+    laws.not-read _ _ (c .before .o .given .0 .0)
+    (lost saidOf (readAt readScript _ 0) (x .read-set .ensures .answers) (ap ofSet (c .before .o .given .1)))
 
 pub read-spec : {M : Type 1} → statement M
 read-spec =
