@@ -1,15 +1,15 @@
 # shellcheck shell=bash
-# What the checks of the examples share: builds the one that `example` names, and has what holds it to its cases.
-# Sourced in the repository's root. cases/list has a line a case: its name, the status that the run ends with, and the
-# arguments. NAME.in is the input, NAME.out all that is printed, NAME.err all that standard error says; where one of
-# these is not there, nothing.
+# What the checks of the examples share: builds the one that `example` names, and has what holds it to its cases; where
+# it has no program of its own, the check then sets `program`. Sourced in the repository's root. cases/list has a line a
+# case: its name, the status that the run ends with, and the arguments. NAME.in is the input, NAME.out all that is
+# printed, NAME.err all that standard error says; where one of these is not there, nothing.
 
 program=target/examples/${example:?}
 cases=examples/$example/cases
 out=target/examples/cases/$example
 held=0
 failures=0
-bash examples/build.sh "$example" || exit 1
+[ ! -f "examples/$example/$example.c" ] || bash examples/build.sh "$example" || exit 1
 mkdir -p "$out" || exit 1
 
 fail() {

@@ -212,7 +212,9 @@ static void explain(uint32_t number, uint32_t second)
         printf("With every task at rate number %" PRIu32 ", the highest, the jobs still take more ticks than there are.\n", rates());
         printf("To mend: fewer cycles a job, longer periods, fewer tasks, or a higher rate.\n");
         break;
-    default:                            /* 5 and 6 too: this host lends as much as the planner asks for */
+    default:
+        /* 5 and 6 too: this host lends as much as the planner asks for. 1 and 9 are of texts, which it does not read,
+           and 8 is of the walk's plan. */
         give_up("there is no cause for this refusal: host and archive do not belong together");
     }
 }
