@@ -38,7 +38,7 @@ extern "C" {
 #endif
 
 /* The refusals' numbers; behind each its cause, and its second number. Of several causes the first in a call's own
- * order is the one returned. No call from C returns 1: it is of texts, which the program reads. */
+ * order is the one returned. No call from C returns 1 or 9: these are of texts, which the program reads. */
 #define SEEDSPELL_REFUSED_TEXT_DEPARTS 1          /* a text departs from the form; offset of its first byte that does */
 #define SEEDSPELL_REFUSED_BAD_SET_WORD 2          /* a set word out of its range, missing or left over; its place, or
                                                      the list's length if it is missing. Of the generator, a number
@@ -53,6 +53,8 @@ extern "C" {
 #define SEEDSPELL_REFUSED_NO_PLAN_FITS 7          /* no plan keeps every deadline; 0 */
 #define SEEDSPELL_REFUSED_BAD_WALK_PLAN 8         /* the plan that the walk is given; the lowest place of a word that is
                                                      not 1 to M, or its length if it is short, or N if it is long */
+#define SEEDSPELL_REFUSED_CHIP_ENERGY_TOO_HIGH 9  /* a text names a chip, and an energy worked out by the chip's tables
+                                                     passes 1,000,000; the number of the first task that has one */
 
 /* Of what a call returned, a uint64_t: the refusal's number, 0 where there is none; and its second number. */
 #ifdef __cplusplus

@@ -6,8 +6,8 @@
 #include <inttypes.h>
 #include <stdio.h>
 
-#if SEEDSPELL_REFUSED_TEXT_DEPARTS != 1 /* the one refusal that no call from C gives */
-#error "refusal 1 is of texts"
+#if SEEDSPELL_REFUSED_TEXT_DEPARTS != 1 || SEEDSPELL_REFUSED_CHIP_ENERGY_TOO_HIGH != 9
+#error "refusals 1 and 9, which no call from C gives, are of texts"
 #endif
 
 #define WORDS 16
