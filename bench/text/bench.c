@@ -2,8 +2,8 @@
    same texts and sets, the same run, in turn, the best of many repetitions.
    Before that both are held to equal answers, in what they return and in every
    word and byte lent, on the document's example, the longest text, cut, damaged
-   and random texts, and on cut, damaged and random lists; where they differ the
-   run ends with 1.
+   and random texts, texts that name a chip among them, and on cut, damaged and
+   random lists; where they differ the run ends with 1.
 
    One line a case: name, bytes of a text (the mean where there are several),
    nanoseconds a call of each, and the archive's time over the plain one's.
@@ -41,6 +41,14 @@ struct text {
     uint8_t byte[MOST_BYTES + SPARE];
     size_t len;
 };
+
+/* The chips that a text can name, and the most cycles of a job on each: with one
+   more an energy is over the largest. */
+static const struct {
+    const char *name;
+    uint32_t most_cycles;
+} chips[] = {{"xscale", 625000000}, {"ppc405lp", 443156000}};
+#define CHIPS (sizeof chips / sizeof *chips)
 
 static uint64_t state, compared;
 
@@ -145,6 +153,28 @@ static void longest_text(struct text *text)
     text->len = (size_t)(at - (char *)text->byte);
 }
 
+/* A text that names a chip, with so many tasks, each of at most so many cycles. */
+static void chip_text(struct text *text, const char *chip, uint32_t tasks, uint32_t most_cycles)
+{
+    char *at = (char *)text->byte;
+
+    at += sprintf(at, "(slack %" PRIu32 ")\n(chip %s)\n", some_number(1000), chip);
+    for (uint32_t t = 0; t < tasks; t++) {
+        uint32_t period = some_number(10000000);
+
+        at += sprintf(at, "(task (period %" PRIu32 ") (cycles %" PRIu32 "))\n", period,
+                      some_number(most_cycles));
+    }
+    text->len = (size_t)(at - (char *)text->byte);
+}
+
+/* One task of just so many cycles. */
+static void one_job(struct text *text, const char *chip, uint32_t cycles)
+{
+    text->len = (size_t)sprintf((char *)text->byte, "(slack 1)\n(chip %s)\n"
+                                "(task (period 1) (cycles %" PRIu32 "))\n", chip, cycles);
+}
+
 /* ---- Equal answers. What was lent is as it should be too: all of it as before
    on a refusal, and what lies after the count on success. */
 
@@ -203,11 +233,11 @@ static uint64_t same_write(const struct list *list, size_t room, struct text *re
    with a byte more, and with fewer words lent than needed. */
 static void compare_texts(const struct text *text)
 {
-    static const uint8_t other[] = "0159 ()\n\rat:/\x80\xff";
+    static const uint8_t other[] = "0159 ()\n\racprtx:/\x80\xff";
     static struct text damaged;
     uint64_t words = same_read(text, MOST_WORDS);
 
-    for (size_t room = 0; room <= words + 1; room++)
+    for (size_t room = 0; words >> 32 == 0 && room <= words + 1; room++)
         same_read(text, room);
     for (size_t at = 0; at <= text->len; at++) {
         damaged = *text;
@@ -275,6 +305,45 @@ static void compare_round(const struct list *list)
     compare_lists(list);
 }
 
+/* A text that names a chip; and the list that it stands for, which is written with
+   rates and energies and reads back equal. */
+static void compare_chip(const struct text *text)
+{
+    struct list list;
+    uint64_t words = same_read(text, MOST_WORDS);
+
+    compare_texts(text);
+    if (words >> 32 != 0)
+        return;                         /* refused with 9 */
+    list.len = plain_read(text->byte, text->len, list.word, MOST_WORDS);
+    compare_round(&list);
+}
+
+static void compare_chips(void)
+{
+    static struct text text;
+
+    for (size_t c = 0; c < CHIPS; c++) {
+        one_job(&text, chips[c].name, chips[c].most_cycles);
+        compare_chip(&text);
+        one_job(&text, chips[c].name, chips[c].most_cycles + 1);
+        if (same_read(&text, MOST_WORDS) != ((uint64_t)9 << 32 | 1)) {
+            fprintf(stderr, "bench: a job that is too dear is not refused\n");
+            exit(1);
+        }
+        compare_texts(&text);
+        one_job(&text, chips[c].name, 0);
+        compare_texts(&text);
+        for (int i = 0; i < 10; i++) {
+            chip_text(&text, chips[c].name, i % 5 == 0 ? MOST_TASKS : between(1, 6),
+                      chips[c].most_cycles);
+            compare_chip(&text);
+            chip_text(&text, chips[c].name, i % 5 == 0 ? MOST_TASKS : between(1, 6), UINT32_MAX);
+            compare_texts(&text);       /* now and then a task is too dear */
+        }
+    }
+}
+
 static void compare(const struct text *longest)
 {
     struct list list;
@@ -297,6 +366,7 @@ static void compare(const struct text *longest)
         random_set(&list, i % 10 == 0 ? MOST_TASKS : between(1, 6), between(2, MOST_RATES));
         compare_round(&list);
     }
+    compare_chips();
     printf("%" PRIu64 " calls answered alike\n", compared);
 }
 
@@ -363,9 +433,20 @@ static void measure(const char *name, int is_read, int count, int calls, int rep
     for (int s = 0; s < count; s++)
         size += is_read ? (double)texts[s].len
                         : (double)plain_write(sets[s].word, sets[s].len, bytes, MOST_BYTES);
-    printf("%-14s %7.0f %11.0f %11.0f %6.2f\n", name, size / count, archive, plain,
+    printf("%-16s %7.0f %11.0f %11.0f %6.2f\n", name, size / count, archive, plain,
            archive / plain);
     fflush(stdout);
+}
+
+/* Texts that name a chip, with so many tasks. */
+static void measure_chip(size_t chip, uint32_t tasks, int calls, int repetitions)
+{
+    char name[32];
+
+    for (int s = 0; s < MOST_SETS; s++)
+        chip_text(&texts[s], chips[chip].name, tasks, chips[chip].most_cycles);
+    sprintf(name, "read-%s-%" PRIu32, chips[chip].name, tasks);
+    measure(name, 1, MOST_SETS, calls, repetitions);
 }
 
 int main(int argc, char **argv)
@@ -382,7 +463,7 @@ int main(int argc, char **argv)
     longest_text(&longest);
     compare(&longest);
 
-    printf("%-14s %7s %11s %11s %6s\n", "case", "bytes", "archive ns", "plain ns", "ratio");
+    printf("%-16s %7s %11s %11s %6s\n", "case", "bytes", "archive ns", "plain ns", "ratio");
     texts[0] = longest;
     measure("read-longest", 1, 1, 8, repetitions);
     longest_set(&sets[0]);
@@ -399,5 +480,9 @@ int main(int argc, char **argv)
     }
     measure("read-random", 1, MOST_SETS, MOST_SETS, repetitions / 4 + 1);
     measure("write-random", 0, MOST_SETS, MOST_SETS, repetitions / 4 + 1);
+    for (size_t chip = 0; chip < CHIPS; chip++) {
+        measure_chip(chip, 1, 4 * MOST_SETS, repetitions / 4 + 1);
+        measure_chip(chip, MOST_TASKS, MOST_SETS, repetitions / 4 + 1);
+    }
     return 0;
 }

@@ -19,6 +19,19 @@
 #define MOST_TASKS 32
 #define MOST_RATES 8
 #define MOST_WORDS (3 + MOST_RATES + MOST_TASKS * (2 + MOST_RATES))
+#define MOST_ENERGY 1000000
+
+/* Rates in cycles a tick, which is a millisecond, and the power in mW at each. */
+struct chip {
+    uint32_t rates, rate[MOST_RATES], power[MOST_RATES];
+};
+
+static const struct chip xscale = {
+    5, {150000, 400000, 600000, 800000, 1000000}, {80, 170, 400, 900, 1600},
+};
+static const struct chip ppc405lp = {
+    4, {33000, 100000, 266000, 333000}, {19, 72, 600, 750},
+};
 
 uint64_t READER(const uint8_t *text, size_t text_len, uint32_t *words, size_t words_len);
 uint64_t WRITER(const uint32_t *set, size_t set_len, uint8_t *text, size_t text_len);
@@ -80,11 +93,33 @@ static inline int spaced(struct reader *r, uint32_t *word)
     return LITERAL(r, " ") && number(r, word);
 }
 
-static int task(struct reader *r, uint32_t *words, uint32_t rates)
+/* The energies of a job by the chip's tables; whether one is over the largest. */
+static inline int work_out(const struct chip *chip, uint32_t cycles, uint32_t *energies)
+{
+    int over = 0;
+
+    for (uint32_t k = 0; k < chip->rates; k++) {
+        uint64_t rate = chip->rate[k];
+
+        energies[k] = chip->power[k] * (uint32_t)((cycles + rate - 1) / rate);
+        over |= energies[k] > MOST_ENERGY;
+    }
+    return over;
+}
+
+/* A task's line. `chip` is NULL where the text has rates; `over` is set where an
+   energy that is worked out is over the largest. */
+static int task(struct reader *r, uint32_t *words, uint32_t rates, const struct chip *chip,
+                int *over)
 {
     if (!LITERAL(r, "(task (period ") || !number(r, &words[0])
-        || !LITERAL(r, ") (cycles ") || !number(r, &words[1])
-        || !LITERAL(r, ") (energy"))
+        || !LITERAL(r, ") (cycles ") || !number(r, &words[1]))
+        return 0;
+    if (chip != NULL) {
+        *over = work_out(chip, words[1], words + 2);
+        return LITERAL(r, "))\n");
+    }
+    if (!LITERAL(r, ") (energy"))
         return 0;
     for (uint32_t k = 0; k < rates; k++)
         if (!spaced(r, &words[2 + k]))
@@ -92,27 +127,60 @@ static int task(struct reader *r, uint32_t *words, uint32_t rates)
     return LITERAL(r, "))\n");
 }
 
-/* The words of the text, and their count. */
-static int script(struct reader *r, uint32_t *words, size_t *count)
+static inline int next_is(const struct reader *r, char byte)
 {
-    uint32_t rates = 0, tasks = 0, *at;
+    return r->at < r->end && *r->at == (uint8_t)byte;
+}
 
-    if (!LITERAL(r, "(slack ") || !number(r, &words[0]) || !LITERAL(r, ")\n(rates"))
-        return 0;
-    while (rates < 2 || (rates < MOST_RATES && r->at < r->end && *r->at == ' ')) {
-        if (!spaced(r, &words[2 + rates]))
+/* The line behind the slack's, from its name on: a c begins the chip's, and an x
+   the one chip's name. */
+static inline int clock_line(struct reader *r, uint32_t *words, uint32_t *rates,
+                             const struct chip **chip)
+{
+    *rates = 0;
+    *chip = NULL;
+    if (next_is(r, 'c')) {
+        if (!LITERAL(r, "chip "))
             return 0;
-        rates++;
+        *chip = next_is(r, 'x') ? &xscale : &ppc405lp;
+        if (!(*chip == &xscale ? LITERAL(r, "xscale") : LITERAL(r, "ppc405lp")))
+            return 0;
+        *rates = (*chip)->rates;
+        memcpy(words, (*chip)->rate, *rates * sizeof *words);
+        return 1;
     }
-    if (!LITERAL(r, ")\n"))
+    if (!LITERAL(r, "rates"))
+        return 0;
+    while (*rates < 2 || (*rates < MOST_RATES && next_is(r, ' '))) {
+        if (!spaced(r, &words[*rates]))
+            return 0;
+        ++*rates;
+    }
+    return 1;
+}
+
+/* The words of the text, and their count; the number of the first task with an
+   energy that is worked out and over the largest, 0 where there is none. */
+static int script(struct reader *r, uint32_t *words, size_t *count, uint32_t *dear)
+{
+    uint32_t rates, tasks = 0, *at;
+    const struct chip *chip;
+
+    *dear = 0;
+    if (!LITERAL(r, "(slack ") || !number(r, &words[0]) || !LITERAL(r, ")\n(")
+        || !clock_line(r, words + 2, &rates, &chip) || !LITERAL(r, ")\n"))
         return 0;
     words[1] = rates;
     at = words + 3 + rates;
-    while (tasks < 1 || (tasks < MOST_TASKS && r->at < r->end && *r->at == '(')) {
-        if (!task(r, at, rates))
+    while (tasks < 1 || (tasks < MOST_TASKS && next_is(r, '('))) {
+        int over = 0;
+
+        if (!task(r, at, rates, chip, &over))
             return 0;
         at += 2 + rates;
         tasks++;
+        if (over && *dear == 0)
+            *dear = tasks;
     }
     words[2 + rates] = tasks;
     *count = (size_t)(at - words);
@@ -122,11 +190,13 @@ static int script(struct reader *r, uint32_t *words, size_t *count)
 uint64_t READER(const uint8_t *text, size_t text_len, uint32_t *words, size_t words_len)
 {
     struct reader r = {text, text + text_len};
-    uint32_t own[MOST_WORDS];
+    uint32_t own[MOST_WORDS], dear;
     size_t count;
 
-    if (!script(&r, own, &count))
+    if (!script(&r, own, &count, &dear))
         return refusal(1, (uint64_t)(r.at - text));
+    if (dear != 0)
+        return refusal(9, dear);
     if (words_len < count)
         return refusal(6, count);
     memcpy(words, own, count * sizeof *words);
