@@ -1,3 +1,4 @@
 pub mod Rising
 pub mod Tables
 pub mod Cases
+pub mod Limits

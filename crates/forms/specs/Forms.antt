@@ -33,7 +33,8 @@ Wrote f k d e (bad o) = Unit {0}
 
 -- What the reader of a form gives, where x is what the form reads as and y the code's answer: the value of what was
 -- read, and its words in the list.
-pub record Gives {A B : Type 0} (value : A → B) (words : A → List ℕ) (k : ℕ) (d e : List ℕ) (x : Res A) (y : Res B) : Type 0 where
+pub record Gives {A B : Type 0} (value : A → B) (words : A → List ℕ) (k : ℕ) (d e : List ℕ) (x : Res A)
+    (y : Res B) : Type 0 where
   pub answers : y ≡ mapRes value x
   pub wrote : Wrote words k d e x
 
@@ -83,4 +84,9 @@ wordsBy k t = t .period ∷ t .cycles ∷ (extraWords t ++ energiesBy k (t .cycl
 
 -- What reading a set tells of its script.
 abbrev pub saidOf : Script → Said
-saidOf s = record { clock = clockOf (s .clock); rates = length (ratesOf (s .clock)); tasks = length (s .tasks); words = length (words s) }
+saidOf s = record {
+  clock = clockOf (s .clock);
+  rates = length (ratesOf (s .clock));
+  tasks = length (s .tasks);
+  words = length (words s);
+}

@@ -35,6 +35,10 @@ ceil-positive a b p q =
 pub ceil-falls : (a b c : ℕ) → 0 < b → b ≤ c → ceil a c ≤ ceil a b
 ceil-falls a b c h l = ceil-least a c (ceil a b) (omega arith) (omega (arith, ceil-covers a b h, mul-le-mul-right (ceil a b) l))
 
+-- More to be divided gives no smaller result.
+pub ceil-grows : (a b c : ℕ) → 0 < c → a ≤ b → ceil a c ≤ ceil b c
+ceil-grows a b c h l = ceil-least a c (ceil b c) h (omega (arith, ceil-covers b c h))
+
 -- Half the divisor at most doubles the result.
 pub ceil-half : (a b : ℕ) → 0 < b → ceil a b ≤ 2 * ceil a (2 * b)
 ceil-half a b h = ceil-least a b (2 * ceil a (2 * b)) h (omega (arith, ceil-covers a (2 * b) (omega arith)))

@@ -1,7 +1,6 @@
-// The reader of the bracketed text: the set's list of words; or the first byte at which the text departs from the form,
-// or the first task with an energy over the largest, where energies are worked out by a chip's tables. One pass over the
-// text into a list of its own; the list lent is changed only when all of it is read and fits. Ranges are not judged
-// here.
+// The reader of the bracketed text: the set's list of words; or the first byte at which the text departs from the form;
+// or, where a chip's tables give the energies, the first task with one over the largest. One pass over the text into a
+// list of its own; the list lent is changed only when all of it is read and fits. Ranges are not judged here.
 ghost use mathlib.Core.Path.{_≡_};
 ghost use Prim.Native.Nat.{suc, _+_, _≤_};
 ghost use lib.ListN.{length};

@@ -1,6 +1,6 @@
 // What a task set comes to and what each call answers. Here are the types of the answers, and in code the table of
-// refusals and the job time; specs/ defines what document 01 says of each, proofs/ has the theory. What stands where in a set's list is left
-// to the crate layout, the checks in code, tables and texts to the crates above.
+// refusals and the job time; specs/ defines what document 01 says of each, proofs/ has the theory. What stands where in
+// a set's list is left to the crate layout, the checks in code, tables and texts to the crates above.
 ghost use mathlib.Core.Path.{_≡_};
 ghost use Prim.Native.Nat.{_≤_};
 ghost use Rattle.taskset.specs.Quantities.{jobTicks};

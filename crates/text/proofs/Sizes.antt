@@ -146,9 +146,7 @@ pub text-length : (s : Script) (t : List ℕ) → IsTextOf s t → length t < 50
 text-length s t h = omega (arith, ap length (h .text), script-length s (h .script), widest-length)
 
 -- ---- words
--- A script's words are as many as its list's layout has for so many rates and tasks: few enough for the reader's own
--- list.
--- As many energies as rates, whatever the clock.
+-- Few rates, and as many energies as rates, whatever the clock.
 pub rates-few : (k : Clock) → ClockOk k → length (ratesOf k) ≤ mostRates
 rates-few (rates fs) d = d .most
 rates-few (chip c) d = omega (arith, rates-length c, count-range c)
@@ -175,6 +173,8 @@ words-of-tasks k (t ∷ ts) a =
           (taskSize Ordinary (length (ratesOf k))),
     )
 
+-- A script's words are as many as its list's layout has for so many rates and tasks: few enough for the reader's own
+-- list.
 pub words-size : (s : Script) → ScriptOk s → length (words s) ≡ periodPlace Ordinary (length (ratesOf (s .clock)))
     (length (s .tasks))
 unfolding words headKinds

@@ -10,10 +10,11 @@ use Rattle.taskset.specs.Refusals.{number, second, IsShort, Check, check, Accep
 use Rattle.taskset.specs.Calls.{Copied, CopyGives}
 use Rattle.taskset.specs.declared.CopyAnswer.{CopyAnswer}
 use Rattle.taskset.specs.declared.CopyAnswer.the-variants.{Wrote, Refused as NotCopied}
-use Rattle.text.specs.Text.{Clock, rates, chip, Script, scriptText, IsTextOf, WellFormed, FirstBad, ratesOf, words, scriptOf}
+use Rattle.text.specs.Text.{Clock, rates, chip, Script, scriptText, IsTextOf, WellFormed, FirstBad}
+use Rattle.text.specs.Text.{ratesOf, words, scriptOf}
 
--- "Reader: 1, 6", and between them 9, "after 1, before 6". lent is the length of the word list; 9 and 6 are of the script
--- that the text says.
+-- "Reader: 1, 6", and between them 9, "after 1, before 6". lent is the length of the word list; 9 and 6 are of the
+-- script that the text says.
 abbrev pub formCheck : List ℕ → Check
 formCheck t = check 1 (FirstBad WellFormed t)
 

@@ -1,0 +1,72 @@
+-- The most cycles that a job may have on each chip, so that no energy is over the largest that a list may hold: at one
+-- cycle more, some energy is. On the xscale that is by its highest rate; on the ppc405lp by 266 MHz, since at 333 MHz a
+-- job takes fewer of the dearer ticks.
+-- Assumes nothing.
+use Prim.Native.Nat.{ℕ, suc, _+_, _-_, _≤_, _<_}
+use mathlib.Core.Path.{_≡_, refl, _∙_}
+use mathlib.Core.Bool.{true}
+use mathlib.Core.Logic.{_↔_, ⊎-elim}
+use native.Mathlib.Bridge.{le-by-compare, IsLe}
+use native.Mathlib.Nat.{mul-le-mul-left}
+use native.Mathlib.Omega.{arith}
+use lib.ListN.{length, getD}
+use lib.Dec.{leb}
+use borrow.Author.Tests.{leb-true}
+use Rattle.numbers.proofs.Lists.{every, every-at, each-at}
+use Rattle.numbers.proofs.Rounding.{ceil-grows}
+use Rattle.numbers.proofs.Tests.{lt-or-le}
+use Rattle.layout.specs.Words.{mostEnergy}
+use Rattle.chips.specs.Chips.{megahertz, milliwatts, chipCount, chipPower, chipRate, chipEnergy, chipEnergies}
+use Rattle.chips.specs.declared.Chip.{Chip}
+use Rattle.chips.specs.declared.Chip.the-variants.{Xscale, Ppc405lp}
+use Rattle.chips.proofs.Tables.{rate-range, energies-length}
+
+-- "an energy worked out here is over 1,000,000": what must not hold at any rate.
+abbrev pub AllWithin : Chip → ℕ → Type 0
+AllWithin c cycles = (r : ℕ) → 1 ≤ r → r ≤ chipCount c → chipEnergy c cycles r ≤ mostEnergy
+
+abbrev pub mostCycles : Chip → ℕ
+mostCycles Xscale = 625000000
+mostCycles Ppc405lp = 443156000
+
+-- A longer job costs no less.
+pub energy-grows : (c : Chip) (a b r : ℕ) → a ≤ b → 1 ≤ r → r ≤ chipCount c → chipEnergy c a r ≤ chipEnergy c b r
+energy-grows c a b r h low high =
+    mul-le-mul-left (chipPower c r) (ceil-grows a b (chipRate c r) (rate-range c r low high .0) h)
+
+-- The energies of the longest job, computed, and that of one cycle more at the rate that stops it.
+longest-within : (c : Chip) → every (λ e. leb e mostEnergy) (chipEnergies c (mostCycles c)) ≡ true
+unfolding megahertz milliwatts chipEnergies
+longest-within Xscale = refl
+longest-within Ppc405lp = refl
+
+within : (c : Chip) → AllWithin c (mostCycles c)
+unfolding chipEnergies
+within c r low high =
+    let number : 1 + (r - 1) ≡ r = omega arith in
+    let at = every-at (λ e. leb e mostEnergy) (chipEnergies c (mostCycles c)) (longest-within c) (r - 1) 0 (omega (arith, energies-length c (mostCycles c))) in
+    let is = each-at (chipEnergy c (mostCycles c)) 1 (chipCount c) (r - 1) (omega arith) 0 in
+    leb-true (chipEnergy c (mostCycles c) r) mostEnergy (rw (is, number) at at)
+
+pub record Stops (c : Chip) : Type 0 where
+  pub rate : ℕ
+  pub low : 1 ≤ rate
+  pub high : rate ≤ chipCount c
+  pub over : mostEnergy < chipEnergy c (suc (mostCycles c)) rate
+
+stops : (c : Chip) → Stops c
+unfolding megahertz milliwatts IsLe
+stops Xscale = record { rate = 5; low = omega arith; high = omega arith; over = le-by-compare _ _ tt }
+stops Ppc405lp = record { rate = 3; low = omega arith; high = omega arith; over = le-by-compare _ _ tt }
+
+pub most-cycles : (c : Chip) (cycles : ℕ) → AllWithin c cycles ↔ (cycles ≤ mostCycles c)
+most-cycles c cycles = (few, λ h r low high. omega (arith, energy-grows c cycles (mostCycles c) r h low high, within c r low high))
+  where
+    few : AllWithin c cycles → cycles ≤ mostCycles c
+    few all =
+        ⊎-elim
+        (λ (l : mostCycles c < cycles).
+        let s = stops c in
+        absurd (omega (arith, s .over, energy-grows c (suc (mostCycles c)) cycles (s .rate) l (s .low) (s .high), all (s .rate) (s .low) (s .high))))
+        (λ (l : cycles ≤ mostCycles c). l)
+        (lt-or-le (mostCycles c) cycles)
