@@ -1,7 +1,7 @@
 -- What the program prints: one output for an input, at most 2,048 bytes of it; after a plan the walk is kept; and what
 -- is printed keeps demand 3.
 -- Assumes nothing.
-use Prim.Native.Nat.{ℕ, suc, _+_, _≤_, _<_}
+use Prim.Native.Nat.{ℕ, suc, _≤_, _<_}
 use mathlib.Core.Path.{_≡_, refl, sym, ap, _∙_, subst}
 use mathlib.Core.List.{List, [], _∷_, _++_}
 use mathlib.Core.Logic.{_↔_, inl, ⊎-elim}

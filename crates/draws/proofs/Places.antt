@@ -1,16 +1,18 @@
 -- What stands at each place of a set's list.
 -- Assumes nothing.
 use Prim.Native.Nat.{ℕ, suc, _+_, _-_, _*_, _≤_, _<_}
-use mathlib.Core.Path.{_≡_, refl, sym, ap, _∙_}
+use mathlib.Core.Path.{_≡_, sym, ap, _∙_}
 use mathlib.Core.List.{List, [], _∷_, _++_, append-assoc}
 use native.Mathlib.Nat.{zero-add, add-zero}
 use native.Mathlib.Omega.{arith}
 use lib.ListN.{length, replicate, length-replicate, getD-replicate, List·getD-append}
 use lib.Seq.{getD-append-add}
 use Rattle.numbers.specs.Numbers.{each}
-use Rattle.numbers.proofs.Lists.{each-at, joined-at}
-use Rattle.layout.specs.Words.{headSize, extraSize, word, slack, rateCount, taskCount, ratePlace, taskCountPlace, taskSize, periodPlace, rate, period, cycles, energy}
+use Rattle.numbers.proofs.Lists.{each-length, each-all, each-at, joined-at}
+use Rattle.layout.specs.Words.{headSize, extraSize, word, slack, rateCount, taskCount, taskSize, periodPlace, rate, period, cycles, energy}
 use Rattle.layout.specs.declared.Layout.the-variants.{Ordinary}
+use Rattle.layout.proofs.Built.{built}
+use Rattle.layout.proofs.Built as laws
 use Rattle.draws.specs.Generated.{draw, drawnPeriod, drawnCycles, drawnEnergy, fiveRates, headWords, rateOf, taskWords, tasksWords, frontWords, generated}
 use Rattle.draws.proofs.Sizes.{head-length, task-size}
 
@@ -24,57 +26,46 @@ module _ (seed n : ℕ) where
   abbrev tasks : List ℕ
   tasks = tasksWords seed n
 
-  -- ---- the head, and what stands behind it
-  parts : s ≡ headWords ++ (fiveRates ∷ (rates ++ (n ∷ tasks)))
+  parts : s ≡ built headWords rates n tasks
   unfolding generated frontWords
   parts =
       append-assoc headWords (fiveRates ∷ (rates ++ (n ∷ []))) tasks ∙
       ap (λ (l : List ℕ). headWords ++ (fiveRates ∷ l)) (append-assoc rates (n ∷ []) tasks)
 
+  -- ---- the head and the rates
   pub slack-is : slack s ≡ 100
   slack-is = ap slack parts
 
   pub head-zero : (q : ℕ) → 0 < q → q < headSize Ordinary → word s q ≡ 0
   head-zero q some h =
-      let zeros : List ℕ = replicate (headSize Ordinary - 1) 0 in
       let k : suc (q - 1) ≡ q = omega arith in
-      ap (λ (l : List ℕ). word l q) parts ∙
-      List·getD-append headWords (fiveRates ∷ (rates ++ (n ∷ tasks))) 0 q (omega (arith, head-length)) ∙
+      ap (λ (l : List ℕ). word l q) parts ∙ laws.head-is Ordinary headWords rates n tasks head-length q h ∙
       ap (word headWords) (sym k) ∙ getD-replicate (headSize Ordinary - 1) (q - 1) 0 0 (omega arith)
 
-  behind : (q k : ℕ) → q ≡ headSize Ordinary + k → word s q ≡ word (fiveRates ∷ (rates ++ (n ∷ tasks))) k
-  behind q k e =
-      let there : q ≡ length headWords + k = omega (arith, head-length) in
-      ap (λ (l : List ℕ). word l q) parts ∙ ap (word (headWords ++ (fiveRates ∷ (rates ++ (n ∷ tasks))))) there ∙
-      getD-append-add headWords (fiveRates ∷ (rates ++ (n ∷ tasks))) k 0
-
   pub rates-is : rateCount Ordinary s ≡ fiveRates
-  rates-is = behind (headSize Ordinary) 0 (omega arith)
+  rates-is = ap (rateCount Ordinary) parts ∙ laws.rates-is Ordinary headWords rates n tasks head-length
 
   pub rate-is : (r : ℕ) → 1 ≤ r → r ≤ fiveRates → rate Ordinary s r ≡ rateOf r
   rate-is r a b =
-      let k : suc (r - 1) ≡ r = omega arith in
       let number : 1 + (r - 1) ≡ r = omega arith in
-      behind (ratePlace Ordinary r) r refl ∙ ap (word (fiveRates ∷ (rates ++ (n ∷ tasks)))) (sym k) ∙
-      List·getD-append rates (n ∷ tasks) 0 (r - 1) (omega arith) ∙ each-at rateOf 1 fiveRates (r - 1) (omega arith) 0 ∙ ap rateOf number
+      ap (λ (l : List ℕ). rate Ordinary l r) parts ∙ laws.rate-is Ordinary headWords rates n tasks head-length r a b ∙
+      each-at rateOf 1 fiveRates (r - 1) (omega arith) 0 ∙ ap rateOf number
 
   pub tasks-is : taskCount Ordinary s ≡ n
-  tasks-is = ap (λ (m : ℕ). word s (taskCountPlace Ordinary m)) rates-is ∙ behind (taskCountPlace Ordinary fiveRates) 6 (omega arith)
+  tasks-is = ap (taskCount Ordinary) parts ∙ laws.tasks-is Ordinary headWords rates n tasks head-length
 
   -- ---- the tasks
-  in-tasks : (k : ℕ) → word (fiveRates ∷ (rates ++ (n ∷ tasks))) (7 + k) ≡ word tasks k
-  in-tasks k = getD-append-add (fiveRates ∷ (rates ++ (n ∷ []))) tasks k 0
-
   module _ (t : ℕ) (h : t < n) where
     -- Word k of the task at t.
     pub task-word : (k : ℕ) → k < taskSize Ordinary fiveRates
         → word s (periodPlace Ordinary (rateCount Ordinary s) t + k) ≡ word (taskWords seed t) k
     task-word k l =
-        ap (λ (m : ℕ). word s (periodPlace Ordinary m t + k)) rates-is ∙
-        behind (periodPlace Ordinary fiveRates t + k) (7 + (t * taskSize Ordinary fiveRates + k)) (omega arith) ∙
-        in-tasks (t * taskSize Ordinary fiveRates + k) ∙
-        joined-at (taskWords seed) (taskSize Ordinary fiveRates) (task-size seed) 0 n t k h l ∙
-        ap (λ (j : ℕ). word (taskWords seed j) k) (zero-add t)
+        let size : ℕ = taskSize Ordinary fiveRates in
+        ap (λ (l : List ℕ). word l (periodPlace Ordinary (rateCount Ordinary l) t + k)) parts ∙
+        laws.task-word-is Ordinary headWords rates n tasks head-length t k ∙
+        joined-at (taskWords seed) size (each (λ j. j) 0 n) (each-all (λ j. j) (λ j. length (taskWords seed j) ≡ size) 0 n (λ j a b. task-size seed j))
+        t k 0 (omega (arith, each-length (λ (j : ℕ). j) 0 n)) l ∙
+        ap (λ (j : ℕ). word (taskWords seed j) k) (each-at (λ j. j) 0 n t h 0 ∙ zero-add t)
 
     pub period-is : period Ordinary s t ≡ drawnPeriod (draw seed (3 * t))
     period-is = ap (word s) (sym (add-zero (periodPlace Ordinary (rateCount Ordinary s) t))) ∙ task-word 0 (omega arith)

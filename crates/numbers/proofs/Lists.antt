@@ -48,21 +48,23 @@ module _ {A : Type 0} (g : A → List ℕ) where
   pub joined-one : (xs : List A) (a : A) → joined g (xs ++ (a ∷ [])) ≡ joined g xs ++ g a
   joined-one xs a = joined-append xs (a ∷ []) ∙ ap (λ (l : List ℕ). joined g xs ++ l) (append-nil (g a))
 
--- Lists of one size, joined: item k of the one that t gives, of those from number i on.
-pub joined-at : (g : ℕ → List ℕ) (size : ℕ) → ((j : ℕ) → length (g j) ≡ size) → (i n t k : ℕ) → t < n → k < size
-    → getD (joined g (each (λ j. j) i n)) (t * size + k) 0 ≡ getD (g (i + t)) k 0
-joined-at g size sized i zero t k h l = absurd (omega arith)
-joined-at g size sized i (suc n) zero k h l =
-    let rest : List ℕ = joined g (each (λ j. j) (suc i) n) in
+-- What holds of each item of a list holds of the one at t.
+pub all-at : {A : Type 0} (P : A → Type 0) (xs : List A) → All P xs → (t : ℕ) (d : A) → t < length xs → P (getD xs t d)
+all-at P [] all t d h = absurd (omega arith)
+all-at P (x ∷ xs) all zero d h = all .0
+all-at P (x ∷ xs) all (suc t) d h = all-at P xs (all .1) t d (omega arith)
+
+-- Items that give lists of one size, joined: number k of the one at t.
+pub joined-at : {A : Type 0} (g : A → List ℕ) (size : ℕ) (xs : List A) → All (λ a. length (g a) ≡ size) xs
+    → (t k : ℕ) (d : A) → t < length xs → k < size → getD (joined g xs) (t * size + k) 0 ≡ getD (g (getD xs t d)) k 0
+joined-at g size [] sized t k d h l = absurd (omega arith)
+joined-at g size (x ∷ xs) sized zero k d h l =
     let here : 0 * size + k ≡ k = omega arith in
-    ap (λ (p : ℕ). getD (g i ++ rest) p 0) here ∙ List·getD-append (g i) rest 0 k (omega (arith, sized i)) ∙
-    ap (λ (j : ℕ). getD (g j) k 0) (sym (add-zero i))
-joined-at g size sized i (suc n) (suc t) k h l =
-    let rest : List ℕ = joined g (each (λ j. j) (suc i) n) in
-    let there : suc t * size + k ≡ length (g i) + (t * size + k) = omega (arith, sized i, suc-mul t size) in
-    let one : suc i + t ≡ i + suc t = omega arith in
-    ap (λ (p : ℕ). getD (g i ++ rest) p 0) there ∙ getD-append-add (g i) rest (t * size + k) 0 ∙
-    joined-at g size sized (suc i) n t k (omega arith) l ∙ ap (λ (j : ℕ). getD (g j) k 0) one
+    ap (λ (p : ℕ). getD (g x ++ joined g xs) p 0) here ∙ List·getD-append (g x) (joined g xs) 0 k (omega (arith, sized .0))
+joined-at g size (x ∷ xs) sized (suc t) k d h l =
+    let there : suc t * size + k ≡ length (g x) + (t * size + k) = omega (arith, sized .0, suc-mul t size) in
+    ap (λ (p : ℕ). getD (g x ++ joined g xs) p 0) there ∙ getD-append-add (g x) (joined g xs) (t * size + k) 0 ∙
+    joined-at g size xs (sized .1) t k d (omega arith) l
 
 -- A test that passes over a whole list, as one computes it, passes at each item.
 abbrev pub every : (ℕ → Bool) → List ℕ → Bool

@@ -17,7 +17,7 @@ ceil-least a b q h c = omega (arith, div-lt-iff-lt-mul {k = b} {x = a + (b - 1)}
 pub ceil-over : (a b : ℕ) → 0 < b → b * ceil a b ≤ a + (b - 1)
 ceil-over a b h = omega (arith, div-mul-le-self (a + (b - 1)) b)
 
--- A job takes no more ticks than it has cycles.
+-- The result is at most what is divided.
 pub ceil-small : (a b : ℕ) → 0 < b → ceil a b ≤ a
 ceil-small a b h = ceil-least a b a h (omega (arith, mul-le-mul-right a h))
 

@@ -17,7 +17,7 @@ use Rattle.text.specs.Calls.{WorksOut, HasOver}
 use Rattle.text.proofs.Sizes.{rates-few, words-size}
 use Rattle.text.proofs.Copies.{NoneOver}
 use Rattle.forms.specs.Forms.{clockOf, saidOf}
-use Rattle.reader.specs.Over.{OverIn, Holds, WorkedOut, FirstNumber, OverTask}
+use Rattle.reader.specs.Over.{OverIn, Holds, NamesChip, FirstNumber, OverTask}
 
 -- ---- places
 -- The energies of a task that the list has the words of.
@@ -86,11 +86,11 @@ front-word ws d e q is h = ap (λ (l : List ℕ). word l q) is ∙ List·getD-ap
 
 -- ---- of the script
 -- Energies are worked out of a script's clock just where the code's says so.
-works : (k : Clock) → WorkedOut (clockOf k) → WorksOut k
+works : (k : Clock) → NamesChip (clockOf k) → WorksOut k
 works (rates fs) w = w
 works (chip c) w = tt
 
-worked : (k : Clock) → WorksOut k → WorkedOut (clockOf k)
+worked : (k : Clock) → WorksOut k → NamesChip (clockOf k)
 worked (rates fs) w = w
 worked (chip c) w = tt
 

@@ -25,9 +25,9 @@ pub record Holds (d : List ℕ) (m n : ℕ) : Type 0 where
   pub room : periodPlace Ordinary m n ≤ length d
 
 -- Energies are worked out under a chip alone.
-abbrev pub WorkedOut : Clock → Type 0
-WorkedOut (Rates m) = ⊥
-WorkedOut (Named c) = Unit {0}
+abbrev pub NamesChip : Clock → Type 0
+NamesChip (Rates m) = ⊥
+NamesChip (Named c) = Unit {0}
 
 -- k is the number, from 1, of the first of n tasks of which P holds; 0 where it holds of none.
 pub record FirstNumber (P : ℕ → Type 0) (n k : ℕ) : Type 0 where
@@ -37,4 +37,4 @@ pub record FirstNumber (P : ℕ → Type 0) (n k : ℕ) : Type 0 where
   pub before : 1 ≤ k → (t : ℕ) → t < k - 1 → P t → ⊥
 
 abbrev pub OverTask : List ℕ → Said → ℕ → Type 0
-OverTask d v = FirstNumber (λ t. WorkedOut (v .clock) × OverIn d (v .rates) t) (v .tasks)
+OverTask d v = FirstNumber (λ t. NamesChip (v .clock) × OverIn d (v .rates) t) (v .tasks)

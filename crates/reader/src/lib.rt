@@ -78,7 +78,8 @@ fn over_task(set: &[u32], said: Said) -> usize
     }
 }
 
-// Reads a text and writes its words to the front of the list lent.
+// Reads a text and writes its words to the front of the list lent. What the checks ask for is worked out before them, so
+// that they stand one after the other: 1, 9, 6.
 pub fn read(text: &[u8], words: &mut [u32]) -> CopyAnswer
     ensures { λ a. ⌜ ReaderGives (now (text .entry)) (now (words .entry)) (now (words .exit)) a ⌝ }
 {

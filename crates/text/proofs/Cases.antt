@@ -20,13 +20,13 @@ use Rattle.chips.specs.Chips.{megahertz, milliwatts, chipRates, chipEnergies}
 use Rattle.chips.specs.declared.Chip.{Chip}
 use Rattle.chips.specs.declared.Chip.the-variants.{Xscale, Ppc405lp}
 use Rattle.taskset.specs.Refusals.{Accepts, Refuses}
-use Rattle.text.specs.Text.{chip, Script, bytes, digits, decimal, scriptText, TaskLineOk, ScriptOk, IsTextOf}
+use Rattle.taskset.proofs.Cases.{chip-set}
+use Rattle.text.specs.Text.{rates, chip, Script, bytes, digits, decimal, scriptText, TaskLineOk, ScriptOk, IsTextOf}
 use Rattle.text.specs.Text.{WellFormed, FirstBad, ratesOf, words, scriptOf}
-use Rattle.text.specs.Calls.{HasOver, readerChecks}
+use Rattle.text.specs.Calls.{WorksOut, HasOver, readerChecks}
 use Rattle.text.proofs.Reading.{literal, more, number, many, readText}
 use Rattle.text.proofs.Pieces.{no-first-bad}
-use Rattle.text.proofs.Copies.{NoneOver, takes}
-use Rattle.text.proofs.Theorems.{accepts-well-formed, refuses-first-bad}
+use Rattle.text.proofs.Copies.{is-read, is-refused, NoneOver, takes}
 
 -- Document 01's input of the program is the text of "the set list S", and says the words of S.
 abbrev S : List ℕ
@@ -37,7 +37,7 @@ example = bytes "(slack 100)\n(rates 2 4 8)\n(task (period 10) (cycles 12) (ener
 
 pub example-text : IsTextOf (scriptOf S) example
 unfolding example readText number more literal many scriptOf headKinds extraKinds
-example-text = accepts-well-formed (scriptOf S) example .0 refl
+example-text = is-read (scriptOf S) example (length example) refl .0
 
 pub example-words : words (scriptOf S) ≡ S
 unfolding words scriptOf headKinds extraKinds
@@ -55,11 +55,6 @@ xscaleWords =
 unfoldable pub ppc405lp : List ℕ
 ppc405lp = bytes "(slack 500)\n(chip ppc405lp)\n(task (period 40) (cycles 1000000))\n(task (period 20) (cycles 500000))\n"
 
-abbrev pub ppc405lpWords : List ℕ
-ppc405lpWords =
-    500 ∷ 4 ∷ 33000 ∷ 100000 ∷ 266000 ∷ 333000 ∷ 2 ∷ 40 ∷ 1000000 ∷ 589 ∷ 720 ∷ 2400 ∷ 3000 ∷ 20 ∷ 500000 ∷ 304 ∷ 360 ∷ 1200 ∷
-    1500 ∷ []
-
 -- A script of two tasks under a chip.
 abbrev pub underChip : ℕ → Chip → ℕ → ℕ → ℕ → ℕ → Script
 underChip g c p₁ c₁ p₂ c₂ = record {
@@ -72,68 +67,54 @@ pub record Chips : Type 0 where
   pub xscale-text : IsTextOf (underChip 100 Xscale 10 1500000 20 3000000) xscale
   pub xscale-words : words (underChip 100 Xscale 10 1500000 20 3000000) ≡ xscaleWords
   pub ppc405lp-text : IsTextOf (underChip 500 Ppc405lp 40 1000000 20 500000) ppc405lp
-  pub ppc405lp-words : words (underChip 500 Ppc405lp 40 1000000 20 500000) ≡ ppc405lpWords
+  pub ppc405lp-words : words (underChip 500 Ppc405lp 40 1000000 20 500000) ≡ chip-set
 
 pub chips : Chips
-unfolding xscale ppc405lp readText number more literal many words chipRates chipEnergies megahertz milliwatts
+unfolding xscale ppc405lp chip-set readText number more literal many words chipRates chipEnergies megahertz milliwatts
 chips = record {
-  xscale-text = accepts-well-formed (underChip 100 Xscale 10 1500000 20 3000000) xscale .0 refl;
+  xscale-text = is-read (underChip 100 Xscale 10 1500000 20 3000000) xscale (length xscale) refl .0;
   xscale-words = refl;
-  ppc405lp-text = accepts-well-formed (underChip 500 Ppc405lp 40 1000000 20 500000) ppc405lp .0 refl;
+  ppc405lp-text = is-read (underChip 500 Ppc405lp 40 1000000 20 500000) ppc405lp (length ppc405lp) refl .0;
   ppc405lp-words = refl;
 }
 
--- Refusal 9, either side of its edge: at 1,000 MHz 625,000,000 cycles take 625 ticks at 1,600 mW, which is 1,000,000
--- exactly; a cycle more is a tick more. The second task's number is given, whatever is lent; and a byte behind the last
--- line comes first.
+-- Refusal 9, either side of its edge. On the xscale 625,000,000 cycles take 625 ticks at 1,000 MHz and 1,600 mW, which is
+-- 1,000,000 exactly; on the ppc405lp 443,156,000 take 1,666 ticks at 266 MHz and 600 mW, 999,600, and at 333 MHz less. A
+-- cycle more is a tick more. The second task's number is given, whatever is lent; and a byte behind the last line comes
+-- first. Slack, period and cycles are not judged: 0, 0 and the largest number. An energy that stands in the text is not
+-- judged either.
 abbrev pub tooMuch : Script
 tooMuch = underChip 9 Xscale 7 625000000 7 625000001
 
 abbrev enough : Script
 enough = underChip 9 Xscale 7 625000000 7 625000000
 
+abbrev ppcMuch : Script
+ppcMuch = underChip 9 Ppc405lp 7 443156000 7 443156001
+
+abbrev ppcEnough : Script
+ppcEnough = underChip 9 Ppc405lp 7 443156000 7 443156000
+
+abbrev unjudged : Script
+unjudged = record { slack = 0; clock = chip Xscale; tasks = record { period = 0; cycles = 4294967295; energies = [] } ∷ [] }
+
+abbrev inText : Script
+inText = record {
+  slack = 9;
+  clock = rates (1 ∷ 2 ∷ []);
+  tasks = record { period = 7; cycles = 9; energies = 1000001 ∷ 1 ∷ [] } ∷ [];
+}
+
 pub record Overs : Type 0 where
   pub over : (lent : ℕ) → Refuses (readerChecks (scriptText tooMuch) lent) 9 2
   pub at-most : (lent : ℕ) → 22 ≤ lent → Accepts (readerChecks (scriptText enough) lent)
+  pub ppc405lp-over : (lent : ℕ) → Refuses (readerChecks (scriptText ppcMuch) lent) 9 2
+  pub ppc405lp-at-most : (lent : ℕ) → 19 ≤ lent → Accepts (readerChecks (scriptText ppcEnough) lent)
   pub left-over : (lent : ℕ) → Refuses (readerChecks (scriptText tooMuch ++ (10 ∷ [])) lent) 1 98
+  pub unranged : (lent : ℕ) → Refuses (readerChecks (scriptText unjudged) lent) 9 1
+  pub given : (lent : ℕ) → 9 ≤ lent → Accepts (readerChecks (scriptText inText) lent)
 
--- That a task has no energy over the largest is computed, rate by rate.
-abbrev AllWithin : Script → ℕ → Type 0
-AllWithin s k = every (λ r. leb (energy Ordinary (words s) (k - 1) r) mostEnergy)
-    (each (λ j. j) 1 (length (ratesOf (s .clock)))) ≡ true
-
-has-none : (s : Script) (k : ℕ) → AllWithin s k → HasOver s k → ⊥
-has-none s k all h =
-    let rs : List ℕ = each (λ j. j) 1 (length (ratesOf (s .clock))) in
-    let f : ℕ → ℕ = energy Ordinary (words s) (k - 1) in
-    let size = each-length (λ (j : ℕ). j) 1 (length (ratesOf (s .clock))) in
-    let here : getD rs (h .rate - 1) 0 ≡ h .rate =
-    each-at (λ j. j) 1 (length (ratesOf (s .clock))) (h .rate - 1) (omega (arith, h .rate-from, h .rate-to)) 0
-    ∙ omega (arith, h .rate-from) in
-    let e : leb (f (getD rs (h .rate - 1) 0)) mostEnergy ≡ true =
-    every-at (λ r. leb (f r) mostEnergy) rs all (h .rate - 1) 0 (omega (arith, size, h .rate-from, h .rate-to)) in
-    omega (arith, leb-true (f (h .rate)) mostEnergy (rw here at e), h .over)
-
-two-ok : (n : ℕ) → n < 2 ^ 32 → ScriptOk (underChip 9 Xscale 7 625000000 7 n)
-two-ok n h =
-    let line : (k : ℕ) → k < 2 ^ 32 → TaskLineOk 0 (record { period = 7; cycles = k; energies = [] }) = λ k l.
-    record { period = omega arith; cycles = l; energies = record { least = omega arith; most = omega arith; each = tt } } in
-    record {
-      slack = omega arith;
-      clock = tt;
-      tasks = record { least = omega arith; most = omega arith; each = (line 625000000 (omega arith), (line n h, tt)) };
-    }
-
-is-much : IsTextOf tooMuch (scriptText tooMuch)
-is-much = record { script = two-ok 625000001 (omega arith); text = refl }
-
-is-enough : IsTextOf enough (scriptText enough)
-is-enough = record { script = two-ok 625000000 (omega arith); text = refl }
-
-much-1 : AllWithin tooMuch 1
-unfolding words chipRates chipEnergies megahertz milliwatts headKinds extraKinds
-much-1 = refl
-
+-- Tasks with an energy over the largest.
 much-2 : HasOver tooMuch 2
 unfolding words chipRates chipEnergies megahertz milliwatts headKinds extraKinds IsLe
 much-2 = record {
@@ -141,18 +122,48 @@ much-2 = record {
   to = omega arith;
   rate = 5;
   rate-from = omega arith;
-  rate-to =
-      omega arith;
+  rate-to = omega arith;
   over = le-by-compare _ _ tt;
 }
 
-enough-words : length (words enough) ≡ 22
-unfolding words chipRates chipEnergies megahertz headKinds extraKinds
-enough-words = refl
+ppc-much-2 : HasOver ppcMuch 2
+unfolding words chipRates chipEnergies megahertz milliwatts headKinds extraKinds IsLe
+ppc-much-2 = record {
+  from = omega arith;
+  to = omega arith;
+  rate = 3;
+  rate-from = omega arith;
+  rate-to = omega arith;
+  over = le-by-compare _ _ tt;
+}
 
-left : FirstBad WellFormed (scriptText tooMuch ++ (10 ∷ [])) 98
-unfolding readText number more literal many decimal digits
-left = refuses-first-bad (scriptText tooMuch ++ (10 ∷ [])) 98 .0 refl
+unjudged-1 : HasOver unjudged 1
+unfolding words chipRates chipEnergies megahertz milliwatts headKinds extraKinds IsLe
+unjudged-1 = record {
+  from = omega arith;
+  to = omega arith;
+  rate = 1;
+  rate-from = omega arith;
+  rate-to = omega arith;
+  over = le-by-compare _ _ tt;
+}
+
+-- That a task has no energy over the largest is computed, rate by rate.
+abbrev AllWithin : Script → ℕ → Type 0
+AllWithin s k =
+    every (λ r. leb (energy Ordinary (words s) (k - 1) r) mostEnergy) (each (λ j. j) 1 (length (ratesOf (s .clock)))) ≡ true
+
+has-none : (s : Script) (k : ℕ) → AllWithin s k → HasOver s k → ⊥
+has-none s k all h =
+    let rs : List ℕ = each (λ j. j) 1 (length (ratesOf (s .clock))) in
+    let f : ℕ → ℕ = energy Ordinary (words s) (k - 1) in
+    let size = each-length (λ (j : ℕ). j) 1 (length (ratesOf (s .clock))) in
+    let low : h .rate - 1 < length (ratesOf (s .clock)) = omega (arith, h .rate-from, h .rate-to) in
+    let here : getD rs (h .rate - 1) 0 ≡ h .rate =
+    each-at (λ j. j) 1 (length (ratesOf (s .clock))) (h .rate - 1) low 0 ∙ omega (arith, h .rate-from) in
+    let e : leb (f (getD rs (h .rate - 1) 0)) mostEnergy ≡ true =
+    every-at (λ r. leb (f r) mostEnergy) rs all (h .rate - 1) 0 (omega (arith, size)) in
+    omega (arith, leb-true (f (h .rate)) mostEnergy (rw here at e), h .over)
 
 -- Of two tasks, none has an energy over the largest.
 two-within : (s : Script) → length (s .tasks) ≡ 2 → AllWithin s 1 → AllWithin s 2 → NoneOver s
@@ -166,30 +177,140 @@ enough-within : NoneOver enough
 unfolding words chipRates chipEnergies megahertz milliwatts headKinds extraKinds
 enough-within = two-within enough refl refl refl
 
+ppc-enough-within : NoneOver ppcEnough
+unfolding words chipRates chipEnergies megahertz milliwatts headKinds extraKinds
+ppc-enough-within = two-within ppcEnough refl refl refl
+
 pub ppc405lp-within : NoneOver (underChip 500 Ppc405lp 40 1000000 20 500000)
 unfolding words chipRates chipEnergies megahertz milliwatts headKinds extraKinds
 ppc405lp-within = two-within (underChip 500 Ppc405lp 40 1000000 20 500000) refl refl refl
 
+much-1 : AllWithin tooMuch 1
+unfolding words chipRates chipEnergies megahertz milliwatts headKinds extraKinds
+much-1 = refl
+
+ppc-much-1 : AllWithin ppcMuch 1
+unfolding words chipRates chipEnergies megahertz milliwatts headKinds extraKinds
+ppc-much-1 = refl
+
+in-text-unjudged : NoneOver inText
+in-text-unjudged w = absurd w
+
+-- These scripts have texts.
+two-ok : (c : Chip) (a b : ℕ) → a < 2 ^ 32 → b < 2 ^ 32 → ScriptOk (underChip 9 c 7 a 7 b)
+two-ok c a b h l =
+    let line : (k : ℕ) → k < 2 ^ 32 → TaskLineOk 0 (record { period = 7; cycles = k; energies = [] }) = λ k l.
+    record { period = omega arith; cycles = l; energies = record { least = omega arith; most = omega arith; each = tt } } in
+    record {
+      slack = omega arith;
+      clock = tt;
+      tasks = record { least = omega arith; most = omega arith; each = (line a h, (line b l, tt)) };
+    }
+
+text-of : (s : Script) → ScriptOk s → IsTextOf s (scriptText s)
+text-of s ok = record { script = ok; text = refl }
+
+is-much : IsTextOf tooMuch (scriptText tooMuch)
+is-much = text-of tooMuch (two-ok Xscale 625000000 625000001 (omega arith) (omega arith))
+
+is-ppc-much : IsTextOf ppcMuch (scriptText ppcMuch)
+is-ppc-much = text-of ppcMuch (two-ok Ppc405lp 443156000 443156001 (omega arith) (omega arith))
+
+is-unjudged : IsTextOf unjudged (scriptText unjudged)
+is-unjudged =
+    text-of unjudged
+    (record {
+      slack = omega arith;
+      clock = tt;
+      tasks = record {
+        least = omega arith;
+        most = omega arith;
+        each = (record { period = omega arith; cycles = omega arith; energies = record { least = omega arith; most = omega arith; each = tt } }, tt);
+      };
+    })
+
+is-in-text : IsTextOf inText (scriptText inText)
+is-in-text =
+    text-of inText
+    (record {
+      slack = omega arith;
+      clock = record { least = omega arith; most = omega arith; each = (omega arith, (omega arith, tt)) };
+      tasks = record {
+        least = omega arith;
+        most = omega arith;
+        each = (
+          record {
+            period = omega arith;
+            cycles = omega arith;
+            energies = record { least = omega arith; most = omega arith; each = (omega arith, (omega arith, tt)) };
+          },
+          tt,
+        );
+      };
+    })
+
+-- How many words they have.
+record Lengths : Type 0 where
+  xscale : length (words enough) ≡ 22
+  ppc405lp : length (words ppcEnough) ≡ 19
+  in-text : length (words inText) ≡ 9
+
+lengths : Lengths
+unfolding words chipRates chipEnergies megahertz headKinds extraKinds
+lengths = record { xscale = refl; ppc405lp = refl; in-text = refl }
+
+left : FirstBad WellFormed (scriptText tooMuch ++ (10 ∷ [])) 98
+unfolding readText number more literal many decimal digits
+left = is-refused (scriptText tooMuch ++ (10 ∷ [])) 98 refl
+
+-- The second of two tasks is the first with such an energy.
+second-over : (s : Script) → IsTextOf s (scriptText s) → WorksOut (s .clock) → AllWithin s 1 → HasOver s 2 → (lent : ℕ)
+    → Refuses (readerChecks (scriptText s) lent) 9 2
+second-over s is w one two lent =
+    inr (
+      (λ o. no-first-bad WellFormed (scriptText s) o (s, is)),
+      inl (
+        refl,
+        (
+          s,
+          is,
+          w,
+          record {
+            here = two;
+            before = λ j l h. let e : j ≡ 1 = omega (arith, h .from) in has-none s 1 one (subst (HasOver s) e h);
+          },
+        ),
+      ),
+    )
+
 pub overs : Overs
 overs = record {
-  over = λ lent.
+  over = second-over tooMuch is-much tt much-1 much-2;
+  at-most = λ lent room.
+      takes enough (scriptText enough) lent (text-of enough (two-ok Xscale 625000000 625000000 (omega arith) (omega arith))) enough-within
+      (omega (arith, room, lengths .xscale));
+  ppc405lp-over = second-over ppcMuch is-ppc-much tt ppc-much-1 ppc-much-2;
+  ppc405lp-at-most = λ lent room.
+      takes ppcEnough (scriptText ppcEnough) lent (text-of ppcEnough (two-ok Ppc405lp 443156000 443156000 (omega arith) (omega arith)))
+      ppc-enough-within (omega (arith, room, lengths .ppc405lp));
+  left-over = λ lent. inl (refl, left);
+  unranged = λ lent.
       inr (
-        (λ o. no-first-bad WellFormed (scriptText tooMuch) o (tooMuch, is-much)),
+        (λ o. no-first-bad WellFormed (scriptText unjudged) o (unjudged, is-unjudged)),
         inl (
           refl,
           (
-            tooMuch,
-            is-much,
+            unjudged,
+            is-unjudged,
             tt,
             record {
-              here = much-2;
-              before = λ j l h. let e : j ≡ 1 = omega (arith, h .from) in has-none tooMuch 1 much-1 (subst (HasOver tooMuch) e h);
+              here = unjudged-1;
+              before = λ j l h. omega (arith, h .from);
             },
           ),
         ),
       );
-  at-most = λ lent room. takes enough (scriptText enough) lent is-enough enough-within (omega (arith, room, enough-words));
-  left-over = λ lent. inl (refl, left);
+  given = λ lent room. takes inText (scriptText inText) lent is-in-text in-text-unjudged (omega (arith, room, lengths .in-text));
 }
 
 -- Two rates, and n tasks all alike.
@@ -223,19 +344,19 @@ pub record Departures : Type 0 where
 pub departures : Departures
 unfolding alike readText number more literal many
 departures = record {
-  ninth-rate = refuses-first-bad _ 32 .0 refl;
-  task-33 = refuses-first-bad _ 1366 .0 refl;
-  largest-passed = refuses-first-bad _ 16 .0 refl;
-  empty = refuses-first-bad [] 0 .0 refl;
-  leading-zero = refuses-first-bad _ 8 .0 refl;
-  after-largest = refuses-first-bad _ 17 .0 refl;
-  no-task = refuses-first-bad _ 22 .0 refl;
-  unknown-name = refuses-first-bad _ 17 .0 refl;
-  other-name = refuses-first-bad _ 16 .0 refl;
-  name-cut = refuses-first-bad _ 22 .0 refl;
-  energies-under-chip = refuses-first-bad _ 51 .0 refl;
-  no-energies = refuses-first-bad _ 49 .0 refl;
-  chip-then-rates = refuses-first-bad _ 25 .0 refl;
-  rates-then-chip = refuses-first-bad _ 23 .0 refl;
-  two-chips = refuses-first-bad _ 25 .0 refl;
+  ninth-rate = is-refused _ 32 refl;
+  task-33 = is-refused _ 1366 refl;
+  largest-passed = is-refused _ 16 refl;
+  empty = is-refused [] 0 refl;
+  leading-zero = is-refused _ 8 refl;
+  after-largest = is-refused _ 17 refl;
+  no-task = is-refused _ 22 refl;
+  unknown-name = is-refused _ 17 refl;
+  other-name = is-refused _ 16 refl;
+  name-cut = is-refused _ 22 refl;
+  energies-under-chip = is-refused _ 51 refl;
+  no-energies = is-refused _ 49 refl;
+  chip-then-rates = is-refused _ 25 refl;
+  rates-then-chip = is-refused _ 23 refl;
+  two-chips = is-refused _ 25 refl;
 }

@@ -1,56 +1,36 @@
 -- The list of a script that names a chip: what stands where in it, and which checks it passes.
 -- Assumes nothing.
-use Prim.Native.Nat.{ℕ, zero, suc, _+_, _-_, _*_, _≤_, _<_}
+use Prim.Native.Nat.{ℕ, zero, suc, _+_, _-_, _≤_, _<_}
 use mathlib.Core.Path.{_≡_, refl, sym, ap, _∙_, subst}
-use mathlib.Core.List.{List, [], _∷_, _++_, append-assoc}
+use mathlib.Core.List.{List, [], _∷_}
 use mathlib.Core.Bool.{true}
 use mathlib.Core.Logic.{⊎-elim}
-use native.Mathlib.Nat.{add-zero, suc-mul}
+use native.Mathlib.Nat.{add-zero}
 use native.Mathlib.Decide.{decLe, decLt}
 use native.Mathlib.Omega.{arith}
-use lib.ListN.{length, getD, length-append, List·getD-append}
+use lib.ListN.{length, getD}
 use lib.Seq.{getD-append-add}
 use Rattle.numbers.specs.Numbers.{All, joined}
-use Rattle.numbers.proofs.Lists.{each-at}
+use Rattle.numbers.proofs.Lists.{each-at, all-at, joined-at}
 use Rattle.numbers.proofs.Search.{no-lowest}
 use Rattle.numbers.proofs.Tests.{lt-or-le, true-between}
 use Rattle.layout.specs.Words.{headKinds, extraKinds, headSize, extraSize, headKind, kindIn, allows, longestPeriod}
-use Rattle.layout.specs.Words.{mostEnergy, word, slack, rateCount, taskCount, ratePlace, taskCountPlace, tasksPlace}
-use Rattle.layout.specs.Words.{taskSize, periodPlace, wordCount, rate, period, cycles, energy}
+use Rattle.layout.specs.Words.{mostEnergy, word, slack, rateCount, taskCount}
+use Rattle.layout.specs.Words.{taskSize, periodPlace, rate, period, cycles, energy}
 use Rattle.layout.specs.declared.Layout.the-variants.{Ordinary}
 use Rattle.layout.proofs.Whole.{IsWhole}
+use Rattle.layout.proofs.Built.{built}
+use Rattle.layout.proofs.Built as laws
 use Rattle.chips.specs.Chips.{chipCount, chipRate, chipEnergy, chipRates, chipEnergies}
 use Rattle.chips.specs.declared.Chip.{Chip}
-use Rattle.chips.proofs.Tables.{count-range, rates-length, energies-length, rate-range, rates-rise, energy-positive}
+use Rattle.chips.proofs.Tables.{count-range, rates-length, rate-range, rates-rise, energy-positive}
 use Rattle.taskset.specs.Refusals.{Passes, Accepts, wordChecks}
 use Rattle.taskset.proofs.Sets.{words-pass}
-use Rattle.text.specs.Text.{TaskLine, Clock, chip, Script, energyCount, TaskLineOk, ScriptOk, IsTextOf, ratesOf}
+use Rattle.text.specs.Text.{TaskLine, chip, Script, energyCount, TaskLineOk, ScriptOk, IsTextOf, ratesOf}
 use Rattle.text.specs.Text.{headWords, extraWords, taskWords, words}
 use Rattle.text.specs.Calls.{HasOver, energyCheck}
 use Rattle.text.proofs.Sizes.{task-size, words-size}
 use Rattle.text.proofs.Copies.{NoneOver}
-
--- ---- items of one size, joined: what stands at each place, and what holds of the item there
-item-at : {A : Type 0} (P : A → Type 0) (g : A → List ℕ) (size : ℕ) → ((a : A) → P a → length (g a) ≡ size)
-    → (xs : List A) → All P xs → (t : ℕ) → t < length xs
-    → (a : A) × P a × ((k : ℕ) → k < size → getD (joined g xs) (t * size + k) 0 ≡ getD (g a) k 0)
-item-at P g size sized [] all t h = absurd (omega arith)
-item-at P g size sized (x ∷ xs) all zero h = (
-  x,
-  all .0,
-  λ k l.
-      let here : 0 * size + k ≡ k = omega arith in
-      ap (λ (p : ℕ). getD (g x ++ joined g xs) p 0) here ∙ List·getD-append (g x) (joined g xs) 0 k
-      (omega (arith, sized x (all .0))),
-)
-item-at P g size sized (x ∷ xs) all (suc t) h =
-    let r = item-at P g size sized xs (all .1) t (omega arith) in (
-      r .0,
-      r .1,
-      λ k l.
-          let there : suc t * size + k ≡ length (g x) + (t * size + k) = omega (arith, sized x (all .0), suc-mul t size) in
-          ap (λ (p : ℕ). getD (g x ++ joined g xs) p 0) there ∙ getD-append-add (g x) (joined g xs) (t * size + k) 0 ∙ r .2 k l,
-    )
 
 -- What a customer's own numbers are to be.
 pub record LineIn (l : TaskLine) : Type 0 where
@@ -76,75 +56,58 @@ module _ (c : Chip) (g : ℕ) (ts : List TaskLine) (ok : ScriptOk (record { slac
   abbrev tasks : List ℕ
   tasks = joined (taskWords (chip c)) ts
 
-  abbrev rest : List ℕ
-  rest = m ∷ (chipRates c ++ (length ts ∷ tasks))
-
-  parts : words s ≡ headWords s ++ rest
+  parts : words s ≡ built (headWords s) (chipRates c) (length ts) tasks
   unfolding words
   parts = refl
 
-  behind : (q k : ℕ) → q ≡ headSize Ordinary + k → word (words s) q ≡ word rest k
-  behind q k e =
-      let there : q ≡ length (headWords s) + k = omega (arith, head-length s) in
-      ap (λ (l : List ℕ). word l q) parts ∙ ap (word (headWords s ++ rest)) there ∙ getD-append-add (headWords s) rest k 0
-
   rates-is : rateCount Ordinary (words s) ≡ m
-  rates-is = behind (headSize Ordinary) 0 (omega arith)
+  rates-is = ap (rateCount Ordinary) parts ∙ laws.rates-is Ordinary (headWords s) (chipRates c) (length ts) tasks (head-length s)
 
   rate-is : (r : ℕ) → 1 ≤ r → r ≤ m → rate Ordinary (words s) r ≡ chipRate c r
   unfolding chipRates
   rate-is r a b =
-      let k : suc (r - 1) ≡ r = omega arith in
       let number : 1 + (r - 1) ≡ r = omega arith in
-      behind (ratePlace Ordinary r) r refl ∙ ap (word rest) (sym k) ∙
-      List·getD-append (chipRates c) (length ts ∷ tasks) 0 (r - 1) (omega arith) ∙
+      ap (λ (l : List ℕ). rate Ordinary l r) parts ∙
+      laws.rate-is Ordinary (headWords s) (chipRates c) (length ts) tasks (head-length s) r a b ∙
       each-at (chipRate c) 1 (chipCount c) (r - 1) (omega (arith, rates-length c)) 0 ∙ ap (chipRate c) number
 
-  -- Behind the rates.
-  behind-rates : (k : ℕ) → word rest (suc m + k) ≡ word (length ts ∷ tasks) k
-  behind-rates k = getD-append-add (m ∷ chipRates c) (length ts ∷ tasks) k 0
-
   tasks-is : taskCount Ordinary (words s) ≡ length ts
-  tasks-is =
-      ap (λ (k : ℕ). word (words s) (taskCountPlace Ordinary k)) rates-is ∙
-      behind (taskCountPlace Ordinary m) (suc m + 0) (omega arith) ∙ behind-rates 0
+  tasks-is = ap (taskCount Ordinary) parts ∙ laws.tasks-is Ordinary (headWords s) (chipRates c) (length ts) tasks (head-length s)
 
-  -- Word k of the task at t is that of its line.
-  module _ (P : TaskLine → Type 0) (held : All (λ l. TaskLineOk (energyCount (chip c)) l × P l) ts) (t : ℕ)
-      (h : t < length ts) where
-    found : (l : TaskLine) × (TaskLineOk (energyCount (chip c)) l × P l) ×
-        ((k : ℕ) → k < taskSize Ordinary m → getD tasks (t * taskSize Ordinary m + k) 0 ≡ getD (taskWords (chip c) l) k 0)
-    found = item-at (λ l. TaskLineOk (energyCount (chip c)) l × P l) (taskWords (chip c)) (taskSize Ordinary m)
-        (λ l d. task-size (chip c) l (d .0)) ts held t h
+  sized : (ls : List TaskLine) → All (TaskLineOk (energyCount (chip c))) ls → All (λ l. length (taskWords (chip c) l) ≡ taskSize Ordinary m) ls
+  sized [] a = tt
+  sized (l ∷ ls) a = (task-size (chip c) l (a .0), sized ls (a .1))
 
-    abbrev line : TaskLine
-    line = found .0
+  -- The line of the task at t; word k of the task is that of its line.
+  abbrev line : ℕ → TaskLine
+  line t = getD ts t (record { period = 0; cycles = 0; energies = [] })
 
-    task-word : (k : ℕ) → k < taskSize Ordinary m → word (words s)
-        (periodPlace Ordinary (rateCount Ordinary (words s)) t + k) ≡ word (taskWords (chip c) line) k
+  module _ (t : ℕ) (h : t < length ts) where
+    task-word : (k : ℕ) → k < taskSize Ordinary m
+        → word (words s) (periodPlace Ordinary (rateCount Ordinary (words s)) t + k) ≡ word (taskWords (chip c) (line t)) k
     task-word k l =
-        ap (λ (j : ℕ). word (words s) (periodPlace Ordinary j t + k)) rates-is ∙
-        behind (periodPlace Ordinary m t + k) (suc m + suc (t * taskSize Ordinary m + k)) (omega arith) ∙
-        behind-rates (suc (t * taskSize Ordinary m + k)) ∙ found .2 k l
+        ap (λ (l : List ℕ). word l (periodPlace Ordinary (rateCount Ordinary l) t + k)) parts ∙
+        laws.task-word-is Ordinary (headWords s) (chipRates c) (length ts) tasks (head-length s) t k ∙
+        joined-at (taskWords (chip c)) (taskSize Ordinary m) ts (sized ts (ok .tasks .each)) t k _ h l
 
-    period-is : period Ordinary (words s) t ≡ line .period
+    period-is : period Ordinary (words s) t ≡ line t .period
     period-is = ap (word (words s)) (sym (add-zero (periodPlace Ordinary (rateCount Ordinary (words s)) t)))
         ∙ task-word 0 (omega arith)
 
-    cycles-is : cycles Ordinary (words s) t ≡ line .cycles
+    cycles-is : cycles Ordinary (words s) t ≡ line t .cycles
     cycles-is = task-word 1 (omega arith)
 
-    energy-is : (r : ℕ) → 1 ≤ r → r ≤ m → energy Ordinary (words s) t r ≡ chipEnergy c (line .cycles) r
+    energy-is : (r : ℕ) → 1 ≤ r → r ≤ m → energy Ordinary (words s) t r ≡ chipEnergy c (line t .cycles) r
     unfolding chipEnergies
     energy-is r a b =
         let number : 1 + (r - 1) ≡ r = omega arith in
-        let extra : List ℕ = line .period ∷ line .cycles ∷ extraWords line in
-        let size : length extra ≡ taskSize Ordinary 0 = extra-length line in
+        let extra : List ℕ = line t .period ∷ line t .cycles ∷ extraWords (line t) in
+        let size : length extra ≡ taskSize Ordinary 0 = extra-length (line t) in
         let place : 1 + extraSize Ordinary + r ≡ length extra + (r - 1) = omega arith in
-        task-word (1 + extraSize Ordinary + r) (omega arith) ∙ ap (word (taskWords (chip c) line)) place ∙
-        getD-append-add extra (chipEnergies c (line .cycles)) (r - 1) 0 ∙
-        each-at (chipEnergy c (line .cycles)) 1 (chipCount c) (r - 1) (omega (arith, rates-length c)) 0
-        ∙ ap (chipEnergy c (line .cycles)) number
+        task-word (1 + extraSize Ordinary + r) (omega arith) ∙ ap (word (taskWords (chip c) (line t))) place ∙
+        getD-append-add extra (chipEnergies c (line t .cycles)) (r - 1) 0 ∙
+        each-at (chipEnergy c (line t .cycles)) 1 (chipCount c) (r - 1) (omega (arith, rates-length c)) 0
+        ∙ ap (chipEnergy c (line t .cycles)) number
 
 -- ---- which checks it passes
 -- Whether a task has an energy over the largest can be told, so where no first task has one none has.
@@ -184,10 +147,6 @@ has-over s k = go (decLe 1 k) (decLe k (length (s .tasks)))
 pub passes-over : (s : Script) (t : List ℕ) → IsTextOf s t → Passes (energyCheck t) → NoneOver s
 passes-over s t is pass w = no-lowest (HasOver s) (has-over s) (λ k l. pass k (s, is, w, l))
 
-both : {A : Type 0} (P Q : A → Type 0) (xs : List A) → All P xs → All Q xs → All (λ x. P x × Q x) xs
-both P Q [] p q = tt
-both P Q (x ∷ xs) p q = ((p .0, q .0), both P Q xs (p .1) (q .1))
-
 -- Where its slack, its periods and its cycles are in their ranges, and no energy is over the largest, a chip's list
 -- passes checks 2 and 3.
 module _ (c : Chip) (g : ℕ) (ts : List TaskLine) (ok : ScriptOk (record { slack = g; clock = chip c; tasks = ts }))
@@ -196,8 +155,8 @@ module _ (c : Chip) (g : ℕ) (ts : List TaskLine) (ok : ScriptOk (record { slac
   abbrev list : List ℕ
   list = words (record { slack = g; clock = chip c; tasks = ts })
 
-  held : All (λ l. TaskLineOk (energyCount (chip c)) l × LineIn l) ts
-  held = both (TaskLineOk (energyCount (chip c))) LineIn ts (ok .tasks .each) lines-in
+  line-in : (t : ℕ) → t < length ts → LineIn (line c g ts ok t)
+  line-in t h = all-at LineIn ts lines-in t _ h
 
   task : (t : ℕ) → t < taskCount Ordinary list → t < length ts
   task t h = omega (arith, tasks-is c g ts ok)
@@ -218,9 +177,9 @@ module _ (c : Chip) (g : ℕ) (ts : List TaskLine) (ok : ScriptOk (record { slac
   energy-in : (t r : ℕ) → t < taskCount Ordinary list → 1 ≤ r → r ≤ rateCount Ordinary list
       → (1 ≤ energy Ordinary list t r) × (energy Ordinary list t r ≤ 1000000)
   energy-in t r h a b =
-      let l = found c g ts ok LineIn held t (task t h) in
-      let e = energy-is c g ts ok LineIn held t (task t h) r a (few r b) in (
-        omega (arith, energy-positive c (l .0 .cycles) r (l .1 .1 .cycles .0) a (omega (arith, few r b, rates-length c))),
+      let l = line-in t (task t h) in
+      let e = energy-is c g ts ok t (task t h) r a (few r b) in (
+        omega (arith, energy-positive c (line c g ts ok t .cycles) r (l .cycles .0) a (omega (arith, few r b, rates-length c))),
         ⊎-elim
             (λ (over : mostEnergy < energy Ordinary list t r).
             let back : suc t - 1 ≡ t = omega arith in
@@ -252,12 +211,12 @@ module _ (c : Chip) (g : ℕ) (ts : List TaskLine) (ok : ScriptOk (record { slac
             let k = rate-range c r a (omega (arith, few r b, rates-length c)) in
             (omega arith, omega arith);
         period-range = λ t h.
-            let l = found c g ts ok LineIn held t (task t h) .1 .1 .period in
-            let e = period-is c g ts ok LineIn held t (task t h) in
+            let l = line-in t (task t h) .period in
+            let e = period-is c g ts ok t (task t h) in
             (omega arith, omega arith);
         cycles-range = λ t h.
-            let l = found c g ts ok LineIn held t (task t h) .1 .1 .cycles in
-            let e = cycles-is c g ts ok LineIn held t (task t h) in
+            let l = line-in t (task t h) .cycles in
+            let e = cycles-is c g ts ok t (task t h) in
             (omega arith, omega arith);
         extra-word = extra-in;
         energy-range = energy-in;

@@ -9,6 +9,7 @@ pub mod Grammar
 pub mod Sizes
 pub mod RoundTrip
 pub mod Copies
+pub mod Cases
+pub mod Written
 pub mod Expanded
 pub mod Theorems
-pub mod Cases

@@ -14,11 +14,10 @@ use Rattle.numbers.specs.Numbers.{All, joined}
 use Rattle.layout.specs.Words.{headKinds, extraKinds, mostRates, mostTasks, mostWords, taskSize, periodPlace}
 use Rattle.layout.specs.declared.Layout.the-variants.{Ordinary}
 use Rattle.layout.proofs.Layouts.{words-few}
-use Rattle.chips.specs.declared.Chip.{Chip}
 use Rattle.chips.specs.declared.Chip.the-variants.{Xscale, Ppc405lp}
 use Rattle.chips.proofs.Tables.{count-range, rates-length, energies-length as energies-length-of}
-use Rattle.text.specs.Text.{TaskLine, Clock, rates, chip, Script, bytes, digits, decimal, spaced, energyText}
-use Rattle.text.specs.Text.{taskText, chipName, clockText, scriptText}
+use Rattle.text.specs.Text.{TaskLine, Clock, rates, chip, Script, digits, decimal, spaced, energyText}
+use Rattle.text.specs.Text.{taskText, clockText, scriptText}
 use Rattle.text.proofs.Grammar.{energy-form}
 use Rattle.text.specs.Text.{ratesOf, energiesOf, taskWords, words, Word, ClockOk, energyCount, TaskLineOk}
 use Rattle.text.specs.Text.{ScriptOk, IsTextOf}

@@ -4,17 +4,18 @@ use Prim.Native.Nat.{ℕ, _^_, _≤_, _<_}
 use mathlib.Core.Path.{_≡_, refl, sym, _∙_}
 use mathlib.Core.List.{List, _++_}
 use mathlib.Core.Logic.{_↔_, _⊎_, inl, inr}
+use native.Mathlib.Omega.{arith}
 use lib.ListN.{length, take, drop}
 use Rattle.numbers.specs.Numbers.{All}
 use Rattle.layout.specs.declared.Layout.the-variants.{Ordinary}
 use Rattle.chips.specs.declared.Chip.{Chip}
-use Rattle.taskset.specs.Refusals.{Passes, Accepts, wordCheck, wordChecks}
-use Rattle.taskset.proofs.Checks.{passed}
+use Rattle.taskset.specs.Refusals.{Passes, Accepts, wordCheck, wordChecks, roomCheck}
+use Rattle.taskset.proofs.Checks.{accepts-next, passed}
 use Rattle.taskset.specs.declared.CopyAnswer.{CopyAnswer}
 use Rattle.taskset.specs.declared.CopyAnswer.the-variants.{Wrote}
 use Rattle.taskset.proofs.Copied.{SameCopied}
 use Rattle.text.specs.Text.{TaskLine, chip, Script, decimal, scriptText, IsTextOf, WellFormed, FirstBad, words, scriptOf}
-use Rattle.text.specs.Calls.{readerChecks, ReaderGives, WriterGives}
+use Rattle.text.specs.Calls.{readerChecks, ReaderGives, writerChecks, WriterGives}
 use Rattle.text.proofs.Reading.{Res, got, bad, readText}
 use Rattle.text.proofs.Numerals as numerals
 use Rattle.text.proofs.Numerals.{said}
@@ -22,7 +23,8 @@ use Rattle.text.proofs.Pieces.{first-bad-one, no-first-bad}
 use Rattle.text.proofs.Grammar.{Answer, read-render, read-right}
 use Rattle.text.proofs.Sizes.{text-length}
 use Rattle.text.proofs.Copies.{reads, is-read, is-refused, refuses, one-script, list-text, list-words}
-use Rattle.text.proofs.Copies.{reader-unique, writer-unique, read-back, read-again}
+use Rattle.text.proofs.Copies.{reader-unique, writer-unique}
+use Rattle.text.proofs.Written.{read-back, read-again}
 use Rattle.text.proofs.Expanded.{LineIn, passes-over, list-passes}
 
 -- ---- numbers
@@ -110,3 +112,13 @@ pub chip-passes : (c : Chip) (g : ℕ) (ts : List TaskLine) (t d d′ : List ℕ
 chip-passes c g ts t d d′ n is gives slack-in lines-in =
     list-passes c g ts (is .script) slack-in lines-in
     (passes-over (record { slack = g; clock = chip c; tasks = ts }) t is (passed 9 (readerChecks t (length d)) refl (gives .0)))
+
+-- And so the writer takes it, wherever the buffer has room for its text; what it writes then reads back as that list
+-- (words-then-read).
+pub chip-written : (c : Chip) (g : ℕ) (ts : List TaskLine) (t d d′ : List ℕ) (n : ℕ) → let s : Script = record { slack = g; clock = chip c; tasks = ts } in
+    IsTextOf s t → ReaderGives t d d′ (Wrote n) → (1 ≤ g) × (g ≤ 1000) → All LineIn ts
+    → (lent : ℕ) → length (scriptText (scriptOf (words s))) ≤ lent → Accepts (writerChecks (words s) lent)
+chip-written c g ts t d d′ n is gives slack-in lines-in lent room =
+    let ws : List ℕ = words (record { slack = g; clock = chip c; tasks = ts }) in
+    accepts-next (wordChecks Ordinary ws) (roomCheck (length (scriptText (scriptOf ws))) lent)
+    (chip-passes c g ts t d d′ n is gives slack-in lines-in) (λ k h. omega (arith, h .0))

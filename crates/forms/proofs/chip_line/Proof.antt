@@ -5,7 +5,7 @@ use native.Mathlib.Omega.{arith}
 use denote.Ref.{now}
 use Rattle.chips.proofs.Tables.{count-range}
 use Rattle.text.specs.Text.{bytes, chip}
-use Rattle.text.proofs.Reading.{got, literal, readChip, readAt}
+use Rattle.text.proofs.Reading.{got, literal, readAt}
 use Rattle.scanner.specs.Steps.{ofRead, noValue}
 use Rattle.scanner.proofs.Places.{map-id, map-at, seq-at, took, lost}
 use Rattle.forms.specs.Forms.{ofChip}
@@ -13,10 +13,6 @@ use Rattle.forms.proofs.Lists.{departs, departs-at, gives}
 use borrow.Author.Needs.{needs}
 use Rattle.forms.proofs.chip_line.Statement.{statement}
 use Rattle.forms.proofs.chip_line.Tie as tie
-use Rattle.chips.proofs.put_rates.Reads as put-rates-reads
-use Rattle.forms.proofs.chip_name.Reads as chip-name-reads
-use Rattle.scanner.proofs.literal.Reads as literal-reads
-use Rattle.scanner.proofs.place_of.Reads as place-of-reads
 
 -- The line's name stands there.
 begun : (l : tie.After-line) → let a = l .before .before .before .before .before .before .args in

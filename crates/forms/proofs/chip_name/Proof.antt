@@ -5,8 +5,6 @@ use Rattle.scanner.proofs.Places.{either-first, either-second}
 use borrow.Author.Needs.{needs}
 use Rattle.forms.proofs.chip_name.Statement.{statement}
 use Rattle.forms.proofs.chip_name.Tie as tie
-use Rattle.forms.proofs.named.Reads as named-reads
-use Rattle.scanner.proofs.is_letter.Reads as is-letter-reads
 
 is-letter-requires : tie.Need-is-letter-requires
 is-letter-requires c κs = search needs

@@ -1,7 +1,6 @@
 -- The energies: as the line has them, or as the chip does.
 -- Assumes nothing.
 use mathlib.Core.Path.{refl}
-use native.Mathlib.Omega.{arith}
 use Rattle.forms.proofs.Lists.{gives}
 use Rattle.forms.proofs.Words.{no-energies}
 use borrow.Author.Needs.{needs}

@@ -7,7 +7,6 @@ use Rattle.scanner.proofs.Places.{map-at, took, lost}
 use borrow.Author.Needs.{needs}
 use Rattle.forms.proofs.named.Statement.{statement}
 use Rattle.forms.proofs.named.Tie as tie
-use Rattle.scanner.proofs.literal.Reads as literal-reads
 
 literal-requires : tie.Need-literal-requires
 literal-requires c κs = search needs

@@ -5,7 +5,6 @@ use Rattle.forms.specs.Forms.{ratesIn}
 use borrow.Author.Needs.{needs}
 use Rattle.forms.proofs.rate_count.Statement.{statement}
 use Rattle.forms.proofs.rate_count.Tie as tie
-use Rattle.chips.proofs.rate_count.Reads as rate-count-reads
 
 enum-known-clock : tie.Need-enum-known-clock
 enum-known-clock c = search needs

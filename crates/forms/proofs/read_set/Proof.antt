@@ -24,7 +24,6 @@ use Rattle.forms.proofs.Words.{rates-in, energies-in, words-by, fits, f
 use borrow.Author.Needs.{needs}
 use Rattle.forms.proofs.read_set.Statement.{statement}
 use Rattle.forms.proofs.read_set.Tie as tie
-use Rattle.scanner.proofs.place_of.Reads as place-of-reads′
 
 -- The way back from where each answer was taken apart: to the answer before it, and to the start.
 abbrev start : tie.After-slack → tie.Start

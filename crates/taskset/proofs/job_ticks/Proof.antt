@@ -18,8 +18,8 @@ div-result c = search needs
 cast-result : tie.Need-cast-result
 cast-result c = omega (arith, ceil-small (c .args .cycles) (c .args .rate) (c .pre))
 
-returns : tie.Need-returns
-returns c = search needs
+rounded-up : tie.Need-returns
+rounded-up c = search needs
 
 pub job-ticks-spec : {M : Type 1} → statement M
-job-ticks-spec = tie.close (tie.spec sub-result add-result div-result cast-result returns)
+job-ticks-spec = tie.close (tie.spec sub-result add-result div-result cast-result rounded-up)
