@@ -47,16 +47,23 @@ within c r low high =
     let is = each-at (chipEnergy c (mostCycles c)) 1 (chipCount c) (r - 1) (omega arith) 0 in
     leb-true (chipEnergy c (mostCycles c) r) mostEnergy (rw (is, number) at at)
 
-pub record Stops (c : Chip) : Type 0 where
-  pub rate : ℕ
-  pub low : 1 ≤ rate
-  pub high : rate ≤ chipCount c
-  pub over : mostEnergy < chipEnergy c (suc (mostCycles c)) rate
+record Stops (c : Chip) : Type 0 where
+  rate : ℕ
+  low : 1 ≤ rate
+  high : rate ≤ chipCount c
+  over : mostEnergy < chipEnergy c (suc (mostCycles c)) rate
 
 stops : (c : Chip) → Stops c
 unfolding megahertz milliwatts IsLe
 stops Xscale = record { rate = 5; low = omega arith; high = omega arith; over = le-by-compare _ _ tt }
 stops Ppc405lp = record { rate = 3; low = omega arith; high = omega arith; over = le-by-compare _ _ tt }
+
+-- A longer job has an energy over the largest.
+pub longer-over : (c : Chip) (cycles : ℕ) → mostCycles c < cycles
+    → (r : ℕ) × (1 ≤ r) × (r ≤ chipCount c) × (mostEnergy < chipEnergy c cycles r)
+longer-over c cycles l =
+    let s = stops c in
+    (s .rate, s .low, s .high, omega (arith, s .over, energy-grows c (suc (mostCycles c)) cycles (s .rate) l (s .low) (s .high)))
 
 pub most-cycles : (c : Chip) (cycles : ℕ) → AllWithin c cycles ↔ (cycles ≤ mostCycles c)
 most-cycles c cycles = (few, λ h r low high. omega (arith, energy-grows c cycles (mostCycles c) r h low high, within c r low high))
@@ -64,8 +71,6 @@ most-cycles c cycles = (few, λ h r low high. omega (arith, energy-grows c cycle
     few : AllWithin c cycles → cycles ≤ mostCycles c
     few all =
         ⊎-elim
-        (λ (l : mostCycles c < cycles).
-        let s = stops c in
-        absurd (omega (arith, s .over, energy-grows c (suc (mostCycles c)) cycles (s .rate) l (s .low) (s .high), all (s .rate) (s .low) (s .high))))
+        (λ (l : mostCycles c < cycles). let x = longer-over c cycles l in absurd (omega (arith, x .3, all (x .0) (x .1) (x .2))))
         (λ (l : cycles ≤ mostCycles c). l)
         (lt-or-le (mostCycles c) cycles)

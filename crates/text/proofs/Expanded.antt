@@ -4,7 +4,7 @@ use Prim.Native.Nat.{ℕ, zero, suc, _+_, _-_, _≤_, _<_}
 use mathlib.Core.Path.{_≡_, refl, sym, ap, _∙_, subst}
 use mathlib.Core.List.{List, [], _∷_}
 use mathlib.Core.Bool.{true}
-use mathlib.Core.Logic.{⊎-elim}
+use mathlib.Core.Logic.{_↔_, ⊎-elim}
 use native.Mathlib.Nat.{add-zero}
 use native.Mathlib.Decide.{decLe, decLt}
 use native.Mathlib.Omega.{arith}
@@ -23,6 +23,7 @@ use Rattle.layout.proofs.Built.{built}
 use Rattle.layout.proofs.Built as laws
 use Rattle.chips.specs.Chips.{chipCount, chipRate, chipEnergy, chipRates, chipEnergies}
 use Rattle.chips.specs.declared.Chip.{Chip}
+use Rattle.chips.proofs.Limits.{mostCycles, most-cycles, longer-over}
 use Rattle.chips.proofs.Tables.{count-range, rates-length, rate-range, rates-rise, energy-positive}
 use Rattle.taskset.specs.Refusals.{Passes, Accepts, wordChecks}
 use Rattle.taskset.proofs.Sets.{words-pass}
@@ -36,6 +37,10 @@ use Rattle.text.proofs.Copies.{NoneOver}
 pub record LineIn (l : TaskLine) : Type 0 where
   pub period : (1 ≤ l .period) × (l .period ≤ longestPeriod)
   pub cycles : (1 ≤ l .cycles) × (l .cycles ≤ 4000000000)
+
+-- The line of the task at place t.
+abbrev pub lineAt : List TaskLine → ℕ → TaskLine
+lineAt ts t = getD ts t (record { period = 0; cycles = 0; energies = [] })
 
 head-length : (s : Script) → length (headWords s) ≡ headSize Ordinary
 unfolding headKinds
@@ -80,7 +85,7 @@ module _ (c : Chip) (g : ℕ) (ts : List TaskLine) (ok : ScriptOk (record { slac
 
   -- The line of the task at t; word k of the task is that of its line.
   abbrev line : ℕ → TaskLine
-  line t = getD ts t (record { period = 0; cycles = 0; energies = [] })
+  line t = lineAt ts t
 
   module _ (t : ℕ) (h : t < length ts) where
     task-word : (k : ℕ) → k < taskSize Ordinary m
@@ -108,6 +113,36 @@ module _ (c : Chip) (g : ℕ) (ts : List TaskLine) (ok : ScriptOk (record { slac
         getD-append-add extra (chipEnergies c (line t .cycles)) (r - 1) 0 ∙
         each-at (chipEnergy c (line t .cycles)) 1 (chipCount c) (r - 1) (omega (arith, rates-length c)) 0
         ∙ ap (chipEnergy c (line t .cycles)) number
+
+    -- Refusal 9's cause goes by the cycles alone.
+    pub over-iff : HasOver s (suc t) ↔ (mostCycles c < line t .cycles)
+    over-iff = (there, back)
+      where
+        place : suc t - 1 ≡ t
+        place = omega arith
+
+        there : HasOver s (suc t) → mostCycles c < line t .cycles
+        there x =
+            ⊎-elim
+            (λ (l : mostCycles c < line t .cycles). l)
+            (λ (l : line t .cycles ≤ mostCycles c).
+            let is = energy-is (x .rate) (x .rate-from) (x .rate-to) in
+            let over : mostEnergy < energy Ordinary (words s) t (x .rate) = rw place at (x .over) in
+            absurd (omega (arith, most-cycles c (line t .cycles) .1 l (x .rate) (x .rate-from) (omega (arith, x .rate-to, rates-length c)))))
+            (lt-or-le (mostCycles c) (line t .cycles))
+
+        back : mostCycles c < line t .cycles → HasOver s (suc t)
+        back l =
+            let x = longer-over c (line t .cycles) l in
+            let few : x .0 ≤ m = omega (arith, x .2, rates-length c) in
+            record {
+              from = omega arith;
+              to = omega arith;
+              rate = x .0;
+              rate-from = x .1;
+              rate-to = few;
+              over = rw place (omega (arith, x .3, energy-is (x .0) (x .1) few));
+            }
 
 -- ---- which checks it passes
 -- Whether a task has an energy over the largest can be told, so where no first task has one none has.

@@ -1,6 +1,6 @@
 -- The theorems on the bracketed text, each in one statement, for a reader of the proofs.
 -- Assumes nothing.
-use Prim.Native.Nat.{ℕ, _^_, _≤_, _<_}
+use Prim.Native.Nat.{ℕ, suc, _^_, _≤_, _<_}
 use mathlib.Core.Path.{_≡_, refl, sym, _∙_}
 use mathlib.Core.List.{List, _++_}
 use mathlib.Core.Logic.{_↔_, _⊎_, inl, inr}
@@ -9,13 +9,14 @@ use lib.ListN.{length, take, drop}
 use Rattle.numbers.specs.Numbers.{All}
 use Rattle.layout.specs.declared.Layout.the-variants.{Ordinary}
 use Rattle.chips.specs.declared.Chip.{Chip}
+use Rattle.chips.proofs.Limits.{mostCycles}
 use Rattle.taskset.specs.Refusals.{Passes, Accepts, wordCheck, wordChecks, roomCheck}
 use Rattle.taskset.proofs.Checks.{accepts-next, passed}
 use Rattle.taskset.specs.declared.CopyAnswer.{CopyAnswer}
 use Rattle.taskset.specs.declared.CopyAnswer.the-variants.{Wrote}
 use Rattle.taskset.proofs.Copied.{SameCopied}
 use Rattle.text.specs.Text.{TaskLine, chip, Script, decimal, scriptText, IsTextOf, WellFormed, FirstBad, words, scriptOf}
-use Rattle.text.specs.Calls.{readerChecks, ReaderGives, writerChecks, WriterGives}
+use Rattle.text.specs.Calls.{HasOver, readerChecks, ReaderGives, writerChecks, WriterGives}
 use Rattle.text.proofs.Reading.{Res, got, bad, readText}
 use Rattle.text.proofs.Numerals as numerals
 use Rattle.text.proofs.Numerals.{said}
@@ -25,7 +26,7 @@ use Rattle.text.proofs.Sizes.{text-length}
 use Rattle.text.proofs.Copies.{reads, is-read, is-refused, refuses, one-script, list-text, list-words}
 use Rattle.text.proofs.Copies.{reader-unique, writer-unique}
 use Rattle.text.proofs.Written.{read-back, read-again}
-use Rattle.text.proofs.Expanded.{LineIn, passes-over, list-passes}
+use Rattle.text.proofs.Expanded.{lineAt, over-iff, LineIn, passes-over, list-passes}
 
 -- ---- numbers
 -- The digits of a number say it, read from the first on: for every number of 64 bits, and so for every one that is read
@@ -104,6 +105,13 @@ pub read-written-read : (t e e₁ d d′ : List ℕ) (n k : ℕ) → ReaderGives
     → (e₂ : List ℕ) (a : CopyAnswer) → ReaderGives (take k d′) e e₂ a → SameCopied a (Wrote n) e₂ e₁
 read-written-read = read-again
 
+-- Of a chip's text, refusal 9 goes by the cycles alone: the task at place t, which is number t + 1, has an energy over
+-- the largest exactly where its job has more cycles than the chip's most.
+pub over-by-cycles : (c : Chip) (g : ℕ) (ts : List TaskLine) (t : List ℕ)
+    → let s : Script = record { slack = g; clock = chip c; tasks = ts } in
+    IsTextOf s t → (k : ℕ) → k < length ts → HasOver s (suc k) ↔ (mostCycles c < lineAt ts k .cycles)
+over-by-cycles c g ts t is k h = over-iff c g ts (is .script) k h
+
 -- A chip's text that the reader takes gives a list that passes checks 2 and 3, if its slack, its periods and its cycles
 -- are in their ranges: of what the tables bring nothing is refused.
 pub chip-passes : (c : Chip) (g : ℕ) (ts : List TaskLine) (t d d′ : List ℕ) (n : ℕ) → let s : Script =
@@ -115,7 +123,8 @@ chip-passes c g ts t d d′ n is gives slack-in lines-in =
 
 -- And so the writer takes it, wherever the buffer has room for its text; what it writes then reads back as that list
 -- (words-then-read).
-pub chip-written : (c : Chip) (g : ℕ) (ts : List TaskLine) (t d d′ : List ℕ) (n : ℕ) → let s : Script = record { slack = g; clock = chip c; tasks = ts } in
+pub chip-written : (c : Chip) (g : ℕ) (ts : List TaskLine) (t d d′ : List ℕ) (n : ℕ)
+    → let s : Script = record { slack = g; clock = chip c; tasks = ts } in
     IsTextOf s t → ReaderGives t d d′ (Wrote n) → (1 ≤ g) × (g ≤ 1000) → All LineIn ts
     → (lent : ℕ) → length (scriptText (scriptOf (words s))) ≤ lent → Accepts (writerChecks (words s) lent)
 chip-written c g ts t d d′ n is gives slack-in lines-in lent room =
