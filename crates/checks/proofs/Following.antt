@@ -12,7 +12,7 @@ use Rattle.numbers.specs.Numbers.{gcd, lcm, running}
 use Rattle.numbers.proofs.Divisors.{gcd-positive}
 use Rattle.numbers.proofs.Multiples.{running-more, running-positive}
 use Rattle.numbers.proofs.Searches.{found-here, found-end, none-more}
-use Rattle.layout.specs.Words.{word, taskSize, periodPlace, period}
+use Rattle.layout.specs.Words.{longestPeriod, word, taskSize, periodPlace, period}
 use Rattle.layout.specs.declared.Layout.{Layout}
 use Rattle.taskset.specs.Quantities.{hyperLimit}
 use Rattle.checks.specs.Steps.{HasTasks, Passed, Followed}
@@ -39,6 +39,13 @@ module _ {layout : Layout} {m n : ℕ} {s : List ℕ} (h : HasTasks layout m n s
 
   period-is : word s at ≡ period layout s t
   period-is = ap (word s) (q .place) ∙ ap (λ (x : ℕ). word s (periodPlace layout x t)) (h .counted)
+
+  -- The multiple and the period are small enough for the divisor's bound on its steps.
+  pub divisor-asked : (0 < l) × (0 < word s at) × (l * word s at < 2 ^ 50)
+  divisor-asked =
+      let p = h .periods t i in
+      let e = period-is in
+      (q .least, omega (arith, p .0), omega (arith, mul-le-mul {n₁ = l} {m₁ = word s at} {n₂ = hyperLimit} {m₂ = longestPeriod} (q .most) (omega (arith, p .1))))
 
   module _ {g : ℕ} (d : g ≡ gcd l (word s at)) where
     next-is : l / g * word s at ≡ running (period layout s) (suc t)

@@ -164,7 +164,7 @@ fn follow(s: &[u32], layout: Layout, m: usize, n: usize) -> Multiple
     while t < n {
         let p = s[at] as u64;
         let g = numbers::common_divisor(l, p);
-        let next = l / g * p;
+        let next = l / g.value * p;
         if HYPER_LIMIT < next {
             return Multiple { tasks: t, value: l };
         }

@@ -1,9 +1,9 @@
 -- The greatest common divisor and the least common multiple are what their names say.
 -- Assumes nothing.
-use Prim.Native.Nat.{ℕ, zero, suc, _+_, _*_, _/_, _%_, _≤_, _<_, _∣_}
-use mathlib.Core.Path.{_≡_, refl, sym, ap, _∙_, subst}
+use Prim.Native.Nat.{ℕ, zero, suc, _+_, _-_, _*_, _/_, _%_, _≤_, _<_, _∣_}
+use mathlib.Core.Path.{_≡_, refl, sym, ap, ap₂, _∙_, subst}
 use native.Mathlib.Omega.{arith}
-use native.Mathlib.Nat.{dvd-refl, dvd-zero, dvd-antisymm, dvd-mul-left, dvd-mul-right, dvd-mod-iff, dvd-add-iff-right, dvd-mul-right-of-dvd, mul-dvd-mul-left, mul-dvd-mul-right, dvd-of-mul-dvd-mul-left, mod-lt, pos-of-dvd-of-pos, div-mul-cancel, mul-div-cancel', mul-assoc, mul-comm, mul-add, div-add-mod, mul-pos, one-mul}
+use native.Mathlib.Nat.{dvd-refl, dvd-zero, dvd-antisymm, dvd-mul-left, dvd-mul-right, dvd-mod-iff, dvd-add-iff-right, dvd-mul-right-of-dvd, dvd-mul-left-of-dvd, dvd-sub-iff-left, mul-dvd-mul-left, mul-dvd-mul-right, dvd-of-mul-dvd-mul-left, mod-lt, pos-of-dvd-of-pos, div-mul-cancel, mul-div-cancel', mul-assoc, mul-comm, mul-add, div-add-mod, mul-pos, one-mul, mul-one}
 use Rattle.numbers.specs.Numbers.{gcdIn, gcd, lcm}
 
 gcdIn-divides : (n a b : ℕ) → b ≤ n → (gcdIn n a b ∣ a) × (gcdIn n a b ∣ b)
@@ -23,31 +23,6 @@ gcdIn-combines (suc n) a (suc b) m c x y =
     gcdIn-combines n (suc b) (a % suc b) m c y
     (dvd-add-iff-right c (dvd-mul-right-of-dvd c y (a / suc b)) .1
     (subst (λ (z : ℕ). c ∣ z) (ap (λ (z : ℕ). m * z) (sym (div-add-mod a (suc b))) ∙ mul-add m (suc b * (a / suc b)) (a % suc b) ∙ ap (λ (z : ℕ). z + m * (a % suc b)) (sym (mul-assoc m (suc b) (a / suc b)))) x))
-
--- Any number of steps from b on gives the same.
-gcdIn-same : (n k a b : ℕ) → b ≤ n → b ≤ k → gcdIn n a b ≡ gcdIn k a b
-unfolding gcdIn
-gcdIn-same zero zero a b h i = refl
-gcdIn-same zero (suc k) a zero h i = refl
-gcdIn-same zero (suc k) a (suc b) h i = absurd (omega arith)
-gcdIn-same (suc n) zero a zero h i = refl
-gcdIn-same (suc n) zero a (suc b) h i = absurd (omega arith)
-gcdIn-same (suc n) (suc k) a zero h i = refl
-gcdIn-same (suc n) (suc k) a (suc b) h i =
-    let l = mod-lt a {m = suc b} (omega arith) in
-    gcdIn-same n k (suc b) (a % suc b) (omega arith) (omega arith)
-
--- The two turns of Euclid's loop.
-pub gcd-end : (a : ℕ) → gcd a 0 ≡ a
-unfolding gcd gcdIn
-gcd-end a = refl
-
-pub gcd-step : (a b : ℕ) → 0 < b → gcd a b ≡ gcd b (a % b)
-unfolding gcd gcdIn
-gcd-step a zero h = absurd (omega arith)
-gcd-step a (suc b) h =
-    let l = mod-lt a {m = suc b} (omega arith) in
-    gcdIn-same b (a % suc b) (suc b) (a % suc b) (omega arith) (omega arith)
 
 module _ (a b : ℕ) where
   pub gcd-left : gcd a b ∣ a
@@ -105,3 +80,44 @@ module _ (a b : ℕ) where
     where
       quotient : a / gcd a b ∣ a
       quotient = subst (λ (z : ℕ). a / gcd a b ∣ z) (div-mul-cancel (gcd a b) gcd-left) (dvd-mul-right (a / gcd a b) (gcd a b))
+
+-- Two pairs with the same common divisors have the same greatest one.
+pub gcd-alike : (a b c e : ℕ)
+    → ((d : ℕ) → d ∣ a → d ∣ b → (d ∣ c) × (d ∣ e)) → ((d : ℕ) → d ∣ c → d ∣ e → (d ∣ a) × (d ∣ b)) → gcd a b ≡ gcd c e
+gcd-alike a b c e down up =
+    let h = down (gcd a b) (gcd-left a b) (gcd-right a b) in
+    gcd-only c e (gcd a b) (h .0) (h .1) (λ d x y. gcd-greatest a b d (up d x y .0) (up d x y .1))
+
+pub gcd-comm : (a b : ℕ) → gcd a b ≡ gcd b a
+gcd-comm a b = gcd-alike a b b a (λ d x y. (y, x)) (λ d x y. (y, x))
+
+pub gcd-self : (a : ℕ) → a ≡ gcd a a
+gcd-self a = gcd-only a a a (dvd-refl a) (dvd-refl a) (λ d x y. x)
+
+pub gcd-times : (m a b : ℕ) → m * gcd a b ≡ gcd (m * a) (m * b)
+unfolding gcd
+gcd-times m a b =
+    gcd-only (m * a) (m * b) (m * gcd a b) (mul-dvd-mul-left (gcd a b) m (gcd-left a b)) (mul-dvd-mul-left (gcd a b) m (gcd-right a b))
+    (λ d x y. gcdIn-combines b a b m d x y)
+
+-- The smaller may be subtracted from the larger, and an even number be halved beside an odd one.
+pub gcd-less : (a b : ℕ) → b ≤ a → gcd (a - b) b ≡ gcd a b
+gcd-less a b h =
+    gcd-alike (a - b) b a b
+    (λ d x y. (dvd-sub-iff-left d h y .0 x, y))
+    (λ d x y. (dvd-sub-iff-left d h y .1 x, y))
+
+pub gcd-half : (a b : ℕ) → a % 2 ≡ 0 → b % 2 ≡ 1 → gcd (a / 2) b ≡ gcd a b
+gcd-half a b even odd =
+    gcd-alike (a / 2) b a b
+    (λ d x y. (subst (λ (z : ℕ). d ∣ z) twice (dvd-mul-right-of-dvd d x 2), y))
+    (λ d x y. (dvd-add-iff-right d (dvd-mul-right-of-dvd d x (b / 2)) .1 (subst (λ (z : ℕ). d ∣ z) split (dvd-mul-left-of-dvd d y (a / 2))), y))
+  where
+    twice : a / 2 * 2 ≡ a
+    twice = omega arith
+
+    split : a / 2 * b ≡ a * (b / 2) + a / 2
+    split =
+        let e : b ≡ 2 * (b / 2) + 1 = omega arith in
+        ap (λ (z : ℕ). a / 2 * z) e ∙ mul-add (a / 2) (2 * (b / 2)) 1
+        ∙ ap₂ (λ (y z : ℕ). y + z) (sym (mul-assoc (a / 2) 2 (b / 2)) ∙ ap (λ (z : ℕ). z * (b / 2)) twice) (mul-one (a / 2))

@@ -2,6 +2,8 @@ pub mod Tests
 pub mod Rounding
 pub mod Sums
 pub mod Divisors
+pub mod Bits
+pub mod Halving
 pub mod Multiples
 pub mod Powers
 pub mod Search

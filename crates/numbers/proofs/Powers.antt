@@ -1,13 +1,14 @@
 -- The smallest power of two not below a number: there is one, and only one.
 -- Assumes nothing.
-use Prim.Native.Nat.{ℕ, zero, suc, _+_, _*_, _^_, _≤_, _<_}
+use Prim.Native.Nat.{ℕ, zero, suc, _+_, _-_, _*_, _^_, _≤_, _<_, _∣_}
 use mathlib.Core.Path.{_≡_, refl, ap}
 use mathlib.Core.Bool.{Bool}
 use mathlib.Core.Logic.{⊎-elim}
-use native.Mathlib.Nat.{one-le-pow, le-antisymm, eq-or-lt-of-le, pow-succ'}
+use native.Mathlib.Nat.{dvd-mul-right, one-le-pow, le-antisymm, eq-or-lt-of-le, pow-succ'}
 use native.Mathlib.Numerals.{add-one}
 use native.Mathlib.Omega.{arith}
 use lib.Dec.{leb}
+use lib.Pow.{pow-add}
 use borrow.Author.Tests.{leb-true, leb-false}
 use Rattle.numbers.specs.Numbers.{LeastPower}
 use Rattle.numbers.proofs.Tests.{lt-or-le}
@@ -19,6 +20,11 @@ power-positive e = one-le-pow e 2 (omega arith)
 pub power-above : (n : ℕ) → n < 2 ^ n
 power-above zero = omega arith
 power-above (suc n) = omega (arith, power-above n)
+
+pub power-divides : {e f : ℕ} → e ≤ f → 2 ^ e ∣ 2 ^ f
+power-divides {e} {f} h =
+    let n : f ≡ e + (f - e) = omega arith in
+    rw (n, pow-add 2 e (f - e)) (dvd-mul-right (2 ^ e) (2 ^ (f - e)))
 
 pub power-unique : (x e f : ℕ) → LeastPower x e → LeastPower x f → e ≡ f
 power-unique x e f a b = le-antisymm (a .smallest f (b .enough)) (b .smallest e (a .enough))

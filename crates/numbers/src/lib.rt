@@ -2,8 +2,9 @@
 // powers of two. specs/ defines each once, proofs/ has its laws, and here is the code that works one out. Tasks, words
 // and times are left to the crates above.
 ghost use mathlib.Core.Path.{_≡_};
-ghost use Prim.Native.Nat.{_^_, _≤_, min};
+ghost use Prim.Native.Nat.{suc, _-_, _*_, _/_, _^_, _≤_, _<_, min};
 ghost use Rattle.numbers.specs.Numbers.{between, gcd, LeastPower};
+ghost use Rattle.numbers.specs.Halving.{commonPower, isEven, step, steps, mostSteps, IsPower};
 
 // Whether w is low to high.
 pub fn is_between(low: u64, high: u64, w: u64) -> bool
@@ -19,18 +20,120 @@ pub fn lesser(x: u32, y: u32) -> u32
     if y < x { y } else { x }
 }
 
-// The greatest common divisor, by Euclid's division: the second number falls at each turn.
-pub fn common_divisor(x: u64, y: u64) -> u64
-    ensures { λ r. ⌜ r ≡ gcd x y ⌝ }
+// The largest power of two that divides both numbers: the lowest bit that is set in one of them.
+fn common_power(x: u64, y: u64) -> u64
+    requires { ⌜ 0 < x ⌝ }
+    ensures { λ r. ⌜ r ≡ commonPower x y ⌝ }
 {
-    let mut a = x;
-    let mut b = y;
-    while b != 0 {
-        let r = a % b;
-        a = b;
-        b = r;
+    let either = x | y;
+    either & (!either + 1)
+}
+
+// Whether n, a multiple of a power of two u, is an even multiple: its bit u is 0.
+fn is_even(u: u64, n: u64) -> bool
+    requires { ⌜ IsPower u ⌝ }
+    ensures { λ r. ⌜ r ≡ isEven u n ⌝ }
+{
+    n & u == 0
+}
+
+// A number, and the halvings and subtractions that were made to come to it.
+struct Counted {
+    number: u64,
+    steps: u32,
+}
+
+// A halving, counted.
+fn halve(n: u64, steps: u32) -> Counted
+    requires { ⌜ steps < mostSteps ⌝ }
+    ensures { λ r. ⌜ (r .number ≡ n / 2) × (r .steps ≡ suc steps) ⌝ }
+{
+    Counted {
+        number: n / 2,
+        steps: steps + 1,
     }
-    a
+}
+
+// A subtraction, counted.
+fn subtract(larger: u64, smaller: u64, steps: u32) -> Counted
+    requires { ⌜ (smaller ≤ larger) × (steps < mostSteps) ⌝ }
+    ensures { λ r. ⌜ (r .number ≡ larger - smaller) × (r .steps ≡ suc steps) ⌝ }
+{
+    Counted {
+        number: larger - smaller,
+        steps: steps + 1,
+    }
+}
+
+// Two numbers on the way to their greatest common divisor, and the halvings and subtractions made so far.
+struct Pair {
+    a: u64,
+    b: u64,
+    steps: u32,
+}
+
+// One step: the number that is an even multiple of u is halved; where neither is, the smaller is subtracted from the larger.
+fn step(u: u64, p: Pair) -> Pair
+    requires { ⌜ IsPower u × (p .steps < mostSteps) ⌝ }
+    ensures { λ r. ⌜ ((r .a, r .b) ≡ step u (p .a) (p .b)) × (r .steps ≡ suc (p .steps)) ⌝ }
+{
+    if is_even(u, p.a) {
+        let h = halve(p.a, p.steps);
+        return Pair {
+            a: h.number,
+            b: p.b,
+            steps: h.steps,
+        };
+    }
+    if is_even(u, p.b) {
+        let h = halve(p.b, p.steps);
+        return Pair {
+            a: p.a,
+            b: h.number,
+            steps: h.steps,
+        };
+    }
+    if p.b < p.a {
+        let d = subtract(p.a, p.b, p.steps);
+        return Pair {
+            a: d.number,
+            b: p.b,
+            steps: d.steps,
+        };
+    }
+    let d = subtract(p.b, p.a, p.steps);
+    Pair {
+        a: p.a,
+        b: d.number,
+        steps: d.steps,
+    }
+}
+
+// A greatest common divisor, and the halvings and subtractions that it took.
+pub struct Divisor {
+    pub value: u64,
+    pub steps: u32,
+}
+
+// The greatest common divisor, by halving and subtracting alone. Twos that both numbers have stay in: u, a power of two, is
+// what both are multiples of, and a number is halved only while it is an even multiple.
+pub fn common_divisor(x: u64, y: u64) -> Divisor
+    requires { ⌜ (0 < x) × (0 < y) × (x * y < 2 ^ 50) ⌝ }
+    ensures { λ r. ⌜ (r .value ≡ gcd x y) × (r .steps ≡ steps x y) × (r .steps ≤ mostSteps) ⌝ }
+{
+    let u = common_power(x, y);
+    let mut p = Pair {
+        a: x,
+        b: y,
+        steps: 0,
+    };
+    while p.a != p.b {
+        p = step(u, p);
+    }
+    Divisor {
+        value: p.a,
+        steps: p.steps,
+    }
 }
 
 // A power of two.

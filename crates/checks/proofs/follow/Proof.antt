@@ -5,7 +5,7 @@ use lib.ListN.{getD}
 use Prim.Native.Nat.{_-_}
 use native.Mathlib.Omega.{arith}
 use Rattle.numbers.proofs.Multiples.{running-none}
-use Rattle.checks.proofs.Following.{Turn, all-followed, task-in, divisor-positive, passed-here, next-turn, product-fits}
+use Rattle.checks.proofs.Following.{Turn, all-followed, task-in, divisor-asked, divisor-positive, passed-here, next-turn, product-fits}
 use borrow.Author.Needs.{needs}
 use Rattle.checks.proofs.follow.Statement.{statement}
 use Rattle.checks.proofs.follow.Tie as tie
@@ -48,29 +48,34 @@ cast-p : tie.Need-cast-p Inv-loop μ-loop
 cast-p c = omega (arith, c .shared-slice-known2 .given (c .before .before .loop .at))
 
 common-divisor-requires : tie.Need-common-divisor-requires Inv-loop μ-loop
-common-divisor-requires c κs = search needs
+common-divisor-requires c κs =
+    let b = c .before .before in
+    divisor-asked (start b .pre) (b .loop .inv) (omega arith)
 
 div-next : tie.Need-div-next Inv-loop μ-loop
 div-next c =
-    let b = turn-of c in
-    divisor-positive (start b .pre) (b .loop .inv) (omega arith) (c .common-divisor .ensures)
+    let d = c .before in
+    let b = turn-of d in
+    divisor-positive (start b .pre) (b .loop .inv) (omega arith) (d .common-divisor .ensures .0)
 
 mul-next : tie.Need-mul-next Inv-loop μ-loop
 mul-next c =
-    let b = turn-of c in
-    record { fits = product-fits (b .loop .l) (c .common-divisor .result) (getD (start b .args .s .now) (b .loop .at) 0) (b .loop .inv .most) (omega (arith, c .before .shared-slice-known2 .given (b .loop .at))) }
+    let d = c .before in
+    let b = turn-of d in
+    record { fits = product-fits (b .loop .l) (d .common-divisor .result .value) (getD (start b .args .s .now) (b .loop .at) 0) (b .loop .inv .most) (omega (arith, d .before .shared-slice-known2 .given (b .loop .at))) }
 
 returns : tie.Need-returns Inv-loop μ-loop
 returns c =
-    let b = turn-of (c .before) in
-    passed-here (start b .pre) (b .loop .inv) (omega arith) (c .before .common-divisor .ensures) (c .if1 .taken)
+    let d = c .before .before in
+    let b = turn-of d in
+    passed-here (start b .pre) (b .loop .inv) (omega arith) (d .common-divisor .ensures .0) (c .if1 .taken)
 
 task-size-requires : tie.Need-task-size-requires Inv-loop μ-loop
-task-size-requires c κs = omega (arith, start (turn-of (c .before)) .pre .rates)
+task-size-requires c κs = omega (arith, start (turn-of (c .before .before)) .pre .rates)
 
 add-at : tie.Need-add-at Inv-loop μ-loop
 add-at c =
-    let b = turn-of (c .before .before) in
+    let b = turn-of (c .before .before .before) in
     omega (arith, task-in (start b .pre) (b .loop .inv) (omega arith), c .task-size .ensures)
 
 add-t : tie.Need-add-t Inv-loop μ-loop
@@ -81,9 +86,9 @@ loop-less c = search needs
 
 loop-again : tie.Need-loop-again Inv-loop μ-loop
 loop-again c =
-    let d = c .before .before in
+    let d = c .before .before .before in
     let b = turn-of d in
-    rw (c .task-size .ensures) (next-turn (start b .pre) (b .loop .inv) (omega arith) (d .common-divisor .ensures) (c .before .if1 .left))
+    rw (c .task-size .ensures) (next-turn (start b .pre) (b .loop .inv) (omega arith) (d .common-divisor .ensures .0) (c .before .if1 .left))
 
 returns-2 : tie.Need-returns-2 Inv-loop μ-loop
 returns-2 c = all-followed (c .before .loop .inv) (omega arith)
