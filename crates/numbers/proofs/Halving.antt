@@ -1,25 +1,26 @@
--- Halving and subtracting ends at the greatest common divisor, after at most 100 steps where the product of the two
--- numbers is below 2 ^ 50. The numbers are multiples of u, a ≡ u * i and b ≡ u * j, and not both even multiples; each step
+-- Halving and subtracting keeps the greatest common divisor, and takes at most 100 steps where the product of the two
+-- numbers is below 2 ^ 50. The numbers are multiples of u, a ≡ u * i and b ≡ u * j, and not both even ones; each step
 -- makes others of the same kind. A halving halves i * j, so there are fewer than 50; behind each subtraction comes a
 -- halving, so there are no more subtractions than halvings.
 -- Assumes nothing.
 use Prim.Native.Nat.{ℕ, zero, suc, _+_, _-_, _*_, _/_, _%_, _^_, _≤_, _<_, _∣_}
 use mathlib.Core.Path.{_≡_, refl, sym, ap, ap₂, _∙_, subst}
-use mathlib.Core.Bool.{Bool, true, false, cond, _&&_}
+use mathlib.Core.Bool.{true, false, cond}
 use mathlib.Core.Logic.{_⊎_, inl, inr, ⊎-elim}
-use native.Mathlib.Nat.{one-mul, dvd-mul-right, dvd-trans, dvd-iff-mod-eq-zero, dvd-of-mul-dvd-mul-left, pow-le-pow-right, eq-of-mul-eq-mul-left, mul-left-comm, pow-suc, mul-assoc, mul-comm, mul-pos, mul-sub, mul-one, mul-le-mul, pow-succ', mul-le-mul-left, mul-le-mul-right, mul-div-cancel-left, mul-div-assoc, dvd-of-mod-eq-zero}
+use native.Mathlib.Nat.{one-mul, mul-one, mul-assoc, mul-comm, mul-pos, mul-sub, mul-le-mul, mul-le-mul-left, mul-le-mul-right, mul-div-cancel-left, mul-div-assoc, pow-suc, pow-succ', pow-le-pow-right, dvd-mul-right, dvd-trans, dvd-iff-mod-eq-zero, dvd-of-mod-eq-zero, dvd-of-mul-dvd-mul-left}
 use native.Mathlib.Omega.{arith}
 use lib.Dec.{eqb, ltb}
-use borrow.Author.Tests.{eqb-true, eqb-false, ltb-true, ltb-false, lt-ltb, le-ltb, eq-eqb, ne-eqb}
+use borrow.Author.Tests.{eqb-true, eqb-false, lt-ltb, le-ltb, eq-eqb, ne-eqb}
 use Rattle.numbers.specs.Numbers.{gcd}
 use Rattle.numbers.specs.Halving.{commonTwosIn, commonPower, isEven, step, stepsIn, steps, mostSteps, IsPower}
-use Rattle.numbers.proofs.Tests.{bool-cases, and-true, cond-true, cond-false, lt-or-le}
-use Rattle.numbers.proofs.Bits.{twos-more, twos-none}
+use Rattle.numbers.proofs.Tests.{bool-cases, cond-true, cond-false, lt-or-le}
 use Rattle.numbers.proofs.Powers.{power-positive, power-divides}
-use Rattle.numbers.proofs.Divisors.{gcd-comm, gcd-self, gcd-times, gcd-less, gcd-half}
+use Rattle.numbers.proofs.Divisors.{gcd-comm, gcd-less, gcd-half}
+use Rattle.numbers.proofs.Bits.{twos-more, twos-none}
 
--- THE FOUR STEPS, each with what it makes of a number.
+-- THE FOUR STEPS.
 
+-- Each with the number that it makes.
 module _ (u a b : ℕ) where
   pub step-halves-left : {h : ℕ} → isEven u a ≡ true → h ≡ a / 2 → (h, b) ≡ step u a b
   step-halves-left e m = ap (λ (z : ℕ). (z, b)) m ∙ sym (cond-true (isEven u a) _ _ e)
@@ -38,34 +39,55 @@ module _ (u a b : ℕ) where
       pub step-takes-right : {d : ℕ} → a ≤ b → d ≡ b - a → (a, d) ≡ step u a b
       step-takes-right l m = ap (λ (z : ℕ). (a, z)) m ∙ sym (neither ∙ cond-false (ltb b a) _ _ (le-ltb b a l))
 
--- WHAT A STEP MAKES OF THE MULTIPLES i AND j, of which one is odd: i % 2 + j % 2 is 2 where both are, else 1.
+  -- What holds of the four holds of a step.
+  module _ (P : ℕ × ℕ → Type 0)
+      (halves-left : isEven u a ≡ true → P (a / 2, b))
+      (halves-right : isEven u a ≡ false → isEven u b ≡ true → P (a, b / 2))
+      (takes-left : isEven u a ≡ false → isEven u b ≡ false → b < a → P (a - b, b))
+      (takes-right : isEven u a ≡ false → isEven u b ≡ false → a ≤ b → P (a, b - a)) where
+    takes : isEven u a ≡ false → isEven u b ≡ false → P (step u a b)
+    takes o e =
+        ⊎-elim
+        (λ (l : b < a). subst P (step-takes-left o e l refl) (takes-left o e l))
+        (λ (l : a ≤ b). subst P (step-takes-right o e l refl) (takes-right o e l))
+        (lt-or-le b a)
 
+    pub step-cases : P (step u a b)
+    step-cases =
+        ⊎-elim
+        (λ (e : isEven u a ≡ true). subst P (step-halves-left e refl) (halves-left e))
+        (λ (o : isEven u a ≡ false). ⊎-elim (λ (e : isEven u b ≡ true). subst P (step-halves-right o e refl) (halves-right o e)) (takes o) (bool-cases (isEven u b)))
+        (bool-cases (isEven u a))
+
+  -- Numbers that are not equal come down, whatever u is.
+  pub step-falls : 0 < a → 0 < b → (a ≡ b → ⊥) → step u a b .0 + step u a b .1 < a + b
+  step-falls p q apart = step-cases (λ (s : ℕ × ℕ). s .0 + s .1 < a + b) (λ e. omega arith) (λ o e. omega arith) (λ o e l. omega arith) (λ o e l. omega arith)
+
+-- WHAT THEY MAKE OF i AND j.
+
+-- One of the two is odd: i % 2 + j % 2 is 2 where both are, else 1.
+pub record OneOdd (i j : ℕ) : Type 0 where
+  pub left : 0 < i
+  pub right : 0 < j
+  pub odd : 1 ≤ i % 2 + j % 2
+
+-- The divisor is kept. A halving halves the product; a subtraction does not raise it, and leaves an even number.
 pub record Made (i j i′ j′ : ℕ) : Type 0 where
-  pub left : 0 < i′
-  pub right : 0 < j′
-  pub odd : 1 ≤ i′ % 2 + j′ % 2
   pub same : gcd i′ j′ ≡ gcd i j
-  -- A halving halves the product; behind a subtraction one of the two is even.
   pub cost :
       ((i % 2 + j % 2 ≡ 1) × (i′ * j′ * 2 ≡ i * j)) ⊎
       ((i % 2 + j % 2 ≡ 2) × (i′ % 2 + j′ % 2 ≡ 1) × (i′ * j′ ≤ i * j))
 
-made-halving : {i j : ℕ} → 0 < i → 0 < j → i % 2 ≡ 0 → j % 2 ≡ 1 → Made i j (i / 2) j
-made-halving {i} {j} p q even odd = record {
-  left = omega arith;
-  right = q;
-  odd = omega arith;
+made-halving : {i j : ℕ} → i % 2 ≡ 0 → j % 2 ≡ 1 → Made i j (i / 2) j
+made-halving {i} {j} even odd = record {
   same = gcd-half i j even odd;
   cost =
       let e : i / 2 * 2 ≡ i = omega arith in
       inl (omega arith, mul-assoc (i / 2) j 2 ∙ ap (λ (z : ℕ). i / 2 * z) (mul-comm j 2) ∙ sym (mul-assoc (i / 2) 2 j) ∙ ap (λ (z : ℕ). z * j) e);
 }
 
-made-subtraction : {i j : ℕ} → 0 < j → i % 2 ≡ 1 → j % 2 ≡ 1 → j < i → Made i j (i - j) j
-made-subtraction {i} {j} q x y l = record {
-  left = omega arith;
-  right = q;
-  odd = omega arith;
+made-subtraction : {i j : ℕ} → i % 2 ≡ 1 → j % 2 ≡ 1 → j < i → Made i j (i - j) j
+made-subtraction {i} {j} x y l = record {
   same = gcd-less i j (omega arith);
   cost = inr (omega arith, omega arith, mul-le-mul-right j (omega arith));
 }
@@ -73,9 +95,6 @@ made-subtraction {i} {j} q x y l = record {
 -- The same with left and right changed about.
 turned : {i j i′ j′ : ℕ} → Made i j i′ j′ → Made j i j′ i′
 turned {i} {j} {i′} {j′} m = record {
-  left = m .right;
-  right = m .left;
-  odd = omega arith;
   same = gcd-comm j′ i′ ∙ m .same ∙ gcd-comm i j;
   cost =
       ⊎-elim
@@ -84,82 +103,87 @@ turned {i} {j} {i′} {j′} m = record {
       (m .cost);
 }
 
--- A STEP AT THE MULTIPLES u * i AND u * j, which are not equal.
-
-pub record Stepped (u i j : ℕ) (p : ℕ × ℕ) : Type 0 where
-  pub i′ : ℕ
-  pub j′ : ℕ
-  pub left : p .0 ≡ u * i′
-  pub right : p .1 ≡ u * j′
-  pub made : Made i j i′ j′
-  pub less : p .0 + p .1 < u * i + u * j
-
-module _ (u i j : ℕ) (up : 0 < u) (ip : 0 < i) (jp : 0 < j) (one : 1 ≤ i % 2 + j % 2) (apart : u * i ≡ u * j → ⊥) where
-  even-is : (k : ℕ) → isEven u (u * k) ≡ true → k % 2 ≡ 0
-  even-is k e = ap (λ (z : ℕ). z % 2) (sym (mul-div-cancel-left k up)) ∙ eqb-true (u * k / u % 2) 0 e
-
-  odd-is : (k : ℕ) → isEven u (u * k) ≡ false → k % 2 ≡ 1
-  odd-is k e =
-      let m = ap (λ (z : ℕ). z % 2) (mul-div-cancel-left k up) in
-      omega (arith, eqb-false (u * k / u % 2) 0 e)
-
-  half-is : (k : ℕ) → k % 2 ≡ 0 → u * k / 2 ≡ u * (k / 2)
-  half-is k e = mul-div-assoc 2 u (dvd-of-mod-eq-zero 2 e)
-
-  pub stepped : Stepped u i j (step u (u * i) (u * j))
-  stepped =
-      ⊎-elim
-      (λ (e : isEven u (u * i) ≡ true). subst (Stepped u i j) (step-halves-left u (u * i) (u * j) e refl)
-      (let h = even-is i e in
-      record { i′ = i / 2; j′ = j; left = half-is i h; right = refl; made = made-halving ip jp h (omega arith); less = omega (arith, mul-pos up ip) }))
-      (λ (o : isEven u (u * i) ≡ false).
-      let x = odd-is i o in
-      ⊎-elim
-      (λ (e : isEven u (u * j) ≡ true). subst (Stepped u i j) (step-halves-right u (u * i) (u * j) o e refl)
-      (let h = even-is j e in
-      record { i′ = i; j′ = j / 2; left = refl; right = half-is j h; made = turned (made-halving jp ip h x); less = omega (arith, mul-pos up jp) }))
-      (λ (e : isEven u (u * j) ≡ false).
-      let y = odd-is j e in
-      ⊎-elim
-      (λ (l : u * j < u * i). subst (Stepped u i j) (step-takes-left u (u * i) (u * j) o e l refl)
-      (record { i′ = i - j; j′ = j; left = sym (mul-sub u i j); right = refl; made = made-subtraction jp x y (smaller j i l); less = omega (arith, mul-pos up jp) }))
-      (λ (l : u * i ≤ u * j). subst (Stepped u i j) (step-takes-right u (u * i) (u * j) o e l refl)
-      (record { i′ = i; j′ = j - i; left = refl; right = sym (mul-sub u j i); made = turned (made-subtraction ip y x (smaller i j (omega arith))); less = omega (arith, mul-pos up ip) }))
-      (lt-or-le (u * j) (u * i)))
-      (bool-cases (isEven u (u * j))))
-      (bool-cases (isEven u (u * i)))
-    where
-      smaller : (k m : ℕ) → u * k < u * m → k < m
-      smaller k m l =
-          ⊎-elim (λ (h : k < m). h) (λ (h : m ≤ k). absurd (omega (arith, mul-le-mul-left u h))) (lt-or-le k m)
-
 -- TWO NUMBERS AS MULTIPLES OF u, not both even ones.
 
 pub record Multiples (u a b : ℕ) : Type 0 where
   pub i : ℕ
   pub j : ℕ
-  pub i-positive : 0 < i
-  pub j-positive : 0 < j
-  pub odd : 1 ≤ i % 2 + j % 2
+  pub kind : OneOdd i j
   pub left : a ≡ u * i
   pub right : b ≡ u * j
 
--- So they are of the largest power of two that divides both.
+pub multiples-positive : {u a b : ℕ} → 0 < u → Multiples u a b → (0 < a) × (0 < b)
+multiples-positive up m = (rw (m .left) (mul-pos up (m .kind .left)), rw (m .right) (mul-pos up (m .kind .right)))
+
+-- A step at u * i and u * j.
+pub record Stepped (u i j : ℕ) (p : ℕ × ℕ) : Type 0 where
+  pub next : Multiples u (p .0) (p .1)
+  pub made : Made i j (next .i) (next .j)
+
+module _ (u i j : ℕ) (up : 0 < u) (k : OneOdd i j) (apart : u * i ≡ u * j → ⊥) where
+  -- A multiple that is not halved is odd.
+  odd-is : (n : ℕ) → isEven u (u * n) ≡ false → n % 2 ≡ 1
+  odd-is n e =
+      let m = ap (λ (z : ℕ). z % 2) (mul-div-cancel-left n up) in
+      omega (arith, eqb-false (u * n / u % 2) 0 e)
+
+  even-is : (n : ℕ) → isEven u (u * n) ≡ true → n % 2 ≡ 0
+  even-is n e = ap (λ (z : ℕ). z % 2) (sym (mul-div-cancel-left n up)) ∙ eqb-true (u * n / u % 2) 0 e
+
+  half-is : (n : ℕ) → n % 2 ≡ 0 → u * n / 2 ≡ u * (n / 2)
+  half-is n e = mul-div-assoc 2 u (dvd-of-mod-eq-zero 2 e)
+
+  smaller : (m n : ℕ) → u * m < u * n → m < n
+  smaller m n l = ⊎-elim (λ (h : m < n). h) (λ (h : n ≤ m). absurd (omega (arith, mul-le-mul-left u h))) (lt-or-le m n)
+
+  pub stepped : Stepped u i j (step u (u * i) (u * j))
+  stepped =
+      step-cases u (u * i) (u * j) (Stepped u i j)
+      (λ e.
+      let h = even-is i e in
+      record {
+        next = record { i = i / 2; j = j; kind = record { left = omega arith; right = k .right; odd = omega arith }; left = half-is i h; right = refl };
+        made = made-halving h (omega arith);
+      })
+      (λ o e.
+      let x = odd-is i o in
+      let h = even-is j e in
+      record {
+        next = record { i = i; j = j / 2; kind = record { left = k .left; right = omega arith; odd = omega arith }; left = refl; right = half-is j h };
+        made = turned (made-halving h x);
+      })
+      (λ o e l.
+      let x = odd-is i o in
+      let y = odd-is j e in
+      let s = smaller j i l in
+      record {
+        next = record { i = i - j; j = j; kind = record { left = omega arith; right = k .right; odd = omega arith }; left = sym (mul-sub u i j); right = refl };
+        made = made-subtraction x y s;
+      })
+      (λ o e l.
+      let x = odd-is i o in
+      let y = odd-is j e in
+      let s = smaller i j (omega arith) in
+      record {
+        next = record { i = i; j = j - i; kind = record { left = k .left; right = omega arith; odd = omega arith }; left = refl; right = sym (mul-sub u j i) };
+        made = turned (made-subtraction y x s);
+      })
+
+-- THE LARGEST POWER OF TWO that divides both numbers is such a u.
+
 shares : (n a b : ℕ) → 0 < a → 0 < b → a + b ≤ n → Multiples (2 ^ commonTwosIn n a b) a b
 shares zero a b p q h = absurd (omega arith)
 shares (suc n) a b p q h =
     ⊎-elim
     (λ (o : 0 < a % 2 + b % 2).
-    rw (twos-none n a b o) (record { i = a; j = b; i-positive = p; j-positive = q; odd = o; left = sym (one-mul a); right = sym (one-mul b) }))
+    rw (twos-none n a b o) (record { i = a; j = b; kind = record { left = p; right = q; odd = o }; left = sym (one-mul a); right = sym (one-mul b) }))
     (λ (e : a % 2 + b % 2 ≤ 0).
     let m = shares n (a / 2) (b / 2) (omega arith) (omega arith) (omega arith) in
     rw (twos-more n a b (omega arith) (omega arith))
     (record {
       i = m .i;
       j = m .j;
-      i-positive = m .i-positive;
-      j-positive = m .j-positive;
-      odd = m .odd;
+      kind = m .kind;
       left = twice (commonTwosIn n (a / 2) (b / 2)) (m .i) (omega arith) (m .left);
       right = twice (commonTwosIn n (a / 2) (b / 2)) (m .j) (omega arith) (m .right);
     }))
@@ -168,11 +192,14 @@ shares (suc n) a b p q h =
     twice : {c : ℕ} (e k : ℕ) → c % 2 ≡ 0 → c / 2 ≡ 2 ^ e * k → c ≡ 2 ^ suc e * k
     twice {c} e k z l = omega (arith, ap (λ (d : ℕ). d * k) (pow-succ' 2 e), mul-assoc 2 (2 ^ e) k)
 
-module _ (x y : ℕ) (p : 0 < x) (q : 0 < y) where
-  pub common-is-power : IsPower (commonPower x y)
-  unfolding commonPower
-  common-is-power = (commonTwosIn (x + y) x y, refl)
+pub common-is-power : (x y : ℕ) → IsPower (commonPower x y)
+unfolding commonPower
+common-is-power x y = (commonTwosIn (x + y) x y, refl)
 
+pub common-positive : (x y : ℕ) → 0 < commonPower x y
+common-positive x y = let k = common-is-power x y in rw (k .1) (power-positive (k .0))
+
+module _ (x y : ℕ) (p : 0 < x) (q : 0 < y) where
   pub common-multiples : Multiples (commonPower x y) x y
   unfolding commonPower
   common-multiples = shares (x + y) x y p q (omega arith)
@@ -186,163 +213,113 @@ module _ (x y : ℕ) (p : 0 < x) (q : 0 < y) where
 
   pub common-largest : (e : ℕ) → 2 ^ e ∣ x → 2 ^ e ∣ y → 2 ^ e ≤ commonPower x y
   common-largest e l r =
-      let k = common-is-power in
       let m = common-multiples in
       ⊎-elim
-      (λ (h : k .0 < e).
-      let even : (c i : ℕ) → c ≡ commonPower x y * i → 2 ^ e ∣ c → i % 2 ≡ 0 = λ c i n d.
-      dvd-iff-mod-eq-zero 2 .0
-      (dvd-of-mul-dvd-mul-left {k = 2 ^ k .0} 2 (power-positive (k .0))
-      (subst (λ (z : ℕ). z ∣ 2 ^ k .0 * i) (pow-suc 2 (k .0))
-      (dvd-trans (2 ^ suc (k .0)) (power-divides h) (subst (λ (z : ℕ). 2 ^ e ∣ z) (n ∙ ap (λ (z : ℕ). z * i) (k .1)) d)))) in
-      absurd (omega (arith, even x (m .i) (m .left) l, even y (m .j) (m .right) r, m .odd)))
-      (λ (h : e ≤ k .0). rw (k .1) (pow-le-pow-right {n = 2} (omega arith) h))
-      (lt-or-le (k .0) e)
+      (λ (h : k < e). absurd (omega (arith, even h (m .i) (m .left) l, even h (m .j) (m .right) r, m .kind .odd)))
+      (λ (h : e ≤ k). rw is-power (pow-le-pow-right {n = 2} (omega arith) h))
+      (lt-or-le k e)
+    where
+      k : ℕ
+      k = common-is-power x y .0
+
+      is-power : commonPower x y ≡ 2 ^ k
+      is-power = common-is-power x y .1
+
+      even : {c : ℕ} → k < e → (n : ℕ) → c ≡ commonPower x y * n → 2 ^ e ∣ c → n % 2 ≡ 0
+      even {c} h n m d =
+          dvd-iff-mod-eq-zero 2 .0
+          (dvd-of-mul-dvd-mul-left {k = 2 ^ k} 2 (power-positive k)
+          (subst (λ (z : ℕ). z ∣ 2 ^ k * n) (pow-suc 2 k)
+          (dvd-trans (2 ^ suc k) (power-divides h) (subst (λ (z : ℕ). 2 ^ e ∣ z) (m ∙ ap (λ (z : ℕ). z * n) is-power) d))))
 
 -- THE NUMBER OF STEPS.
 
-step-more : (n u a b : ℕ) → (a ≡ b → ⊥) → stepsIn (suc n) u a b ≡ suc (stepsIn n u (step u a b .0) (step u a b .1))
+pub step-more : (n u a b : ℕ) → (a ≡ b → ⊥) → stepsIn (suc n) u a b ≡ suc (stepsIn n u (step u a b .0) (step u a b .1))
 unfolding stepsIn
 step-more n u a b h = cond-false (eqb a b) _ _ (ne-eqb a b h)
 
-step-none : (n u a b : ℕ) → a ≡ b → stepsIn n u a b ≡ 0
+pub step-none : (n u a b : ℕ) → a ≡ b → stepsIn n u a b ≡ 0
 unfolding stepsIn
 step-none zero u a b h = refl
 step-none (suc n) u a b h = cond-true (eqb a b) _ _ (eq-eqb a b h)
 
--- Where i * j is below 2 ^ (h + 1) there are at most h halvings, and as many subtractions, one less where one of the two
--- is even: then a halving comes first.
-module _ (i j : ℕ) (ip : 0 < i) (jp : 0 < j) (one : 1 ≤ i % 2 + j % 2) where
+-- A step at multiples of u, wherever they stand.
+pub stepped-at : {u a b : ℕ} → 0 < u → (m : Multiples u a b) → (a ≡ b → ⊥) → Stepped u (m .i) (m .j) (step u a b)
+stepped-at {u} up m apart =
+    rw (m .left, m .right) (stepped u (m .i) (m .j) up (m .kind) (λ e. apart (m .left ∙ e ∙ sym (m .right))))
+
+-- Where i * j is below 2 ^ (h + 1) there are at most h halvings, and as many subtractions; one less where one of the two
+-- is even, since a halving comes first.
+module _ (i j : ℕ) (k : OneOdd i j) where
   none-left : (h : ℕ) → i * j < 2 ^ suc h → 0 + 2 ≤ 2 * h + (i % 2 + j % 2)
-  none-left zero l = omega (arith, mul-le-mul-left i jp, mul-le-mul-right j ip, mul-one i, one-mul j)
+  none-left zero l = omega (arith, mul-le-mul-left i (k .right), mul-le-mul-right j (k .left), mul-one i, one-mul j)
   none-left (suc h) l = omega arith
 
-  -- The product that a step leaves, and what is left to do with it.
-  after : {i′ j′ : ℕ} (h k : ℕ) → Made i j i′ j′ → i * j < 2 ^ suc h
-      → ((g : ℕ) → i′ * j′ < 2 ^ suc g → k + 2 ≤ 2 * g + (i′ % 2 + j′ % 2)) → suc k + 2 ≤ 2 * h + (i % 2 + j % 2)
-  after {i′} {j′} h k m l rest =
-      ⊎-elim
-      (λ c. halving h l (c .0) (c .1))
-      (λ c. omega (arith, c .0, c .1, rest h (omega (arith, c .2))))
-      (m .cost)
+  -- One step, and s behind it.
+  one-more : {i′ j′ : ℕ} (h s : ℕ) → Made i j i′ j′ → OneOdd i′ j′ → i * j < 2 ^ suc h
+      → ((g : ℕ) → i′ * j′ < 2 ^ suc g → s + 2 ≤ 2 * g + (i′ % 2 + j′ % 2)) → suc s + 2 ≤ 2 * h + (i % 2 + j % 2)
+  one-more {i′} {j′} h s m o l rest =
+      ⊎-elim (λ c. halving h l (c .0) (c .1)) (λ c. omega (arith, c .0, c .1, rest h (omega (arith, c .2)))) (m .cost)
     where
-      halving : (h : ℕ) → i * j < 2 ^ suc h → i % 2 + j % 2 ≡ 1 → i′ * j′ * 2 ≡ i * j → suc k + 2 ≤ 2 * h + (i % 2 + j % 2)
-      halving zero l o e = absurd (omega (arith, mul-pos (m .left) (m .right)))
-      halving (suc g) l o e = omega (arith, rest g (omega (arith, pow-succ' 2 (suc g))))
+      halving : (h : ℕ) → i * j < 2 ^ suc h → i % 2 + j % 2 ≡ 1 → i′ * j′ * 2 ≡ i * j → suc s + 2 ≤ 2 * h + (i % 2 + j % 2)
+      halving zero l z e = absurd (omega (arith, mul-pos (o .left) (o .right)))
+      halving (suc g) l z e = omega (arith, rest g (omega (arith, pow-succ' 2 (suc g))))
 
-steps-below : (n u i j h : ℕ) → 0 < u → 0 < i → 0 < j → 1 ≤ i % 2 + j % 2 → i * j < 2 ^ suc h
-    → stepsIn n u (u * i) (u * j) + 2 ≤ 2 * h + (i % 2 + j % 2)
+steps-below : (n u a b h : ℕ) → 0 < u → (m : Multiples u a b) → m .i * m .j < 2 ^ suc h → stepsIn n u a b + 2 ≤ 2 * h + (m .i % 2 + m .j % 2)
 unfolding stepsIn
-steps-below zero u i j h up ip jp one l = none-left i j ip jp one h l
-steps-below (suc n) u i j h up ip jp one l =
+steps-below zero u a b h up m l = none-left (m .i) (m .j) (m .kind) h l
+steps-below (suc n) u a b h up m l =
     ⊎-elim
-    (λ (e : eqb (u * i) (u * j) ≡ true). rw (step-none (suc n) u (u * i) (u * j) (eqb-true (u * i) (u * j) e)) (none-left i j ip jp one h l))
-    (λ (e : eqb (u * i) (u * j) ≡ false).
-    let apart = eqb-false (u * i) (u * j) e in
-    let s = stepped u i j up ip jp one apart in
-    let m = s .made in
-    rw (step-more n u (u * i) (u * j) apart, s .left, s .right)
-    (after i j ip jp one h (stepsIn n u (u * s .i′) (u * s .j′)) m l
-    (λ g b. steps-below n u (s .i′) (s .j′) g up (m .left) (m .right) (m .odd) b)))
-    (bool-cases (eqb (u * i) (u * j)))
+    (λ (e : eqb a b ≡ true). rw (step-none (suc n) u a b (eqb-true a b e)) (none-left (m .i) (m .j) (m .kind) h l))
+    (λ (e : eqb a b ≡ false).
+    let s = stepped-at up m (eqb-false a b e) in
+    rw (step-more n u a b (eqb-false a b e))
+    (one-more (m .i) (m .j) (m .kind) h (stepsIn n u (step u a b .0) (step u a b .1)) (s .made) (s .next .kind) l
+    (λ g f. steps-below n u (step u a b .0) (step u a b .1) g up (s .next) f)))
+    (bool-cases (eqb a b))
 
--- "At most 100 of these together for each pair."
+-- As many as the two numbers together are enough.
+same-steps : (n k u a b : ℕ) → 0 < u → Multiples u a b → a + b ≤ n → a + b ≤ k → stepsIn n u a b ≡ stepsIn k u a b
+same-steps zero k u a b up m f g = absurd (omega (arith, multiples-positive up m .0))
+same-steps (suc n) zero u a b up m f g = absurd (omega (arith, multiples-positive up m .0))
+same-steps (suc n) (suc k) u a b up m f g =
+    ⊎-elim
+    (λ (e : eqb a b ≡ true). step-none (suc n) u a b (eqb-true a b e) ∙ sym (step-none (suc k) u a b (eqb-true a b e)))
+    (λ (e : eqb a b ≡ false).
+    let d = eqb-false a b e in
+    let o = multiples-positive up m in
+    let l = step-falls u a b (o .0) (o .1) d in
+    step-more n u a b d
+    ∙ ap suc (same-steps n k u (step u a b .0) (step u a b .1) up (stepped-at up m d .next) (omega arith) (omega arith))
+    ∙ sym (step-more k u a b d))
+    (bool-cases (eqb a b))
+
 module _ (x y : ℕ) (p : 0 < x) (q : 0 < y) where
-  power-up : 0 < commonPower x y
-  power-up = let k = common-is-power x y p q in rw (k .1) (power-positive (k .0))
+  pub steps-enough : (n : ℕ) → x + y ≤ n → stepsIn n (commonPower x y) x y ≡ steps x y
+  unfolding steps
+  steps-enough n h = same-steps n (x + y) (commonPower x y) x y (common-positive x y) (common-multiples x y p q) h (omega arith)
 
+  -- "At most 100 of these together for each pair."
   pub steps-most : x * y < 2 ^ 50 → steps x y ≤ mostSteps
   unfolding steps
   steps-most l =
-      let u = commonPower x y in
       let m = common-multiples x y p q in
-      let fits : m .i * m .j < 2 ^ suc 49 = omega (arith, l, mul-le-mul {n₁ = m .i} {m₁ = m .j} {n₂ = x} {m₂ = y} (whole (m .i) (m .left)) (whole (m .j) (m .right))) in
-      omega (arith, ap₂ (stepsIn (x + y) u) (m .left) (m .right), steps-below (x + y) u (m .i) (m .j) 49 power-up (m .i-positive) (m .j-positive) (m .odd) fits)
+      omega (
+        arith,
+        steps-below (x + y) (commonPower x y) x y 49 (common-positive x y) m
+            (omega (arith, mul-le-mul {n₁ = m .i} {m₁ = m .j} {n₂ = x} {m₂ = y} (whole (m .i) (m .left)) (whole (m .j) (m .right)))),
+      )
     where
       whole : {c : ℕ} (k : ℕ) → c ≡ commonPower x y * k → k ≤ c
-      whole k e = omega (arith, e, mul-le-mul-right k power-up, one-mul k)
+      whole k e = omega (arith, e, mul-le-mul-right k (common-positive x y), one-mul k)
 
 -- The pairs of a running multiple up to 100,000,000 and a period up to 10,000,000.
 pub steps-of-periods : (l p : ℕ) → 1 ≤ l → l ≤ 100000000 → 1 ≤ p → p ≤ 10000000 → steps l p ≤ mostSteps
 steps-of-periods l p a b c d = steps-most l p a c (omega (arith, mul-le-mul {n₁ = l} {m₁ = p} {n₂ = 100000000} {m₂ = 10000000} b d))
 
--- THE LOOP. At a and b, after s steps of those that x and y take.
-pub record Reached (x y a b s : ℕ) : Type 0 where
-  pub multiples : Multiples (commonPower x y) a b
-  pub same : commonPower x y * gcd (multiples .i) (multiples .j) ≡ gcd x y
-  pub n : ℕ
-  pub enough : a + b ≤ n
-  pub counted : s + stepsIn n (commonPower x y) a b ≡ steps x y
+-- TWO PAIRS, by computing.
 
-module _ (x y : ℕ) (p : 0 < x) (q : 0 < y) where
-  pub reached-start : Reached x y x y 0
-  unfolding steps
-  reached-start =
-      let m = common-multiples x y p q in
-      record { multiples = m; same = gcd-times (commonPower x y) (m .i) (m .j) ∙ ap₂ gcd (sym (m .left)) (sym (m .right)); n = x + y; enough = omega arith; counted = omega arith }
-
-  module _ {a b s : ℕ} (r : Reached x y a b s) where
-    pub reached-end : a ≡ b → (a ≡ gcd x y) × (s ≡ steps x y)
-    reached-end e =
-        let m = r .multiples in
-        let u = commonPower x y in
-        let k : m .i ≡ m .j = eq-of-mul-eq-mul-left u (power-up x y p q) (m .i) (m .j) (sym (m .left) ∙ e ∙ m .right) in (
-          m .left ∙ ap (λ (z : ℕ). u * z) (gcd-self (m .i) ∙ ap (gcd (m .i)) k) ∙ r .same,
-          omega (arith, r .counted, step-none (r .n) u a b e),
-        )
-
-    module _ (apart : a ≡ b → ⊥) where
-      -- The numbers that the definition's step makes.
-      abbrev a′ : ℕ
-      a′ = step (commonPower x y) a b .0
-
-      abbrev b′ : ℕ
-      b′ = step (commonPower x y) a b .1
-
-      here : Stepped (commonPower x y) (r .multiples .i) (r .multiples .j) (step (commonPower x y) a b)
-      here =
-          let m = r .multiples in
-          rw (m .left, m .right)
-          (stepped (commonPower x y) (m .i) (m .j) (power-up x y p q) (m .i-positive) (m .j-positive) (m .odd) (λ e. apart (m .left ∙ e ∙ sym (m .right))))
-
-      falls : a′ + b′ < a + b
-      falls = omega (arith, here .less, r .multiples .left, r .multiples .right)
-
-      to-come : (n : ℕ) → a + b ≤ n → s + stepsIn n (commonPower x y) a b ≡ steps x y
-          → (k : ℕ) × (a′ + b′ ≤ k) × (suc s + stepsIn k (commonPower x y) a′ b′ ≡ steps x y)
-      to-come zero h c = absurd (omega (arith, falls))
-      to-come (suc n) h c = (n, omega (arith, falls), omega (arith, step-more n (commonPower x y) a b apart))
-
-      next : Reached x y a′ b′ (suc s)
-      next =
-          let t = here in
-          let m = t .made in
-          let o = to-come (r .n) (r .enough) (r .counted) in
-          record {
-            multiples = record { i = t .i′; j = t .j′; i-positive = m .left; j-positive = m .right; odd = m .odd; left = t .left; right = t .right };
-            same = ap (λ (z : ℕ). commonPower x y * z) (m .same) ∙ r .same;
-            n = o .0;
-            enough = o .1;
-            counted = o .2;
-          }
-
-      -- A further step is one of those that x and y take.
-      pub reached-before : s < steps x y
-      reached-before = omega (arith, next .counted)
-
-      -- What a step of the code leaves, where its u is the largest power of two that divides both.
-      module _ {u : ℕ} (h : u ≡ commonPower x y) {c d : ℕ} (e : (c, d) ≡ step u a b) where
-        is-step : (c, d) ≡ step (commonPower x y) a b
-        is-step = e ∙ ap (λ (z : ℕ). step z a b) h
-
-        pub reached-falls : c + d < a + b
-        reached-falls = omega (arith, falls, ap (λ (z : ℕ × ℕ). z .0) is-step, ap (λ (z : ℕ × ℕ). z .1) is-step)
-
-        pub reached-next : {t : ℕ} → t ≡ suc s → Reached x y c d t
-        reached-next m = rw (ap (λ (z : ℕ × ℕ). z .0) is-step, ap (λ (z : ℕ × ℕ). z .1) is-step, m) next
-
--- TWO PAIRS, by computing. For large numbers run stops where the steps do; stepsIn would be unfolded as often as its first
--- number says.
+-- For large numbers run stops where the steps do; stepsIn would be unfolded as often as its first number says.
 run : ℕ → ℕ → ℕ → ℕ → ℕ
 run zero u a b = 0
 run (suc n) u zero b = stepsIn (suc n) u zero b

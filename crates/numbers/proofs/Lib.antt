@@ -4,6 +4,7 @@ pub mod Sums
 pub mod Divisors
 pub mod Bits
 pub mod Halving
+pub mod Reached
 pub mod Multiples
 pub mod Powers
 pub mod Search
