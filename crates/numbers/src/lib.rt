@@ -55,13 +55,13 @@ fn halve(n: u64, steps: u32) -> Counted
 }
 
 // A subtraction, counted.
-fn subtract(larger: u64, smaller: u64, steps: u32) -> Counted
-    requires { ⌜ (smaller ≤ larger) × (steps < mostSteps) ⌝ }
-    ensures { λ r. ⌜ (r .number ≡ larger - smaller) × (r .steps ≡ suc steps) ⌝ }
+fn subtract(larger: u64, smaller: u64, made: u32) -> Counted
+    requires { ⌜ (smaller ≤ larger) × (made < mostSteps) ⌝ }
+    ensures { λ r. ⌜ (r .number ≡ larger - smaller) × (r .steps ≡ suc made) ⌝ }
 {
     Counted {
         number: larger - smaller,
-        steps: steps + 1,
+        steps: made + 1,
     }
 }
 
@@ -72,7 +72,8 @@ struct Pair {
     steps: u32,
 }
 
-// One step: the number that is an even multiple of u is halved; where neither is, the smaller is subtracted from the larger.
+// One step: the number that is an even multiple of u is halved; where neither is, the smaller is subtracted from the
+// larger.
 fn step(u: u64, p: Pair) -> Pair
     requires { ⌜ IsPower u × (p .steps < mostSteps) ⌝ }
     ensures { λ r. ⌜ ((r .a, r .b) ≡ step u (p .a) (p .b)) × (r .steps ≡ suc (p .steps)) ⌝ }
@@ -115,8 +116,8 @@ pub struct Divisor {
     pub steps: u32,
 }
 
-// The greatest common divisor, by halving and subtracting alone. Twos that both numbers have stay in: u, a power of two, is
-// what both are multiples of, and a number is halved only while it is an even multiple.
+// The greatest common divisor, by halving and subtracting alone. Twos that both numbers have stay in: both are multiples
+// of u throughout, and one is halved only while it is an even multiple.
 pub fn common_divisor(x: u64, y: u64) -> Divisor
     requires { ⌜ (0 < x) × (0 < y) × (x * y < 2 ^ 50) ⌝ }
     ensures { λ r. ⌜ (r .value ≡ gcd x y) × (r .steps ≡ steps x y) × (r .steps ≤ mostSteps) ⌝ }
