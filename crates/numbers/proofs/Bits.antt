@@ -9,7 +9,8 @@ use native.Mathlib.Omega.{arith}
 use lib.Dec.{eqb}
 use lib.Bits.{bitAnd, bitOr, and-step, or-step, or-lt, or-add-and, and-le-r, and-high}
 use borrow.Author.Tests.{eqb-true, eqb-false, eq-eqb, ne-eqb}
-use Rattle.numbers.specs.Halving.{commonTwosIn, commonPower, isEven, IsPower}
+use Rattle.numbers.specs.Halving.{commonTwosIn, commonPower, isEven}
+use Rattle.numbers.specs.Steps.{IsPower}
 use Rattle.numbers.proofs.Tests.{bool-cases, and-true, cond-true, cond-false, lt-or-le}
 use Rattle.numbers.proofs.Powers.{power-positive}
 

@@ -12,7 +12,8 @@ use native.Mathlib.Omega.{arith}
 use lib.Dec.{eqb, ltb}
 use borrow.Author.Tests.{eqb-true, eqb-false, lt-ltb, le-ltb, eq-eqb, ne-eqb}
 use Rattle.numbers.specs.Numbers.{gcd}
-use Rattle.numbers.specs.Halving.{commonTwosIn, commonPower, isEven, step, stepsIn, steps, mostSteps, IsPower}
+use Rattle.numbers.specs.Halving.{commonTwosIn, commonPower, isEven, step, stepsIn, steps, mostSteps}
+use Rattle.numbers.specs.Steps.{IsPower}
 use Rattle.numbers.proofs.Tests.{bool-cases, cond-true, cond-false, lt-or-le}
 use Rattle.numbers.proofs.Powers.{power-positive, power-divides}
 use Rattle.numbers.proofs.Divisors.{gcd-comm, gcd-less, gcd-half}

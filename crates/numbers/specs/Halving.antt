@@ -1,8 +1,7 @@
 -- Document 02, note 3: "Work out the greatest common divisor by halving and subtracting alone, at most 100 of these
 -- together for each pair." What one of these does, and how many a pair takes. That they end at the greatest common
 -- divisor, and that 100 are enough, are theorems (proofs/Halving.antt).
-use Prim.Native.Nat.{ℕ, zero, suc, _+_, _-_, _*_, _/_, _%_, _^_}
-use mathlib.Core.Path.{_≡_}
+use Prim.Native.Nat.{ℕ, zero, suc, _+_, _-_, _/_, _%_, _^_}
 use mathlib.Core.Bool.{Bool, cond, _&&_}
 use lib.Dec.{eqb, ltb}
 
@@ -36,7 +35,3 @@ steps a b = stepsIn (a + b) (commonPower a b) a b
 -- "At most 100".
 abbrev pub mostSteps : ℕ
 mostSteps = 100
-
--- u is a power of two.
-abbrev pub IsPower : ℕ → Type 0
-IsPower u = (k : ℕ) × (u ≡ 2 ^ k)

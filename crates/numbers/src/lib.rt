@@ -4,7 +4,8 @@
 ghost use mathlib.Core.Path.{_≡_};
 ghost use Prim.Native.Nat.{suc, _-_, _*_, _/_, _^_, _≤_, _<_, min};
 ghost use Rattle.numbers.specs.Numbers.{between, gcd, LeastPower};
-ghost use Rattle.numbers.specs.Halving.{commonPower, isEven, step, steps, mostSteps, IsPower};
+ghost use Rattle.numbers.specs.Halving.{commonPower, isEven, step, steps, mostSteps};
+ghost use Rattle.numbers.specs.Steps.{IsPower};
 
 // Whether w is low to high.
 pub fn is_between(low: u64, high: u64, w: u64) -> bool
