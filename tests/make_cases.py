@@ -165,6 +165,11 @@ SENTENCES = {
         'r-chip-xscale-1-before-9-line-end r-chip-ppc405lp-1-before-9-cut r-chip-xscale-9-lent-0 '
         'r-chip-xscale-9-lent-21 r-chip-xscale-6-lent-21 r-chip-xscale-6-lent-22 '
         'a-chip-xscale-slack-0-and-9 a-chip-ppc405lp-9-before-4',
+
+    'Note 3: The hyper-period is as it was for every list':
+        'pair-4194304-2 pair-6250000-32 pairs-by-twos pairs-by-twos-down pairs-by-threes',
+    'Note 3: and the place given by refusal 4':
+        'pair-8388607-8388608 pair-8388608-8388607 pairs-by-twos-and-3 pairs-by-threes-and-2',
 }
 
 
@@ -172,7 +177,8 @@ SENTENCES = {
 
 def make():
     for group in (checks.document, checks.ranges, checks.lengths, checks.odd_lists,
-                  checks.bad_counts, checks.rising_rates, checks.hyper_periods, walk.bad_plans,
+                  checks.bad_counts, checks.rising_rates, checks.hyper_periods, checks.halved_pairs,
+                  walk.bad_plans,
                   walk.one_task, walk.loads, walk.ties, walk.late_tasks, walk.preemptions,
                   walk.many_tasks, checks.random_records, planner.planner_document,
                   planner.planner_checks, planner.planner_lengths, planner.planner_loads,

@@ -347,6 +347,58 @@ def hyper_periods():
     walk('10000000-and-bad-plan', with_periods((10_000_000,)), [3], refused(8, 0))
 
 
+def halved_pairs():
+    """Document 02's note 3: hyper-periods and the place of refusal 4 are as they were.
+
+    The running multiple and the period are pairs for a way that halves and
+    subtracts: many twos in one or in both, pairs that take most steps, pairs
+    that are equal or one divides the other. Catches a common two that is lost
+    or taken out, an odd factor that is lost, and a way that stops early.
+    """
+    def pair(l, p, M=2):
+        check('pair-%d-%d' % (l, p), with_periods((l, p), M))
+
+    # One less than a power of two beside powers of two, up to the pair of most steps
+    # within 10,000,000; and the same with twos in common.
+    for e in range(1, 24):
+        pair(2 ** e - 1, 2 ** e)
+        pair(2 ** e, 2 ** e - 1)
+        pair(2 ** e, 2 ** (23 - e))
+        if e < 22:
+            pair(2 ** (23 - e) - 4, 2 ** (23 - e))
+            pair(2 ** e * 3, 2 ** (21 - e) * 3)
+    # Others that take many steps: 61 to 66 of at most 100.
+    for l, p in ((8_388_607, 4_194_304), (7_340_029, 6_291_456), (7_864_313, 7_340_032),
+                 (9_207_248, 9_999_999), (9_573_907, 10_000_000)):
+        pair(l, p)
+        pair(p, l)
+    # One divides the other, and neither; twos in the quotient or in the divisor.
+    for l, p in ((9_000_000, 3), (9_437_184, 9), (9_437_184, 18), (9_437_184, 7), (7_077_888, 27),
+                 (6_250_000, 16), (6_250_000, 32), (6_250_000, 10_000_000), (9_765_625, 1_024),
+                 (3_145_728, 3), (3_145_728, 9), (5_242_880, 10), (5_242_880, 3_276_800)):
+        pair(l, p, 3)
+        pair(p, l, 3)
+    # A multiple that grows by one two, or by one odd factor, at each task.
+    check('pairs-by-twos', with_periods([2 ** e for e in range(24)]), good(2, 24, 8_388_608))
+    check('pairs-by-twos-down', with_periods([2 ** e for e in range(23, -1, -1)]),
+          good(2, 24, 8_388_608))
+    check('pairs-by-twos-and-3', with_periods([2 ** e for e in range(24)] + [3]),
+          refused(4, period_of(2, 25)))
+    check('pairs-by-threes', with_periods([3 ** e for e in range(15)]), good(2, 15, 4_782_969))
+    check('pairs-by-threes-and-2', with_periods([3 ** e for e in range(15)] + [2, 4]),
+          refused(4, period_of(2, 17)))
+    draw = Draw(SEED + 3)
+    for number in range(1, 201):
+        both_have = 2 ** draw.between(0, 12) * draw.one_of([1, 1, 3, 5, 7, 9, 11, 45, 105])
+        most = 10_000_000 // both_have
+        left = draw.between(1, draw.one_of([40, 1_000, most]))
+        right = draw.between(1, draw.one_of([40, max(40, 20_000_000 // both_have // left), most]))
+        periods = [both_have * min(left, most), both_have * min(right, most)]
+        if draw.between(1, 3) == 1:
+            periods.append(2 ** draw.between(0, 23))
+        check('pairs-%03d' % number, with_periods(periods, draw.one_of([2, 2, 3])))
+
+
 # ------------------------------------------------------------- random records
 
 def some_periods(draw):
