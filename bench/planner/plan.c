@@ -1,5 +1,5 @@
 /* The planner in plain C, as the measure for the archive's planner: the same
-   checks in the same order, the same table, the same way back.
+   checks in the same order (../checks.h), the same table, the same way back.
 
    Options stand by task and rate number, task t (from 0) at rate number r
    (from 1) at t * 16 + r. Loads are cut at L + 1, which stands for 'none', so
@@ -11,6 +11,8 @@
 #include <stddef.h>
 #include <stdint.h>
 
+#include "../checks.h"
+
 #ifndef PLANNER
 #define PLANNER plain_plan
 #endif
@@ -18,7 +20,6 @@
 #define MOST_TASKS 32
 #define STRIDE 16
 #define OPTIONS (MOST_TASKS * STRIDE)
-#define LONGEST 10000000u
 #define RESULT_BYTES 32
 
 struct problem {
@@ -31,83 +32,6 @@ struct problem {
 
 uint64_t PLANNER(const uint32_t *set, size_t set_len, uint32_t *plan, size_t plan_len,
                  uint32_t *work, size_t work_len, uint8_t *results, size_t results_len);
-
-static uint64_t refusal(uint64_t number, uint64_t second)
-{
-    return number << 32 | second;
-}
-
-/* Check 2: the range of the word at a place, found from the words before it. */
-static int in_range(const uint32_t *set, size_t at)
-{
-    uint32_t word = set[at], high, low = 1;
-
-    if (at == 0) {
-        high = 1000;
-    } else if (at == 1) {
-        low = 2;
-        high = 8;
-    } else if (at < 2 + (size_t)set[1]) {
-        high = 1000000;
-    } else if (at == 2 + (size_t)set[1]) {
-        high = 32;
-    } else {
-        size_t rates = set[1], k = at - (3 + rates);
-        if (k / (2 + rates) >= set[2 + rates])
-            return 0;                   /* left over */
-        k %= 2 + rates;
-        high = k == 0 ? 10000000 : k == 1 ? 4000000000u : 1000000;
-    }
-    return low <= word && word <= high;
-}
-
-static uint64_t check_words(const uint32_t *set, size_t set_len)
-{
-    size_t rates;
-
-    for (size_t at = 0; at < set_len; at++)
-        if (!in_range(set, at))
-            return refusal(2, at);
-    if (set_len < 2)
-        return refusal(2, set_len);
-    rates = set[1];
-    if (set_len < 3 + rates || set_len < 3 + rates + set[2 + rates] * (2 + rates))
-        return refusal(2, set_len);
-    return 0;
-}
-
-static uint64_t check_rates(const uint32_t *set)
-{
-    for (size_t at = 3; at < 2 + (size_t)set[1]; at++)
-        if (set[at] <= set[at - 1])
-            return refusal(3, at);
-    return 0;
-}
-
-static uint32_t common_divisor(uint32_t a, uint32_t b)
-{
-    while (b != 0) {
-        uint32_t rest = a % b;
-        a = b;
-        b = rest;
-    }
-    return a;
-}
-
-static uint64_t check_span(const uint32_t *set, uint32_t *span)
-{
-    size_t rates = set[1], at = 3 + rates;
-    uint32_t tasks = set[2 + rates];
-    uint64_t running = 1;
-
-    for (uint32_t t = 0; t < tasks; t++, at += 2 + rates) {
-        running = running / common_divisor((uint32_t)running, set[at]) * set[at];
-        if (running > LONGEST)
-            return refusal(4, at);
-    }
-    *span = (uint32_t)running;
-    return 0;
-}
 
 static void fill_options(struct problem *p, const uint32_t *set)
 {
@@ -187,8 +111,7 @@ uint64_t PLANNER(const uint32_t *set, size_t set_len, uint32_t *plan, size_t pla
     uint32_t power = 0;
     size_t needed, columns, k;
 
-    if ((refused = check_words(set, set_len)) != 0 || (refused = check_rates(set)) != 0
-        || (refused = check_span(set, &p.span)) != 0)
+    if ((refused = check_set(set, set_len, common_divisor, &p.span)) != 0)
         return refused;
     p.slack = set[0];
     p.rates = set[1];
