@@ -10,3 +10,29 @@ need() {
         exit 1
     fi
 }
+
+# build_entries PLACE FOLDER CRATE DEP..: builds an archive of entries that the product's has not, for one benchmark, and
+# sets `archive` to where it is. A copy of the crates in PLACE/tree gets CRATE, made of FOLDER and building on each DEP.
+# FOLDER's files end in .in, since rt refuses Rattle files that no crate of the repository has. What is proved already is
+# taken over, not proved again.
+build_entries() {
+    local tree=$1/tree folder=$2 crate=$3 file
+    shift 3
+    need rt "the command of the Rattle kit, which builds the archive"
+    rt check "$@"
+    rm -rf "$tree"
+    mkdir -p "$tree/target"
+    cp -R crates crates.txt "$tree"
+    cp -R target/rlib target/stamp "$tree/target"
+    cp -R "$folder" "$tree/crates/$crate"
+    find "$tree/crates/$crate" -name '*.in' | while IFS= read -r file; do
+        mv "$file" "${file%.in}"
+    done
+    echo "$crate: $*" >>"$tree/crates.txt"
+    (cd "$tree" && rt staticlib "$crate")
+    archive=$tree/target/staticlib/lib$crate.a
+    if [ ! -f "$archive" ]; then
+        echo "bench: rt staticlib $crate left no $archive" >&2
+        exit 1
+    fi
+}
