@@ -351,23 +351,28 @@ def halved_pairs():
     """Document 02's note 3: hyper-periods and the place of refusal 4 are as they were.
 
     The running multiple and the period are pairs for a way that halves and
-    subtracts: many twos in one or in both, pairs that take most steps, pairs
-    that are equal or one divides the other. Catches a common two that is lost
-    or taken out, an odd factor that is lost, and a way that stops early.
+    subtracts: many twos in one or in both, pairs that take many steps, pairs
+    that are equal or of which one divides the other. Catches a common two that
+    is lost or taken out, an odd factor that is lost, and a way that stops before
+    its 44th step; no pair that stays within 10,000,000 takes more.
     """
     def pair(l, p, M=2):
         check('pair-%d-%d' % (l, p), with_periods((l, p), M))
 
     # One less than a power of two beside powers of two, up to the pair of most steps
-    # within 10,000,000; and the same with twos in common.
+    # within 10,000,000; the same with twos in common; equal ones, and 1 beside them.
     for e in range(1, 24):
         pair(2 ** e - 1, 2 ** e)
         pair(2 ** e, 2 ** e - 1)
         pair(2 ** e, 2 ** (23 - e))
-        if e < 22:
+        if e < 21:
             pair(2 ** (23 - e) - 4, 2 ** (23 - e))
+        if e < 22:
             pair(2 ** e * 3, 2 ** (21 - e) * 3)
-    # Others that take many steps: 61 to 66 of at most 100.
+        if e > 1:
+            pair(2 ** e - 1, 1)
+            pair(2 ** e - 1, 2 ** e - 1)
+    # Others that take many steps: 60 to 66 of at most 100.
     for l, p in ((8_388_607, 4_194_304), (7_340_029, 6_291_456), (7_864_313, 7_340_032),
                  (9_207_248, 9_999_999), (9_573_907, 10_000_000)):
         pair(l, p)

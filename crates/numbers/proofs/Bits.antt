@@ -1,8 +1,8 @@
 -- What two operations on bits give: the lowest bit that is set in one of two numbers, and one bit of a number.
 -- Assumes nothing.
-use Prim.Native.Nat.{ℕ, zero, suc, _+_, _-_, _*_, _/_, _%_, _^_, _≤_, _<_, min, max}
+use Prim.Native.Nat.{ℕ, zero, suc, _+_, _-_, _*_, _/_, _%_, _^_, _≤_, _<_, min}
 use mathlib.Core.Path.{_≡_, refl, sym, ap, _∙_}
-use mathlib.Core.Bool.{Bool, true, false, cond, _&&_}
+use mathlib.Core.Bool.{Bool, true, false, _&&_}
 use mathlib.Core.Logic.{⊎-elim}
 use native.Mathlib.Nat.{pow-suc, pow-succ', zero-mul, one-mul}
 use native.Mathlib.Omega.{arith}
@@ -10,7 +10,7 @@ use lib.Dec.{eqb}
 use lib.Bits.{bitAnd, bitOr, and-step, or-step, or-lt, or-add-and, and-le-r, and-high}
 use borrow.Author.Tests.{eqb-true, eqb-false, eq-eqb, ne-eqb}
 use Rattle.numbers.specs.Halving.{commonTwosIn, commonPower, isEven}
-use Rattle.numbers.specs.Steps.{IsPower}
+use Rattle.numbers.specs.Power.{IsPower}
 use Rattle.numbers.proofs.Tests.{bool-cases, and-true, cond-true, cond-false, lt-or-le}
 use Rattle.numbers.proofs.Powers.{power-positive}
 
@@ -100,7 +100,7 @@ module _ (x y : ℕ) (p : 0 < x) (hx : x < 2 ^ 64) (hy : y < 2 ^ 64) where
       rw e (lowest-is 64 (x + y) x y hx hy (omega arith) (omega arith))
 
 -- A bit of a number is 0 where the number holds its power of two an even number of times.
-pub bit-is : (u n : ℕ) → IsPower u → bitAnd n u ≡ n / u % 2 * u
+bit-is : (u n : ℕ) → IsPower u → bitAnd n u ≡ n / u % 2 * u
 bit-is u n (k, e) =
     let p = pow-succ' 2 k in
     let o : 1 + k ≡ suc k = omega arith in

@@ -1,7 +1,7 @@
 -- The greatest common divisor and the least common multiple are what their names say.
 -- Assumes nothing.
 use Prim.Native.Nat.{ℕ, zero, suc, _+_, _-_, _*_, _/_, _%_, _≤_, _<_, _∣_}
-use mathlib.Core.Path.{_≡_, refl, sym, ap, ap₂, _∙_, subst}
+use mathlib.Core.Path.{_≡_, sym, ap, ap₂, _∙_, subst}
 use native.Mathlib.Omega.{arith}
 use native.Mathlib.Nat.{dvd-refl, dvd-zero, dvd-antisymm, dvd-mul-left, dvd-mul-right, dvd-mod-iff, dvd-add-iff-right, dvd-mul-right-of-dvd, dvd-mul-left-of-dvd, dvd-sub-iff-left, mul-dvd-mul-left, mul-dvd-mul-right, dvd-of-mul-dvd-mul-left, mod-lt, pos-of-dvd-of-pos, div-mul-cancel, mul-div-cancel', mul-assoc, mul-comm, mul-add, div-add-mod, mul-pos, one-mul, mul-one}
 use Rattle.numbers.specs.Numbers.{gcdIn, gcd, lcm}

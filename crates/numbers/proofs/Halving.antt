@@ -4,16 +4,16 @@
 -- halving, so there are no more subtractions than halvings.
 -- Assumes nothing.
 use Prim.Native.Nat.{ℕ, zero, suc, _+_, _-_, _*_, _/_, _%_, _^_, _≤_, _<_, _∣_}
-use mathlib.Core.Path.{_≡_, refl, sym, ap, ap₂, _∙_, subst}
+use mathlib.Core.Path.{_≡_, refl, sym, ap, _∙_, subst}
 use mathlib.Core.Bool.{true, false, cond}
 use mathlib.Core.Logic.{_⊎_, inl, inr, ⊎-elim}
-use native.Mathlib.Nat.{one-mul, mul-one, mul-assoc, mul-comm, mul-pos, mul-sub, mul-le-mul, mul-le-mul-left, mul-le-mul-right, mul-div-cancel-left, mul-div-assoc, pow-suc, pow-succ', pow-le-pow-right, dvd-mul-right, dvd-trans, dvd-iff-mod-eq-zero, dvd-of-mod-eq-zero, dvd-of-mul-dvd-mul-left}
+use native.Mathlib.Nat.{one-mul, mul-one, mul-assoc, mul-comm, mul-pos, mul-sub, mul-le-mul, mul-le-mul-left, mul-le-mul-right, lt-of-mul-lt-mul-left, mul-div-cancel-left, mul-div-assoc, pow-suc, pow-succ', pow-le-pow-right, dvd-mul-right, dvd-trans, dvd-iff-mod-eq-zero, dvd-of-mod-eq-zero, dvd-of-mul-dvd-mul-left}
 use native.Mathlib.Omega.{arith}
 use lib.Dec.{eqb, ltb}
 use borrow.Author.Tests.{eqb-true, eqb-false, lt-ltb, le-ltb, eq-eqb, ne-eqb}
 use Rattle.numbers.specs.Numbers.{gcd}
 use Rattle.numbers.specs.Halving.{commonTwosIn, commonPower, isEven, step, stepsIn, steps, mostSteps}
-use Rattle.numbers.specs.Steps.{IsPower}
+use Rattle.numbers.specs.Power.{IsPower}
 use Rattle.numbers.proofs.Tests.{bool-cases, cond-true, cond-false, lt-or-le}
 use Rattle.numbers.proofs.Powers.{power-positive, power-divides}
 use Rattle.numbers.proofs.Divisors.{gcd-comm, gcd-less, gcd-half}
@@ -134,9 +134,6 @@ module _ (u i j : ℕ) (up : 0 < u) (k : OneOdd i j) (apart : u * i ≡ u * j �
   half-is : (n : ℕ) → n % 2 ≡ 0 → u * n / 2 ≡ u * (n / 2)
   half-is n e = mul-div-assoc 2 u (dvd-of-mod-eq-zero 2 e)
 
-  smaller : (m n : ℕ) → u * m < u * n → m < n
-  smaller m n l = ⊎-elim (λ (h : m < n). h) (λ (h : n ≤ m). absurd (omega (arith, mul-le-mul-left u h))) (lt-or-le m n)
-
   pub stepped : Stepped u i j (step u (u * i) (u * j))
   stepped =
       step-cases u (u * i) (u * j) (Stepped u i j)
@@ -156,7 +153,7 @@ module _ (u i j : ℕ) (up : 0 < u) (k : OneOdd i j) (apart : u * i ≡ u * j �
       (λ o e l.
       let x = odd-is i o in
       let y = odd-is j e in
-      let s = smaller j i l in
+      let s = lt-of-mul-lt-mul-left u l in
       record {
         next = record { i = i - j; j = j; kind = record { left = omega arith; right = k .right; odd = omega arith }; left = sym (mul-sub u i j); right = refl };
         made = made-subtraction x y s;
@@ -164,7 +161,7 @@ module _ (u i j : ℕ) (up : 0 < u) (k : OneOdd i j) (apart : u * i ≡ u * j �
       (λ o e l.
       let x = odd-is i o in
       let y = odd-is j e in
-      let s = smaller i j (omega arith) in
+      let s = lt-of-mul-lt-mul-left u {m = i} {n = j} (omega arith) in
       record {
         next = record { i = i; j = j - i; kind = record { left = k .left; right = omega arith; odd = omega arith }; left = refl; right = sym (mul-sub u j i) };
         made = turned (made-subtraction y x s);
@@ -206,11 +203,11 @@ module _ (x y : ℕ) (p : 0 < x) (q : 0 < y) where
   common-multiples = shares (x + y) x y p q (omega arith)
 
   -- It divides both, and no larger power of two does.
-  pub common-left : commonPower x y ∣ x
-  common-left = let m = common-multiples in subst (λ (z : ℕ). commonPower x y ∣ z) (sym (m .left)) (dvd-mul-right (commonPower x y) (m .i))
-
-  pub common-right : commonPower x y ∣ y
-  common-right = let m = common-multiples in subst (λ (z : ℕ). commonPower x y ∣ z) (sym (m .right)) (dvd-mul-right (commonPower x y) (m .j))
+  pub common-divides : (commonPower x y ∣ x) × (commonPower x y ∣ y)
+  common-divides = let m = common-multiples in (divides (m .i) (m .left), divides (m .j) (m .right))
+    where
+      divides : {c : ℕ} (k : ℕ) → c ≡ commonPower x y * k → commonPower x y ∣ c
+      divides k e = rw e (dvd-mul-right (commonPower x y) k)
 
   pub common-largest : (e : ℕ) → 2 ^ e ∣ x → 2 ^ e ∣ y → 2 ^ e ≤ commonPower x y
   common-largest e l r =
@@ -280,7 +277,7 @@ steps-below (suc n) u a b h up m l =
     (bool-cases (eqb a b))
 
 -- As many as the two numbers together are enough.
-same-steps : (n k u a b : ℕ) → 0 < u → Multiples u a b → a + b ≤ n → a + b ≤ k → stepsIn n u a b ≡ stepsIn k u a b
+pub same-steps : (n k u a b : ℕ) → 0 < u → Multiples u a b → a + b ≤ n → a + b ≤ k → stepsIn n u a b ≡ stepsIn k u a b
 same-steps zero k u a b up m f g = absurd (omega (arith, multiples-positive up m .0))
 same-steps (suc n) zero u a b up m f g = absurd (omega (arith, multiples-positive up m .0))
 same-steps (suc n) (suc k) u a b up m f g =

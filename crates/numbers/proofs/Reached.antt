@@ -1,20 +1,18 @@
 -- The loop of common_divisor: at a and b, after s of the steps that x and y take.
 -- Assumes nothing.
-use Prim.Native.Nat.{ℕ, zero, suc, _+_, _*_, _≤_, _<_}
+use Prim.Native.Nat.{ℕ, suc, _+_, _*_, _<_}
 use mathlib.Core.Path.{_≡_, sym, ap, ap₂, _∙_}
 use native.Mathlib.Nat.{eq-of-mul-eq-mul-left}
 use native.Mathlib.Omega.{arith}
 use Rattle.numbers.specs.Numbers.{gcd}
 use Rattle.numbers.specs.Halving.{commonPower, step, stepsIn, steps}
 use Rattle.numbers.proofs.Divisors.{gcd-self, gcd-times}
-use Rattle.numbers.proofs.Halving.{Multiples, multiples-positive, Stepped, stepped-at, step-falls, step-more, step-none, common-positive, common-multiples}
+use Rattle.numbers.proofs.Halving.{Multiples, multiples-positive, stepped-at, step-falls, step-more, step-none, same-steps, common-positive, common-multiples}
 
 pub record Reached (x y a b s : ℕ) : Type 0 where
   pub multiples : Multiples (commonPower x y) a b
   pub same : commonPower x y * gcd (multiples .i) (multiples .j) ≡ gcd x y
-  pub left : ℕ
-  pub enough : a + b ≤ left
-  pub counted : s + stepsIn left (commonPower x y) a b ≡ steps x y
+  pub counted : s + stepsIn (a + b) (commonPower x y) a b ≡ steps x y
 
 pub reached-start : (x y : ℕ) → 0 < x → 0 < y → Reached x y x y 0
 unfolding steps
@@ -23,8 +21,6 @@ reached-start x y p q =
     record {
       multiples = m;
       same = gcd-times (commonPower x y) (m .i) (m .j) ∙ ap₂ gcd (sym (m .left)) (sym (m .right));
-      left = x + y;
-      enough = omega arith;
       counted = omega arith;
     }
 
@@ -35,7 +31,7 @@ module _ {x y a b s : ℕ} (r : Reached x y a b s) where
       let u = commonPower x y in
       let k : m .i ≡ m .j = eq-of-mul-eq-mul-left u (common-positive x y) (m .i) (m .j) (sym (m .left) ∙ e ∙ m .right) in (
         m .left ∙ ap (λ (z : ℕ). u * z) (gcd-self (m .i) ∙ ap (gcd (m .i)) k) ∙ r .same,
-        omega (arith, r .counted, step-none (r .left) u a b e),
+        omega (arith, r .counted, step-none (a + b) u a b e),
       )
 
   module _ (apart : a ≡ b → ⊥) where
@@ -52,23 +48,22 @@ module _ {x y a b s : ℕ} (r : Reached x y a b s) where
     abbrev b′ : ℕ
     b′ = step (commonPower x y) a b .1
 
-    to-come : (n : ℕ) → a + b ≤ n → s + stepsIn n (commonPower x y) a b ≡ steps x y
-        → (k : ℕ) × (a′ + b′ ≤ k) × (suc s + stepsIn k (commonPower x y) a′ b′ ≡ steps x y)
-    to-come zero h c = absurd (omega (arith, multiples-positive (common-positive x y) (r .multiples) .0))
-    to-come (suc n) h c =
-        let o = multiples-positive (common-positive x y) (r .multiples) in
-        (n, omega (arith, step-falls (commonPower x y) a b (o .0) (o .1) apart), omega (arith, step-more n (commonPower x y) a b apart))
-
     next : Reached x y a′ b′ (suc s)
     next =
         let t = stepped-at (common-positive x y) (r .multiples) apart in
-        let o = to-come (r .left) (r .enough) (r .counted) in
+        let u = commonPower x y in
+        let f = common-positive x y in
+        let o = multiples-positive f (r .multiples) in
         record {
           multiples = t .next;
           same = ap (λ (z : ℕ). commonPower x y * z) (t .made .same) ∙ r .same;
-          left = o .0;
-          enough = o .1;
-          counted = o .2;
+          counted = omega (
+            arith,
+            r .counted,
+            same-steps (a + b) (suc (a + b)) u a b f (r .multiples) (omega arith) (omega arith),
+            step-more (a + b) u a b apart,
+            same-steps (a + b) (a′ + b′) u a′ b′ f (t .next) (omega (arith, step-falls u a b (o .0) (o .1) apart)) (omega arith),
+          );
         }
 
     -- A further step is one of those that x and y take.

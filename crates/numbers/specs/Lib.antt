@@ -1,4 +1,4 @@
 pub mod Numbers
 pub mod Halving
 pub mod Search
-pub mod Steps
+pub mod Power

@@ -5,7 +5,7 @@ ghost use mathlib.Core.Path.{_≡_};
 ghost use Prim.Native.Nat.{suc, _-_, _*_, _/_, _^_, _≤_, _<_, min};
 ghost use Rattle.numbers.specs.Numbers.{between, gcd, LeastPower};
 ghost use Rattle.numbers.specs.Halving.{commonPower, isEven, step, steps, mostSteps};
-ghost use Rattle.numbers.specs.Steps.{IsPower};
+ghost use Rattle.numbers.specs.Power.{IsPower};
 
 // Whether w is low to high.
 pub fn is_between(low: u64, high: u64, w: u64) -> bool
@@ -44,18 +44,18 @@ struct Counted {
     steps: u32,
 }
 
-// A halving, counted.
-fn halve(n: u64, steps: u32) -> Counted
-    requires { ⌜ steps < mostSteps ⌝ }
-    ensures { λ r. ⌜ (r .number ≡ n / 2) × (r .steps ≡ suc steps) ⌝ }
+// A halving: one more than were made before it.
+fn halve(n: u64, before: u32) -> Counted
+    requires { ⌜ before < mostSteps ⌝ }
+    ensures { λ r. ⌜ (r .number ≡ n / 2) × (r .steps ≡ suc before) ⌝ }
 {
     Counted {
         number: n / 2,
-        steps: steps + 1,
+        steps: before + 1,
     }
 }
 
-// A subtraction, counted.
+// A subtraction: one more than were made.
 fn subtract(larger: u64, smaller: u64, made: u32) -> Counted
     requires { ⌜ (smaller ≤ larger) × (made < mostSteps) ⌝ }
     ensures { λ r. ⌜ (r .number ≡ larger - smaller) × (r .steps ≡ suc made) ⌝ }

@@ -1,3 +1,4 @@
+-- The prover finds this by itself. It stands here so that a halving which is not counted is refused by name.
 use borrow.Author.Needs.{needs}
 use Rattle.numbers.proofs.halve.Statement.{statement}
 use Rattle.numbers.proofs.halve.Tie as tie
