@@ -8,6 +8,7 @@
 
 #include "../include/seedspell.h"
 #include "generated.h"
+#include "measure.h"
 
 const struct seeded seeded[SEEDED_COUNT] = {
     {1, 16}, {2, 16}, {3, 16},
@@ -39,11 +40,7 @@ int read_arguments(int argc, char **argv, struct seeded *which, int *repetitions
 {
     int asked = asked_for_generated(argc, argv, which), at = asked ? 4 : 1;
 
-    *repetitions = argc > at ? atoi(argv[at]) : 5;
-    if (*repetitions < 1) {
-        fprintf(stderr, "bench: the repetitions are a number from 1\n");
-        exit(2);
-    }
+    *repetitions = repetitions_at(at, argc, argv, 5);
     return asked;
 }
 

@@ -25,10 +25,10 @@
 #include <stdint.h>
 #include <stdio.h>
 #include <stdlib.h>
-#include <time.h>
 
 #include "../../include/seedspell.h"
 #include "../generated.h"
+#include "../measure.h"
 
 typedef uint64_t divisor(uint64_t x, uint64_t y);
 typedef uint64_t check(const uint32_t *set, size_t set_len);
@@ -58,14 +58,7 @@ struct list {
 
 static struct pair pairs[MOST_PAIRS];   /* of the case in hand */
 static struct list sets[SEEDS];
-static uint64_t state, compared, sum;
-
-/* A number from low to high: a plain generator, the same for a seed everywhere. */
-static uint32_t between(uint32_t low, uint32_t high)
-{
-    state = state * 6364136223846793005u + 1442695040888963407u;
-    return low + (uint32_t)((state >> 33) % ((uint64_t)high - low + 1));
-}
+static uint64_t compared, sum;
 
 /* A number from 1 to most, each number of binary digits as likely. */
 static uint32_t of_any_size(uint32_t most)
@@ -307,14 +300,6 @@ static void compare(void)
 
 /* ---- Times. */
 
-static double now(void)
-{
-    struct timespec t;
-
-    clock_gettime(CLOCK_MONOTONIC, &t);
-    return (double)t.tv_sec * 1e9 + (double)t.tv_nsec;
-}
-
 static void keep_best(double *best, double time)
 {
     if (*best == 0 || time < *best)
@@ -436,12 +421,8 @@ static void all_checks(int repetitions)
 
 int main(int argc, char **argv)
 {
-    int repetitions = argc > 1 ? atoi(argv[1]) : 1000;
+    int repetitions = repetitions_at(1, argc, argv, 1000);
 
-    if (repetitions < 1) {
-        fprintf(stderr, "bench: the repetitions are a number from 1\n");
-        return 2;
-    }
     state = argc > 2 ? strtoull(argv[2], NULL, 10) : 1;
     printf("seed %" PRIu64 ", best of %d\n", state, repetitions);
     compare();

@@ -11,9 +11,9 @@
 #include <stdint.h>
 #include <stdio.h>
 #include <stdlib.h>
-#include <time.h>
 
 #include "../../include/seedspell.h"
+#include "../measure.h"
 
 #define MOST_TASKS 32
 #define MOST_WORDS (3 + 8 + MOST_TASKS * (2 + 8))
@@ -29,14 +29,6 @@ static uint64_t value(int k)
     for (int i = 7; i >= 0; i--)
         v = v << 8 | results[8 * k + i];
     return v;
-}
-
-static double now(void)
-{
-    struct timespec t;
-
-    clock_gettime(CLOCK_MONOTONIC, &t);
-    return (double)t.tv_sec * 1e9 + (double)t.tv_nsec;
 }
 
 static void answer(size_t count, int repetitions)
@@ -65,13 +57,9 @@ static void answer(size_t count, int repetitions)
 
 int main(int argc, char **argv)
 {
-    int repetitions = argc > 1 ? atoi(argv[1]) : 20;
+    int repetitions = repetitions_at(1, argc, argv, 20);
     size_t count;
 
-    if (repetitions < 1) {
-        fprintf(stderr, "driver: the repetitions are a number from 1\n");
-        return 2;
-    }
     while (scanf("%zu", &count) == 1) {
         if (count > MOST_WORDS) {
             fprintf(stderr, "driver: a set has more words than any may have\n");

@@ -24,10 +24,10 @@
 #include <stdio.h>
 #include <stdlib.h>
 #include <string.h>
-#include <time.h>
 
 #include "../../include/seedspell.h"
 #include "../generated.h"
+#include "../measure.h"
 
 /* plan.c */
 uint64_t plain_plan(const uint32_t *set, size_t set_len, uint32_t *plan, size_t plan_len,
@@ -60,14 +60,6 @@ struct call {
 
 static struct call archive, plain;
 static struct list sets[MOST_SETS];
-static uint64_t state;
-
-/* A number from low to high: a plain generator, the same for a seed everywhere. */
-static uint32_t between(uint32_t low, uint32_t high)
-{
-    state = state * 6364136223846793005u + 1442695040888963407u;
-    return low + (uint32_t)((state >> 33) % ((uint64_t)high - low + 1));
-}
 
 static uint32_t *head(struct list *list, uint32_t slack, uint32_t rates, uint32_t first,
                       uint32_t step, uint32_t tasks)
@@ -140,14 +132,6 @@ static void limit_set(struct list *list, uint32_t tasks, uint32_t rates, uint32_
             *at++ = 1000000;
     }
     list->len = (size_t)(at - list->set);
-}
-
-static double now(void)
-{
-    struct timespec t;
-
-    clock_gettime(CLOCK_MONOTONIC, &t);
-    return (double)t.tv_sec * 1e9 + (double)t.tv_nsec;
 }
 
 /* What a place holds before the calls: never 0 and never a rate number. */

@@ -17,7 +17,8 @@
 #include <stdio.h>
 #include <stdlib.h>
 #include <string.h>
-#include <time.h>
+
+#include "../measure.h"
 
 typedef uint64_t reader(const uint8_t *text, size_t text_len, uint32_t *words, size_t words_len);
 typedef uint64_t writer(const uint32_t *set, size_t set_len, uint8_t *text, size_t text_len);
@@ -50,14 +51,7 @@ static const struct {
 } chips[] = {{"xscale", 625000000}, {"ppc405lp", 443156000}};
 #define CHIPS (sizeof chips / sizeof *chips)
 
-static uint64_t state, compared;
-
-/* A number from low to high: a plain generator, the same for a seed everywhere. */
-static uint32_t between(uint32_t low, uint32_t high)
-{
-    state = state * 6364136223846793005u + 1442695040888963407u;
-    return low + (uint32_t)((state >> 33) % ((uint64_t)high - low + 1));
-}
+static uint64_t compared;
 
 /* ---- The sets and texts. */
 
@@ -378,14 +372,6 @@ static struct text texts[MOST_SETS];
 static uint32_t words[MOST_WORDS + SPARE];
 static uint8_t bytes[MOST_BYTES + SPARE];
 
-static double now(void)
-{
-    struct timespec t;
-
-    clock_gettime(CLOCK_MONOTONIC, &t);
-    return (double)t.tv_sec * 1e9 + (double)t.tv_nsec;
-}
-
 /* Nanoseconds a call, over so many calls. */
 static double time_reads(reader *read, int count, int calls)
 {
@@ -452,12 +438,8 @@ static void measure_chip(size_t chip, uint32_t tasks, int calls, int repetitions
 int main(int argc, char **argv)
 {
     static struct text longest;
-    int repetitions = argc > 1 ? atoi(argv[1]) : 20000;
+    int repetitions = repetitions_at(1, argc, argv, 20000);
 
-    if (repetitions < 1) {
-        fprintf(stderr, "bench: the repetitions are a number from 1\n");
-        return 2;
-    }
     state = argc > 2 ? strtoull(argv[2], NULL, 10) : 1;
     printf("seed %" PRIu64 ", best of %d\n", state, repetitions);
     longest_text(&longest);

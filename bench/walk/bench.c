@@ -24,10 +24,10 @@
 #include <stdint.h>
 #include <stdio.h>
 #include <stdlib.h>
-#include <time.h>
 
 #include "../../include/seedspell.h"
 #include "../generated.h"
+#include "../measure.h"
 
 #define SPAN 10000000u          /* L of every case that is made here: the longest there is */
 #define LOAD (SPAN / 1000 * 999)
@@ -133,14 +133,6 @@ static void make_list(struct list *list, const struct tasks *t)
     }
     list->set_len = (size_t)(at - list->set);
     list->plan_len = t->count;
-}
-
-static double now(void)
-{
-    struct timespec t;
-
-    clock_gettime(CLOCK_MONOTONIC, &t);
-    return (double)t.tv_sec * 1e9 + (double)t.tv_nsec;
 }
 
 static uint64_t eight_bytes(const uint8_t *bytes)
