@@ -6,7 +6,7 @@ use mathlib.Core.Bool.{Bool, true, _&&_, not}
 use mathlib.Core.List.{[], _∷_}
 use Rattle.layout.specs.Words.{allows}
 use Rattle.layout.specs.declared.Kind.{Kind}
-use Rattle.layout.specs.declared.Kind.the-variants.{Slack, RateCount, Rate, TaskCount, Period, Cycles, Energy}
+use Rattle.layout.specs.declared.Kind.the-variants.{Slack, Idle, RateCount, Rate, TaskCount, Period, Cycles, Energy}
 
 -- Of this kind low and high are allowed, and the numbers under and above them are not.
 abbrev ends : Kind → ℕ → ℕ → ℕ → ℕ → Bool
@@ -15,6 +15,7 @@ ends k under low high above =
 
 pub record Edges : Type 0 where
   pub slack : ends Slack 0 1 1000 1001 ≡ true
+  pub idle : allows (0 ∷ []) 0 Idle && (allows (1000 ∷ []) 0 Idle && not (allows (1001 ∷ []) 0 Idle)) ≡ true
   pub rate-count : ends RateCount 1 2 8 9 ≡ true
   pub rate : ends Rate 0 1 1000000 1000001 ≡ true
   pub task-count : ends TaskCount 0 1 32 33 ≡ true
@@ -24,4 +25,4 @@ pub record Edges : Type 0 where
 
 pub edges : Edges
 unfolding allows
-edges = record { slack = refl; rate-count = refl; rate = refl; task-count = refl; period = refl; cycles = refl; energy = refl }
+edges = record { slack = refl; idle = refl; rate-count = refl; rate = refl; task-count = refl; period = refl; cycles = refl; energy = refl }

@@ -7,12 +7,12 @@ use mathlib.Core.List.{List}
 use native.Mathlib.Bridge.{le-by-compare, IsLe}
 use native.Mathlib.Nat.{mul-le-mul}
 use native.Mathlib.Omega.{arith}
-use Rattle.layout.specs.Words.{headKinds, extraKinds, headSize, extraSize, mostRates, mostTasks, mostWords, slackPlace, taskSize, periodPlace, word, kindIn, headKind, allows}
+use Rattle.layout.specs.Words.{headKinds, extraKinds, headSize, extraSize, mostRates, mostTasks, mostWords, slackPlace, idlePlace, taskSize, periodPlace, word, kindIn, headKind, allows}
 use Rattle.layout.specs.declared.Layout.{Layout}
 use Rattle.layout.specs.declared.Layout.the-variants.{Ordinary}
-use Rattle.layout.specs.declared.Kind.the-variants.{Slack}
+use Rattle.layout.specs.declared.Kind.the-variants.{Slack, Idle}
 
--- A head is short, and begins with the slack.
+-- A head is short, and begins with the slack and the idle energy.
 pub head-few : (layout : Layout) → headSize layout ≤ 8
 unfolding headKinds IsLe
 head-few Ordinary = le-by-compare _ _ tt
@@ -24,6 +24,14 @@ slack-in-head Ordinary = le-by-compare _ _ tt
 pub slack-kind : (layout : Layout) → headKind layout slackPlace ≡ Slack
 unfolding headKinds headKind kindIn
 slack-kind Ordinary = refl
+
+pub idle-in-head : (layout : Layout) → idlePlace < headSize layout
+unfolding headKinds IsLe
+idle-in-head Ordinary = le-by-compare _ _ tt
+
+pub idle-kind : (layout : Layout) → headKind layout idlePlace ≡ Idle
+unfolding headKinds headKind kindIn
+idle-kind Ordinary = refl
 
 -- Few words stand between a task's cycles and its energies.
 pub extra-few : (layout : Layout) → extraSize layout ≤ 8
@@ -48,10 +56,12 @@ words-few m n a b =
     )
 
 -- What the ordinary list has beside document 01's words may be 0: in its head, behind the slack, and between a task's
--- cycles and its energies, p being the place of its period. Document 01 has no such word.
+-- cycles and its energies, p being the place of its period. In its head that is H.
 pub zero-in-head : (s : List ℕ) (q : ℕ) → 0 < q → q < headSize Ordinary → word s q ≡ 0 → allows s q (headKind Ordinary q) ≡ true
-unfolding headKinds
-zero-in-head s q some h e = absurd (omega arith)
+unfolding headKinds headKind kindIn allows
+zero-in-head s q some h e =
+    let one : q ≡ 1 = omega arith in
+    rw (one, (rw one at e))
 
 pub zero-in-extra : (s : List ℕ) (p k : ℕ) → 1 ≤ word s p → k < extraSize Ordinary → word s (p + (2 + k)) ≡ 0
     → allows s (p + (2 + k)) (kindIn (extraKinds Ordinary) k) ≡ true

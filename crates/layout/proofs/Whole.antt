@@ -10,11 +10,11 @@ use native.Mathlib.Nat.{div-add-mod', div-lt-iff-lt-mul, mod-lt}
 use native.Mathlib.Omega.{arith}
 use lib.ListN.{length}
 use Rattle.numbers.proofs.Tests.{bool-cases, lt-or-le, between-true, true-between}
-use Rattle.layout.specs.Words.{headSize, extraKinds, extraSize, mostRates, mostTasks, longestPeriod, slack, slackPlace, rateCount, taskCount, ratePlace, taskCountPlace, tasksPlace, periodPlace, cyclesPlace, energyPlace, taskSize, wordCount, rate, period, cycles, energy, kindIn, headKind, taskKind, kindAt, allows, WordFault}
+use Rattle.layout.specs.Words.{headSize, extraKinds, extraSize, mostRates, mostTasks, mostIdle, longestPeriod, slack, slackPlace, idle, idlePlace, rateCount, taskCount, ratePlace, taskCountPlace, tasksPlace, periodPlace, cyclesPlace, energyPlace, taskSize, wordCount, rate, period, cycles, energy, kindIn, headKind, taskKind, kindAt, allows, WordFault}
 use Rattle.layout.specs.declared.Layout.{Layout}
 use Rattle.layout.specs.declared.Kind.{Kind}
 use Rattle.layout.specs.declared.Kind.the-variants.{RateCount, Rate, TaskCount, Period, Cycles, Energy, LeftOver}
-use Rattle.layout.proofs.Layouts.{slack-in-head, slack-kind}
+use Rattle.layout.proofs.Layouts.{slack-in-head, slack-kind, idle-in-head, idle-kind}
 use Rattle.layout.proofs.Places.{before-end, kind-head, kind-rates, kind-rate, kind-tasks, kind-past, kind-task, kind-period, kind-cycles, kind-extra, kind-energy}
 
 pub record IsWhole (layout : Layout) (s : List ℕ) : Type 0 where
@@ -120,6 +120,10 @@ module _ (layout : Layout) (s : List ℕ) where
     pub slack-in : (1 ≤ slack s) × (slack s ≤ 1000)
     unfolding allows
     slack-in = between-true 1 1000 (slack s) (in-range refl (slack-kind layout) (w .head-word slackPlace (slack-in-head layout)))
+
+    pub idle-in : idle s ≤ mostIdle
+    unfolding allows
+    idle-in = between-true 0 mostIdle (idle s) (in-range refl (idle-kind layout) (w .head-word idlePlace (idle-in-head layout))) .1
 
     task-word : (t k : ℕ) → t < taskCount layout s → k < taskSize layout (rateCount layout s)
         → allows s (periodPlace layout (rateCount layout s) t + k) (taskKind layout k) ≡ true

@@ -12,15 +12,15 @@ use lib.Dec.{ltb, eqb}
 use lib.ListN.{length, getD}
 use Rattle.numbers.specs.Numbers.{between}
 use Rattle.layout.specs.declared.Kind.{Kind}
-use Rattle.layout.specs.declared.Kind.the-variants.{Slack, RateCount, Rate, TaskCount, Period, Cycles, Energy, LeftOver}
+use Rattle.layout.specs.declared.Kind.the-variants.{Slack, Idle, RateCount, Rate, TaskCount, Period, Cycles, Energy, LeftOver}
 use Rattle.layout.specs.declared.Layout.{Layout}
 use Rattle.layout.specs.declared.Layout.the-variants.{Ordinary}
 
 -- WHICH LIST. A layout is the kinds of the words of its head, in order, and of the words between a task's cycles and
--- its energies. Document 01's list is the ordinary one: "the slack G" alone before "the rate count M", and energies
--- straight after the cycles.
+-- its energies. Document 01's list is the ordinary one: "the slack G" before "the rate count M", and energies straight
+-- after the cycles; and of document 02's note 4, "the set list gains H as a word after the slack".
 unfoldable pub headKinds : Layout → List Kind
-headKinds Ordinary = Slack ∷ []
+headKinds Ordinary = Slack ∷ Idle ∷ []
 
 unfoldable pub extraKinds : Layout → List Kind
 extraKinds Ordinary = []
@@ -32,7 +32,8 @@ headSize layout = length (headKinds layout)
 abbrev pub extraSize : Layout → ℕ
 extraSize layout = length (extraKinds layout)
 
--- The most rates, tasks and words of the ordinary list, the longest period and the largest energy.
+-- The most rates, tasks and words of the ordinary list, the largest idle energy of a tick, the longest period and the
+-- largest energy of a job.
 abbrev pub mostRates : ℕ
 mostRates = 8
 
@@ -40,7 +41,10 @@ abbrev pub mostTasks : ℕ
 mostTasks = 32
 
 abbrev pub mostWords : ℕ
-mostWords = 331
+mostWords = 332
+
+abbrev pub mostIdle : ℕ
+mostIdle = 1000
 
 abbrev pub longestPeriod : ℕ
 longestPeriod = 10000000
@@ -54,9 +58,12 @@ mostEnergy = 1000000
 abbrev pub word : List ℕ → ℕ → ℕ
 word s q = getD s q 0
 
--- The slack is the first word of every head.
+-- The slack is the first word of every head, and H the second.
 abbrev pub slackPlace : ℕ
 slackPlace = 0
+
+abbrev pub idlePlace : ℕ
+idlePlace = 1
 
 abbrev pub ratePlace : Layout → ℕ → ℕ
 ratePlace layout r = headSize layout + r
@@ -80,9 +87,12 @@ cyclesPlace layout m t = periodPlace layout m t + 1
 abbrev pub energyPlace : Layout → ℕ → ℕ → ℕ → ℕ
 energyPlace layout m t r = periodPlace layout m t + (1 + extraSize layout + r)
 
--- "the slack G .. the rate count M .. the task count N"
+-- "the slack G .. the rate count M .. the task count N", and "H in microjoules per tick"
 abbrev pub slack : List ℕ → ℕ
 slack s = word s slackPlace
+
+abbrev pub idle : List ℕ → ℕ
+idle s = word s idlePlace
 
 abbrev pub rateCount : Layout → List ℕ → ℕ
 rateCount layout s = word s (headSize layout)
@@ -141,9 +151,11 @@ kindAt layout s q =
 -- RANGES. "the slack G in thousandths (1 to 1,000); the rate count M (2 to 8); M rates in cycles per tick (1 to
 -- 1,000,000); the task count N (1 to 32); then for each task the period p in ticks (1 to 10,000,000), the cycles c of
 -- one job (1 to 4,000,000,000), and M energies in microjoules per job (1 to 1,000,000)": whether the word at place q,
--- of a kind, is in its range. A range may look at the words before it. A word that is left over may be nothing.
+-- of a kind, is in its range; and "H in microjoules per tick, 0 to 1,000". A range may look at the words before it. A
+-- word that is left over may be nothing.
 unfoldable pub allows : List ℕ → ℕ → Kind → Bool
 allows s q Slack = between 1 1000 (word s q)
+allows s q Idle = between 0 mostIdle (word s q)
 allows s q RateCount = between 2 mostRates (word s q)
 allows s q Rate = between 1 1000000 (word s q)
 allows s q TaskCount = between 1 mostTasks (word s q)

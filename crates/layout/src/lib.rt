@@ -9,6 +9,7 @@ ghost use Rattle.layout.specs.Words.{headSize, extraSize, mostRates, mos
 // What a word of a set's list stands for.
 pub enum Kind {
     Slack,
+    Idle,
     RateCount,
     Rate,
     TaskCount,
@@ -26,20 +27,22 @@ pub enum Layout {
 // The most tasks and words of the ordinary list.
 pub const MOST_TASKS: usize = 32;
 
-pub const MOST_WORDS: usize = 331;
+pub const MOST_WORDS: usize = 332;
 
 // The largest energy of a job.
 pub const MOST_ENERGY: u64 = 1_000_000;
 
-// The place of the slack in every list.
+// The place of the slack in every list, and of the idle energy.
 pub const SLACK_PLACE: usize = 0;
+
+pub const IDLE_PLACE: usize = 1;
 
 // How many words stand before the rate count.
 pub fn head_size(layout: Layout) -> usize
     ensures { λ r. ⌜ r ≡ headSize layout ⌝ }
 {
     match layout {
-        Layout::Ordinary => 1,
+        Layout::Ordinary => 2,
     }
 }
 
@@ -57,8 +60,11 @@ pub fn head_kind(layout: Layout, q: usize) -> Kind
     requires { ⌜ q < headSize layout ⌝ }
     ensures { λ r. ⌜ r ≡ headKind layout q ⌝ }
 {
+    if q == SLACK_PLACE {
+        return Kind::Slack;
+    }
     match layout {
-        Layout::Ordinary => Kind::Slack,
+        Layout::Ordinary => Kind::Idle,
     }
 }
 
@@ -85,6 +91,7 @@ pub fn is_allowed(s: &[u32], q: usize, k: Kind) -> bool
     let w = s[q] as u64;
     match k {
         Kind::Slack => numbers::is_between(1, 1_000, w),
+        Kind::Idle => numbers::is_between(0, 1_000, w),
         Kind::RateCount => numbers::is_between(2, 8, w),
         Kind::Rate => numbers::is_between(1, 1_000_000, w),
         Kind::TaskCount => numbers::is_between(1, 32, w),

@@ -37,33 +37,34 @@ use Rattle.taskset.proofs.DemandThree.{walk-owes}
 
 -- "The set list S", with slack G.
 unfoldable pub S : ℕ → List ℕ
-S G = G ∷ 3 ∷ 2 ∷ 4 ∷ 8 ∷ 2 ∷ 10 ∷ 12 ∷ 4 ∷ 9 ∷ 20 ∷ 15 ∷ 20 ∷ 7 ∷ 15 ∷ 30 ∷ []
+S G = G ∷ 0 ∷ 3 ∷ 2 ∷ 4 ∷ 8 ∷ 2 ∷ 10 ∷ 12 ∷ 4 ∷ 9 ∷ 20 ∷ 15 ∷ 20 ∷ 7 ∷ 15 ∷ 30 ∷ []
 
 -- "Highest rate 2, one task of period 30", of c cycles.
 one-task : ℕ → List ℕ
-one-task c = 100 ∷ 2 ∷ 1 ∷ 2 ∷ 1 ∷ 30 ∷ c ∷ 5 ∷ 6 ∷ []
+one-task c = 100 ∷ 0 ∷ 2 ∷ 1 ∷ 2 ∷ 1 ∷ 30 ∷ c ∷ 5 ∷ 6 ∷ []
 
 -- Two rates, and a task for each period.
 one-period : ℕ → List ℕ
-one-period p = 100 ∷ 2 ∷ 2 ∷ 4 ∷ 1 ∷ p ∷ 1 ∷ 1 ∷ 1 ∷ []
+one-period p = 100 ∷ 0 ∷ 2 ∷ 2 ∷ 4 ∷ 1 ∷ p ∷ 1 ∷ 1 ∷ 1 ∷ []
 
 two-periods : ℕ → ℕ → List ℕ
-two-periods p q = 100 ∷ 2 ∷ 2 ∷ 4 ∷ 2 ∷ p ∷ 1 ∷ 1 ∷ 1 ∷ q ∷ 1 ∷ 1 ∷ 1 ∷ []
+two-periods p q = 100 ∷ 0 ∷ 2 ∷ 2 ∷ 4 ∷ 2 ∷ p ∷ 1 ∷ 1 ∷ 1 ∷ q ∷ 1 ∷ 1 ∷ 1 ∷ []
 
 -- The list that a text with the chip ppc405lp says (document 02, note 2): rates 33, 100, 266 and 333 MHz, one tick a
--- millisecond. At 33 MHz the jobs take 31 and 16 ticks, rounded up: two of the second do not fit beside the first.
+-- millisecond, and (note 4) its idle energy of 12 microjoules per tick. At 33 MHz the jobs take 31 and 16 ticks, rounded
+-- up: two of the second do not fit beside the first.
 unfoldable pub chip-set : List ℕ
 chip-set =
-    500 ∷ 4 ∷ 33000 ∷ 100000 ∷ 266000 ∷ 333000 ∷ 2 ∷ 40 ∷ 1000000 ∷ 589 ∷ 720 ∷ 2400 ∷ 3000 ∷ 20 ∷ 500000 ∷ 304 ∷ 360 ∷ 1200 ∷
+    500 ∷ 12 ∷ 4 ∷ 33000 ∷ 100000 ∷ 266000 ∷ 333000 ∷ 2 ∷ 40 ∷ 1000000 ∷ 589 ∷ 720 ∷ 2400 ∷ 3000 ∷ 20 ∷ 500000 ∷ 304 ∷ 360 ∷ 1200 ∷
     1500 ∷ []
 
 -- Two tasks alike.
 even-tasks : List ℕ
-even-tasks = 100 ∷ 2 ∷ 1 ∷ 3 ∷ 2 ∷ 4 ∷ 3 ∷ 1 ∷ 5 ∷ 4 ∷ 3 ∷ 1 ∷ 5 ∷ []
+even-tasks = 100 ∷ 0 ∷ 2 ∷ 1 ∷ 3 ∷ 2 ∷ 4 ∷ 3 ∷ 1 ∷ 5 ∷ 4 ∷ 3 ∷ 1 ∷ 5 ∷ []
 
 -- Two rates and one task, with a last word that may be missing or be followed by more.
 with-rates : ℕ → ℕ → List ℕ → List ℕ
-with-rates f g rest = 100 ∷ 2 ∷ f ∷ g ∷ 1 ∷ 10 ∷ 12 ∷ 4 ∷ rest
+with-rates f g rest = 100 ∷ 0 ∷ 2 ∷ f ∷ g ∷ 1 ∷ 10 ∷ 12 ∷ 4 ∷ rest
 
 -- The planner refuses, whatever is lent, and leaves both lists as they are.
 abbrev Declined : List ℕ → Refusal → Type 0
@@ -191,16 +192,16 @@ pub record Cases : Type 0 where
   -- "A slack of 0: refusal 2, place 0. Empty list: refusal 2, place 0. Rates 4 4: refusal 3, place 3."
   slack-0 : Declined (S 0) (BadWord 0)
   empty : Declined [] (BadWord 0)
-  rates-4-4 : Declined (with-rates 4 4 (9 ∷ [])) (NotAbove 3)
+  rates-4-4 : Declined (with-rates 4 4 (9 ∷ [])) (NotAbove 4)
   -- "Two rates, periods 9,999,999 and 10,000,000: refusal 4, place 9. One period of 10,000,000 passes."
-  periods-too-long : Declined (two-periods 9999999 10000000) (TooLong 9)
+  periods-too-long : Declined (two-periods 9999999 10000000) (TooLong 10)
   period-10000000 : SetAfter (wordChecks Ordinary (one-period 10000000) ▹ hyperCheck Ordinary (one-period 10000000)) Ordinary (one-period 10000000) (Good 2 1 10000000)
   -- A rate count of 9 and a task count of 33, refused where they stand; a list that ends before its last word; a word
   -- too many.
-  bad-rate-count : Declined (100 ∷ 9 ∷ 2 ∷ []) (BadWord 1)
-  bad-task-count : Declined (100 ∷ 2 ∷ 2 ∷ 4 ∷ 33 ∷ 10 ∷ []) (BadWord 4)
-  missing : Declined (with-rates 2 4 []) (BadWord 8)
-  left-over : Declined (with-rates 2 4 (9 ∷ 1 ∷ [])) (BadWord 9)
+  bad-rate-count : Declined (100 ∷ 0 ∷ 9 ∷ 2 ∷ []) (BadWord 2)
+  bad-task-count : Declined (100 ∷ 0 ∷ 2 ∷ 2 ∷ 4 ∷ 33 ∷ 10 ∷ []) (BadWord 5)
+  missing : Declined (with-rates 2 4 []) (BadWord 9)
+  left-over : Declined (with-rates 2 4 (9 ∷ 1 ∷ [])) (BadWord 10)
   -- A plan list of one word for two tasks: refusal 6 with 2. Two plans that differ in rate numbers alone: the lower
   -- number for task 2.
   plan-list-1 : (plan work : List ℕ) → length plan ≡ 1 → length work ≡ 243 → PlannerGives (S 100) plan work plan work (NotPlanned (TooShort 2))
@@ -236,13 +237,13 @@ cases = record {
   cycles-61 = no-plan (one-task 61) 2 1 30 refl (le-by-compare _ _ tt) (le-by-compare _ _ tt);
   slack-0 = set-refused (S 0) (BadWord 0) refl;
   empty = set-refused [] (BadWord 0) refl;
-  rates-4-4 = set-refused (with-rates 4 4 (9 ∷ [])) (NotAbove 3) refl;
-  periods-too-long = set-refused (two-periods 9999999 10000000) (TooLong 9) refl;
+  rates-4-4 = set-refused (with-rates 4 4 (9 ∷ [])) (NotAbove 4) refl;
+  periods-too-long = set-refused (two-periods 9999999 10000000) (TooLong 10) refl;
   period-10000000 = answered (one-period 10000000) (Good 2 1 10000000) refl;
-  bad-rate-count = set-refused (100 ∷ 9 ∷ 2 ∷ []) (BadWord 1) refl;
-  bad-task-count = set-refused (100 ∷ 2 ∷ 2 ∷ 4 ∷ 33 ∷ 10 ∷ []) (BadWord 4) refl;
-  missing = set-refused (with-rates 2 4 []) (BadWord 8) refl;
-  left-over = set-refused (with-rates 2 4 (9 ∷ 1 ∷ [])) (BadWord 9) refl;
+  bad-rate-count = set-refused (100 ∷ 0 ∷ 9 ∷ 2 ∷ []) (BadWord 2) refl;
+  bad-task-count = set-refused (100 ∷ 0 ∷ 2 ∷ 2 ∷ 4 ∷ 33 ∷ 10 ∷ []) (BadWord 5) refl;
+  missing = set-refused (with-rates 2 4 []) (BadWord 9) refl;
+  left-over = set-refused (with-rates 2 4 (9 ∷ 1 ∷ [])) (BadWord 10) refl;
   short-plan = plan-refused (S 100) 3 2 30 refl (1 ∷ []) 1 refl;
   long-plan = plan-refused (S 100) 3 2 30 refl (1 ∷ 1 ∷ 1 ∷ []) 2 refl;
   long-bad-plan = plan-refused (S 100) 3 2 30 refl (1 ∷ 1 ∷ 9 ∷ 9 ∷ []) 2 refl;

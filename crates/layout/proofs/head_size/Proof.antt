@@ -5,7 +5,7 @@ use Rattle.layout.specs.declared.Layout.the-variants.{Ordinary}
 use Rattle.layout.proofs.head_size.Statement.{statement}
 use Rattle.layout.proofs.head_size.Tie as tie
 
-size : (layout : Layout) → 1 ≡ headSize layout
+size : (layout : Layout) → 2 ≡ headSize layout
 unfolding headKinds
 size Ordinary = refl
 

@@ -60,37 +60,47 @@ is-between-requires-7 c κs = search needs
 enum-told-8 : tie.Need-enum-told-8
 enum-told-8 c = search needs
 
+is-between-requires-8 : tie.Need-is-between-requires-8
+is-between-requires-8 c κs = search needs
+
+enum-told-9 : tie.Need-enum-told-9
+enum-told-9 c = search needs
+
 slack-range : tie.Need-returns
 unfolding allows
 slack-range c = rw (c .before .enum-told .given .1) (c .is-between .ensures)
 
-rate-count-range : tie.Need-returns-2
+idle-range : tie.Need-returns-2
 unfolding allows
-rate-count-range c = rw (c .before .enum-told2 .given .1) (c .is-between2 .ensures)
+idle-range c = rw (c .before .enum-told2 .given .1) (c .is-between2 .ensures)
 
-rate-range : tie.Need-returns-3
+rate-count-range : tie.Need-returns-3
 unfolding allows
-rate-range c = rw (c .before .enum-told3 .given .1) (c .is-between3 .ensures)
+rate-count-range c = rw (c .before .enum-told3 .given .1) (c .is-between3 .ensures)
 
-task-count-range : tie.Need-returns-4
+rate-range : tie.Need-returns-4
 unfolding allows
-task-count-range c = rw (c .before .enum-told4 .given .1) (c .is-between4 .ensures)
+rate-range c = rw (c .before .enum-told4 .given .1) (c .is-between4 .ensures)
 
-period-range : tie.Need-returns-5
+task-count-range : tie.Need-returns-5
 unfolding allows
-period-range c = rw (c .before .enum-told5 .given .1) (c .is-between5 .ensures)
+task-count-range c = rw (c .before .enum-told5 .given .1) (c .is-between5 .ensures)
 
-cycles-range : tie.Need-returns-6
+period-range : tie.Need-returns-6
 unfolding allows
-cycles-range c = rw (c .before .enum-told6 .given .1) (c .is-between6 .ensures)
+period-range c = rw (c .before .enum-told6 .given .1) (c .is-between6 .ensures)
 
-energy-range : tie.Need-returns-7
+cycles-range : tie.Need-returns-7
 unfolding allows
-energy-range c = rw (c .before .enum-told7 .given .1) (c .is-between7 .ensures)
+cycles-range c = rw (c .before .enum-told7 .given .1) (c .is-between7 .ensures)
 
-left-over : tie.Need-returns-8
+energy-range : tie.Need-returns-8
 unfolding allows
-left-over c = rw (c .enum-told8 .given .1)
+energy-range c = rw (c .before .enum-told8 .given .1) (c .is-between8 .ensures)
+
+left-over : tie.Need-returns-9
+unfolding allows
+left-over c = rw (c .enum-told9 .given .1)
 
 pub is-allowed-spec : {M : Type 1} → statement M
 is-allowed-spec =
@@ -114,7 +124,10 @@ is-allowed-spec =
     enum-told-7
     is-between-requires-7
     enum-told-8
+    is-between-requires-8
+    enum-told-9
     slack-range
+    idle-range
     rate-count-range
     rate-range
     task-count-range
