@@ -3,12 +3,12 @@
 use Prim.Native.Nat.{ℕ, zero, suc, _+_, _-_, _≤_, _<_}
 use mathlib.Core.Path.{_≡_, refl, sym, subst}
 use mathlib.Core.Bool.{Bool, true, false, cond}
-use mathlib.Core.Logic.{_⊎_, inl, inr, ⊎-elim}
+use mathlib.Core.Logic.{_⊎_, ⊎-elim}
 use native.Mathlib.Nat.{eq-or-lt-of-le}
 use native.Mathlib.Numerals.{add-one}
 use native.Mathlib.Omega.{arith}
 use Rattle.numbers.specs.Numbers.{Lowest}
-use Rattle.numbers.proofs.Tests.{lt-or-le, below-more}
+use Rattle.numbers.proofs.Tests.{lt-or-le}
 
 pub lowest-unique : {P : ℕ → Type 0} {j k : ℕ} → Lowest P j → Lowest P k → j ≡ k
 lowest-unique {P} {j} {k} a b =
@@ -17,18 +17,14 @@ lowest-unique {P} {j} {k} a b =
     (λ (l : k ≤ j). ⊎-elim (λ (e : k ≡ j). sym e) (λ (m : k < j). absurd (a .before k m (b .here))) (eq-or-lt-of-le l))
     (lt-or-le j k)
 
--- Of a decidable P either some number is the lowest at which it holds, or it holds at none below n.
-lowest-or-none : (P : ℕ → Type 0) → ((k : ℕ) → Dec (P k)) → (n : ℕ) → ((j : ℕ) × Lowest P j) ⊎ ((j : ℕ) → j < n → P j → ⊥)
-lowest-or-none P dec zero = inr (λ j l h. omega arith)
-lowest-or-none P dec (suc n) = ⊎-elim inl (λ none. go none (dec n)) (lowest-or-none P dec n)
+-- Where no number is the lowest at which P holds, it holds at none: nothing before it does, so that it would be the
+-- lowest.
+pub no-lowest : (P : ℕ → Type 0) → ((k : ℕ) → Lowest P k → ⊥) → (k : ℕ) → P k → ⊥
+no-lowest P none k h = below (suc k) k (omega arith) h
   where
-    go : ((j : ℕ) → j < n → P j → ⊥) → Dec (P n) → ((j : ℕ) × Lowest P j) ⊎ ((j : ℕ) → j < suc n → P j → ⊥)
-    go none (yes h) = inl (n, record { here = h; before = none })
-    go none (no h) = inr (below-more {P = λ j. P j → ⊥} none h)
-
--- So where no number is the lowest, it holds at none.
-pub no-lowest : (P : ℕ → Type 0) → ((k : ℕ) → Dec (P k)) → ((k : ℕ) → Lowest P k → ⊥) → (k : ℕ) → P k → ⊥
-no-lowest P dec none k h = ⊎-elim (λ w. none (w .0) (w .1)) (λ f. f k (omega arith) h) (lowest-or-none P dec (suc k))
+    below : (n j : ℕ) → j < n → P j → ⊥
+    below zero j l h = omega arith
+    below (suc n) j l h = none j (record { here = h; before = λ i m g. below n i (omega arith) g })
 
 -- The first of the n numbers from j on that passes the test, or j + n.
 unfoldable pub seek : (ℕ → Bool) → ℕ → ℕ → ℕ

@@ -52,24 +52,3 @@ cond-true b x y e = ap (λ (t : Bool). cond t x y) e
 
 pub cond-false : {A : Type 0} (b : Bool) (x y : A) → b ≡ false → cond b x y ≡ y
 cond-false b x y e = ap (λ (t : Bool). cond t x y) e
-
--- ---- what can be decided
-pub dec-both : {A B : Type 0} → Dec A → Dec B → Dec (A × B)
-dec-both (yes a) (yes b) = yes (a, b)
-dec-both (yes a) (no b) = no (λ w. b (w .1))
-dec-both (no a) b = no (λ w. a (w .0))
-
-pub dec-three : {A B C : Type 0} → Dec A → Dec B → Dec C → Dec (A × B × C)
-dec-three (yes a) (yes b) (yes c) = yes (a, b, c)
-dec-three (yes a) (yes b) (no c) = no (λ w. c (w .2))
-dec-three (yes a) (no b) c = no (λ w. b (w .1))
-dec-three (no a) b c = no (λ w. a (w .0))
-
-pub dec-either : {A B : Type 0} → Dec A → Dec B → Dec (A ⊎ B)
-dec-either (yes a) b = yes (inl a)
-dec-either (no a) (yes b) = yes (inr b)
-dec-either (no a) (no b) = no (λ w. ⊎-elim a b w)
-
-pub dec-false : (b : Bool) → Dec (b ≡ false)
-dec-false true = no (λ e. true≢false e)
-dec-false false = yes refl

@@ -1,6 +1,6 @@
 -- Laws on the order of checks, and that every cause can be decided and holds with at most one second number.
 -- Assumes nothing.
-use Prim.Native.Nat.{ℕ, suc, _-_}
+use Prim.Native.Nat.{ℕ, _-_}
 use mathlib.Core.Path.{_≡_, refl, sym, ap, subst, _∙_}
 use mathlib.Core.Bool.{Bool, true, false, cond, not, _&&_, true≢false}
 use mathlib.Core.Option.{Option, none, some}
@@ -9,14 +9,11 @@ use mathlib.Core.Logic.{_⊎_, inl, inr, ⊎-elim}
 use native.Mathlib.Omega.{arith}
 use lib.Dec.{eqb}
 use borrow.Author.Tests.{eq-eqb, not-true}
-use native.Mathlib.Decide.{ℕ-discrete, decLe, decLt}
-use lib.ListN.{length, getD}
-use Rattle.numbers.specs.Numbers.{between, running, Lowest}
-use Rattle.numbers.proofs.Tests.{and-true, dec-both, dec-three, dec-either, dec-false}
+use Rattle.numbers.specs.Numbers.{Lowest}
+use Rattle.numbers.proofs.Tests.{and-true}
 use Rattle.numbers.proofs.Search.{lowest-unique, no-lowest}
-use Rattle.layout.specs.Words.{word, rateCount, taskCount, wordCount, ratePlace, periodPlace, period, kindAt, allows, WordFault}
+use Rattle.layout.specs.Words.{rateCount, periodPlace, WordFault}
 use Rattle.layout.specs.declared.Layout.{Layout}
-use Rattle.taskset.specs.Quantities.{hyperLimit}
 use Rattle.taskset.specs.Refusals.{IsBadWord, RateFault, IsNotAbove, PassesLimit, IsTooLong, PlanFault, IsBadPlan, Check, Passes, Accepts, Refuses, _▹_}
 
 -- ---- lists of checks
@@ -155,25 +152,13 @@ module _ (layout : Layout) (s : List ℕ) where
 
   -- Where a check passes, its fault stands nowhere.
   pub no-word-fault : ((q : ℕ) → IsBadWord layout s q → ⊥) → (q : ℕ) → WordFault layout s q → ⊥
-  no-word-fault = no-lowest (WordFault layout s) (λ q.
-      dec-either
-      (dec-both (decLt q (length s)) (dec-false (allows s q (kindAt layout s q))))
-      (dec-both (ℕ-discrete q (length s)) (decLt (length s) (wordCount layout s))))
+  no-word-fault = no-lowest (WordFault layout s)
 
   pub no-rate-fault : ((q : ℕ) → IsNotAbove layout s q → ⊥) → (q : ℕ) → RateFault layout s q → ⊥
-  no-rate-fault = no-lowest (RateFault layout s) (λ q.
-      dec-three (decLe (ratePlace layout 2) q) (decLe q (ratePlace layout (rateCount layout s))) (decLe (word s q) (word s (q - 1))))
+  no-rate-fault = no-lowest (RateFault layout s)
 
   pub none-passes : ((q : ℕ) → IsTooLong layout s q → ⊥) → (t : ℕ) → PassesLimit layout s t → ⊥
-  none-passes h =
-      no-lowest (PassesLimit layout s)
-      (λ t. dec-both (decLt t (taskCount layout s)) (decLt hyperLimit (running (period layout s) (suc t))))
-      (λ t l. h (periodPlace layout (rateCount layout s) t) (t, l, refl))
+  none-passes h = no-lowest (PassesLimit layout s) (λ t l. h (periodPlace layout (rateCount layout s) t) (t, l, refl))
 
 pub no-plan-fault : (m n : ℕ) (P : List ℕ) → ((k : ℕ) → IsBadPlan m n P k → ⊥) → (k : ℕ) → PlanFault m n P k → ⊥
-no-plan-fault m n P = no-lowest (PlanFault m n P) (λ k.
-    dec-either
-    (dec-both (decLt k (length P)) (dec-false (between 1 m (getD P k 0))))
-    (dec-either
-    (dec-both (ℕ-discrete k (length P)) (decLt (length P) n))
-    (dec-both (ℕ-discrete k n) (decLt n (length P)))))
+no-plan-fault m n P = no-lowest (PlanFault m n P)

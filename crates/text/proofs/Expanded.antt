@@ -1,12 +1,11 @@
 -- The list of a script that names a chip: what stands where in it, and which checks it passes.
 -- Assumes nothing.
 use Prim.Native.Nat.{ℕ, zero, suc, _+_, _-_, _≤_, _<_}
-use mathlib.Core.Path.{_≡_, refl, sym, ap, _∙_, subst}
+use mathlib.Core.Path.{_≡_, refl, sym, ap, _∙_}
 use mathlib.Core.List.{List, [], _∷_}
 use mathlib.Core.Bool.{true}
 use mathlib.Core.Logic.{_↔_, ⊎-elim}
 use native.Mathlib.Nat.{add-zero}
-use native.Mathlib.Decide.{decLe, decLt}
 use native.Mathlib.Omega.{arith}
 use lib.ListN.{length, getD}
 use lib.Seq.{getD-append-add}
@@ -27,7 +26,7 @@ use Rattle.chips.proofs.Limits.{mostCycles, most-cycles, longer-over}
 use Rattle.chips.proofs.Tables.{count-range, rates-length, rate-range, rates-rise, energy-positive}
 use Rattle.taskset.specs.Refusals.{Passes, Accepts, wordChecks}
 use Rattle.taskset.proofs.Sets.{words-pass}
-use Rattle.text.specs.Text.{TaskLine, chip, Script, energyCount, TaskLineOk, ScriptOk, IsTextOf, ratesOf}
+use Rattle.text.specs.Text.{TaskLine, chip, Script, energyCount, TaskLineOk, ScriptOk, IsTextOf}
 use Rattle.text.specs.Text.{headWords, extraWords, taskWords, words}
 use Rattle.text.specs.Calls.{HasOver, energyCheck}
 use Rattle.text.proofs.Sizes.{task-size, words-size}
@@ -145,42 +144,9 @@ module _ (c : Chip) (g : ℕ) (ts : List TaskLine) (ok : ScriptOk (record { slac
             }
 
 -- ---- which checks it passes
--- Whether a task has an energy over the largest can be told, so where no first task has one none has.
-over-by : (f : ℕ → ℕ) (j : ℕ) → Dec ((r : ℕ) × (1 ≤ r) × (r ≤ j) × (mostEnergy < f r))
-over-by f zero = no (λ h. omega (arith, h .1, h .2))
-over-by f (suc j) = go (decLt mostEnergy (f (suc j))) (over-by f j)
-  where
-    go : Dec (mostEnergy < f (suc j)) → Dec ((r : ℕ) × (1 ≤ r) × (r ≤ j) × (mostEnergy < f r))
-        → Dec ((r : ℕ) × (1 ≤ r) × (r ≤ suc j) × (mostEnergy < f r))
-    go (yes h) d = yes (suc j, omega arith, omega arith, h)
-    go (no h) (yes d) = yes (d .0, d .1, omega (arith, d .2), d .3)
-    go (no h) (no d) = no (λ x.
-        ⊎-elim (λ (l : x .0 < suc j). d (x .0, x .1, omega arith, x .3))
-        (λ (l : suc j ≤ x .0). let e : x .0 ≡ suc j = omega (arith, x .2) in h (subst (λ (r : ℕ). mostEnergy < f r) e (x .3)))
-        (lt-or-le (x .0) (suc j)))
-
-has-over : (s : Script) (k : ℕ) → Dec (HasOver s k)
-has-over s k = go (decLe 1 k) (decLe k (length (s .tasks)))
-    (over-by (energy Ordinary (words s) (k - 1)) (length (ratesOf (s .clock))))
-  where
-    go : Dec (1 ≤ k) → Dec (k ≤ length (s .tasks))
-        → Dec ((r : ℕ) × (1 ≤ r) × (r ≤ length (ratesOf (s .clock))) ×
-        (mostEnergy < energy Ordinary (words s) (k - 1) r)) → Dec (HasOver s k)
-    go (yes a) (yes b) (yes x) = yes (record {
-      from = a;
-      to = b;
-      rate = x .0;
-      rate-from = x .1;
-      rate-to = x .2;
-      over =
-          omega (arith, x .3);
-    })
-    go (yes a) (yes b) (no x) = no (λ h. x (h .rate, h .rate-from, h .rate-to, omega (arith, h .over)))
-    go (yes a) (no b) x = no (λ h. b (h .to))
-    go (no a) b x = no (λ h. a (h .from))
-
+-- Where no task is the first with an energy over the largest, none has one.
 pub passes-over : (s : Script) (t : List ℕ) → IsTextOf s t → Passes (energyCheck t) → NoneOver s
-passes-over s t is pass w = no-lowest (HasOver s) (has-over s) (λ k l. pass k (s, is, w, l))
+passes-over s t is pass w = no-lowest (HasOver s) (λ k l. pass k (s, is, w, l))
 
 -- Where its slack, its periods and its cycles are in their ranges, and no energy is over the largest, a chip's list
 -- passes checks 2 and 3.
