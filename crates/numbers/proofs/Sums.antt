@@ -3,7 +3,7 @@
 use Prim.Native.Nat.{ℕ, zero, suc, _+_, _*_, _≤_, _<_}
 use mathlib.Core.Path.{_≡_, refl, sym, ap, ap₂, _∙_}
 use mathlib.Core.List.{List, [], _∷_, map}
-use native.Mathlib.Nat.{add-zero, zero-add, add-suc, suc-add}
+use native.Mathlib.Nat.{add-zero, zero-add, add-suc, suc-add, mul-add}
 use native.Mathlib.Omega.{arith}
 use lib.ListN.{getD}
 use Rattle.numbers.specs.Numbers.{All, total, over}
@@ -37,6 +37,14 @@ pub total-plus : (f : ℕ → ℕ → ℕ) (c n : ℕ) (P : List ℕ) → total 
 unfolding total
 total-plus f c zero P = omega arith
 total-plus f c (suc n) P = omega (arith, total-plus f c n P)
+
+-- Of two parts, the second c times another sum.
+pub total-shared : (f g h : ℕ → ℕ → ℕ) (c n : ℕ) (P : List ℕ) → ((t : ℕ) → t < n → f t (getD P t 0) ≡ g t (getD P t 0) + c * h t (getD P t 0))
+    → total f n P ≡ total g n P + c * total h n P
+unfolding total
+total-shared f g h c zero P e = omega arith
+total-shared f g h c (suc n) P e =
+    omega (arith, total-shared f g h c n P (λ t l. e t (omega arith)), e n (omega arith), mul-add c (total h n P) (h n (getD P n 0)))
 
 pub total-at : (f : ℕ → ℕ → ℕ) (n : ℕ) (P : List ℕ) (t : ℕ) → t < n → f t (getD P t 0) ≤ total f n P
 unfolding total

@@ -1,5 +1,5 @@
 -- The cases of document 01's 'Either side of an edge', gathered in one record and proved together of the definitions:
--- every marked one, each of the call's whole answer, and the unmarked refusals of a set.
+-- every marked one, each of the call's whole answer, and the unmarked refusals of a set; with document 02's.
 -- Assumes nothing.
 use Prim.Native.Nat.{ℕ, _*_, _^_, _≤_, _<_}
 use mathlib.Core.Path.{_≡_, refl, sym, _∙_, subst}
@@ -12,25 +12,25 @@ use lib.Seq.{take-all}
 use Rattle.numbers.specs.Numbers.{total, gcdIn, gcd, lcm, running}
 use Rattle.numbers.proofs.Search.{seek}
 use Rattle.numbers.proofs.Powers.{exponent}
-use Rattle.selection.specs.Plan.{planLoad, planEnergy, fastest, Fitting}
+use Rattle.selection.specs.Plan.{planLoad, fastest, Fitting}
 use Rattle.selection.proofs.Fastest.{fastest-fits, fastest-least}
 use Rattle.selection.proofs.Table.{leastOf, firstOf, via, best}
 use Rattle.selection.proofs.Choose.{spend, cell}
 use Rattle.selection.proofs.Compute.{trace, leastEnergy, choose, usedFrom, usedExponent, planned-is}
 use Rattle.layout.specs.Words.{slack, rateCount, taskCount, headKinds, extraKinds, kindIn, headKind, taskKind, kindAt, allows}
 use Rattle.layout.specs.declared.Layout.the-variants.{Ordinary}
-use Rattle.taskset.specs.Quantities.{hyperPeriod, problem, reportedEnergy, workNeeded}
-use Rattle.taskset.specs.Refusals.{number, second, Check, Accepts, _▹_, wordChecks, hyperCheck, workCheck, roomCheck, noneCheck, planCheck, readyChecks, plannerChecks, walkChecks}
+use Rattle.taskset.specs.Quantities.{hyperPeriod, problem, jobsEnergy, reportedEnergy, workNeeded}
+use Rattle.taskset.specs.Refusals.{number, second, Check, Accepts, _▹_, wordChecks, energyChecks, hyperCheck, workCheck, roomCheck, noneCheck, planCheck, readyChecks, plannerChecks, walkChecks}
 use Rattle.taskset.specs.Calls.{code, plannerValues, walkValues, SetAfter, PlannerGives, WalkAnswers}
 use Rattle.taskset.specs.DemandThree.{Keeps, PlanPromise}
 use Rattle.taskset.specs.declared.Refusal.{Refusal}
-use Rattle.taskset.specs.declared.Refusal.the-variants.{BadWord, NotAbove, TooLong, WorkShort, TooShort, NoPlan, BadPlan}
+use Rattle.taskset.specs.declared.Refusal.the-variants.{BadWord, NotAbove, TooLong, WorkShort, TooShort, NoPlan, BadPlan, BelowIdle}
 use Rattle.taskset.specs.declared.Checked.{Checked}
 use Rattle.taskset.specs.declared.Checked.the-variants.{Good, Refused as NotGood}
 use Rattle.taskset.specs.declared.PlannerAnswer.the-variants.{Planned, Refused as NotPlanned}
 use Rattle.taskset.specs.declared.WalkAnswer.the-variants.{Kept, Missed, Refused as NotWalked}
 use Rattle.taskset.proofs.Checks.{nothing, same, refuses-early, refuses-before, accepts-next, refuses-next, passed}
-use Rattle.taskset.proofs.Verdict.{isBad, isFall, isOver, shapeOf, afterShape, checkedOf, checked-answers}
+use Rattle.taskset.proofs.Verdict.{isBad, isFall, isOver, isBelow, hasBelow, shapeOf, coverOf, afterShape, checkedOf, coveredOf, checked-answers, covered-answers}
 use Rattle.taskset.proofs.PlanVerdict.{isUnfit, planVerdict, PlanSays, plan-verdict-says}
 use Rattle.taskset.proofs.Sets.{IsSet, set-of, falling}
 use Rattle.taskset.proofs.DemandThree.{walk-owes}
@@ -62,6 +62,15 @@ chip-set =
 even-tasks : List ℕ
 even-tasks = 100 ∷ 0 ∷ 2 ∷ 1 ∷ 3 ∷ 2 ∷ 4 ∷ 3 ∷ 1 ∷ 5 ∷ 4 ∷ 3 ∷ 1 ∷ 5 ∷ []
 
+-- Slack 100, idle energy h, rates 1 and 9, one task of period 100 and 90 cycles with energies e and 200: its jobs take 90
+-- ticks or 10.
+slow-or-fast : ℕ → ℕ → List ℕ
+slow-or-fast h e = 100 ∷ h ∷ 2 ∷ 1 ∷ 9 ∷ 1 ∷ 100 ∷ 90 ∷ e ∷ 200 ∷ []
+
+-- Idle energy 10, two rates, two tasks whose jobs take 4 and 2 ticks; periods p and q.
+idle-tasks : ℕ → ℕ → ℕ → ℕ → ℕ → ℕ → List ℕ
+idle-tasks p q a b c d = 100 ∷ 10 ∷ 2 ∷ 1 ∷ 2 ∷ 2 ∷ p ∷ 4 ∷ a ∷ b ∷ q ∷ 4 ∷ c ∷ d ∷ []
+
 -- Two rates and one task, with a last word that may be missing or be followed by more.
 with-rates : ℕ → ℕ → List ℕ → List ℕ
 with-rates f g rest = 100 ∷ 0 ∷ 2 ∷ f ∷ g ∷ 1 ∷ 10 ∷ 12 ∷ 4 ∷ rest
@@ -72,21 +81,23 @@ Declined s r = (plan work : List ℕ) → PlannerGives s plan work plan work (No
 
 -- ---- from what the verdicts compute to what the calls answer
 module _ (s : List ℕ) where
-  abbrev checked : Checked
-  checked = checkedOf Ordinary s
-
   abbrev L : ℕ
   L = hyperPeriod Ordinary s
 
+  -- The checks of the set that the planner makes, and their verdict.
   abbrev set : List Check
-  set = wordChecks Ordinary s ▹ hyperCheck Ordinary s
+  set = energyChecks Ordinary s ▹ hyperCheck Ordinary s
+
+  abbrev checked : Checked
+  checked = coveredOf Ordinary s
 
   answered : (x : Checked) → checked ≡ x → SetAfter set Ordinary s x
-  answered x e = subst (SetAfter set Ordinary s) e (checked-answers Ordinary s)
+  answered x e = subst (SetAfter set Ordinary s) e (covered-answers Ordinary s)
 
-  -- A refusal of checks 2, 3 or 4 is the planner's, whatever is lent.
+  -- A refusal of checks 2, 3, 10 or 4 is the planner's, whatever is lent.
   set-refused : (r : Refusal) → checked ≡ NotGood r → Declined s r
-  set-refused r e plan work = (refuses-early set (plannerChecks s (length plan) (length work)) (same (same (same nothing))) (number r) (second r) (answered (NotGood r) e), refl, refl)
+  set-refused r e plan work =
+      (refuses-early set (plannerChecks s (length plan) (length work)) (same (same (same (same nothing)))) (number r) (second r) (answered (NotGood r) e), refl, refl)
 
   module _ (m n l : ℕ) (e : checked ≡ Good m n l) where
     passes : Accepts set
@@ -98,7 +109,7 @@ module _ (s : List ℕ) where
     -- Too few working words.
     work-short : (plan work : List ℕ) → length work < workNeeded s → PlannerGives s plan work plan work (NotPlanned (WorkShort (workNeeded s)))
     work-short plan work h = (
-      refuses-early (set ▹ workCheck (workNeeded s) (length work)) (plannerChecks s (length plan) (length work)) (same (same (same (same nothing)))) 5 (workNeeded s)
+      refuses-early (set ▹ workCheck (workNeeded s) (length work)) (plannerChecks s (length plan) (length work)) (same (same (same (same (same nothing))))) 5 (workNeeded s)
           (refuses-next set (workCheck (workNeeded s) (length work)) (workNeeded s) passes (h, refl)),
       refl,
       refl,
@@ -117,7 +128,7 @@ module _ (s : List ℕ) where
 
     -- A plan, where just the words needed are lent.
     planned : (P : List ℕ) (a unit load energy : ℕ) → 1 ≤ rateCount Ordinary s → planLoad (problem s) (fastest (problem s)) ≤ L → length P ≡ taskCount Ordinary s
-        → usedExponent (problem s) (slack s) ≡ a → choose (problem s) (2 ^ a) ≡ P → 2 ^ a ≡ unit → planLoad (problem s) P ≡ load → planEnergy (problem s) P ≡ energy
+        → usedExponent (problem s) (slack s) ≡ a → choose (problem s) (2 ^ a) ≡ P → 2 ^ a ≡ unit → planLoad (problem s) P ≡ load → reportedEnergy s P ≡ energy
         → (plan work : List ℕ) → length plan ≡ taskCount Ordinary s → length work ≡ workNeeded s
         → PlannerGives s plan work P (replicate (workNeeded s) 0) (Planned unit load l energy)
     planned P a unit load energy some-rate fits size used chosen u w j plan work p q =
@@ -158,17 +169,26 @@ module _ (s : List ℕ) where
         none-fits : (P : List ℕ) → Fitting (problem s) P → ⊥
         none-fits P f = omega (arith, fastest-least (problem s) some-rate (falling Ordinary s is-set) P (f .plan), f .fits)
 
+-- ---- the same of the walk, which makes no check 10
+module _ (s : List ℕ) where
+  abbrev walked : List Check
+  walked = wordChecks Ordinary s ▹ hyperCheck Ordinary s
+
+  walk-answered : (x : Checked) → checkedOf Ordinary s ≡ x → SetAfter walked Ordinary s x
+  walk-answered x e = subst (SetAfter walked Ordinary s) e (checked-answers Ordinary s)
+
+  module _ (m n l : ℕ) (e : checkedOf Ordinary s ≡ Good m n l) where
     -- The walk of a plan that passes check 8, and of one that does not.
     module _ (P : List ℕ) where
       walks : planVerdict (rateCount Ordinary s) (taskCount Ordinary s) P ≡ none → Accepts (walkChecks s P)
       walks v =
           let fine = subst (PlanSays (rateCount Ordinary s) (taskCount Ordinary s) P) v (plan-verdict-says (rateCount Ordinary s) (taskCount Ordinary s) P) in
-          accepts-next set (planCheck Ordinary s P) passes (λ k h. fine k (h .here))
+          accepts-next walked (planCheck Ordinary s P) (walk-answered (Good m n l) e .0) (λ k h. fine k (h .here))
 
       plan-refused : (k : ℕ) → planVerdict (rateCount Ordinary s) (taskCount Ordinary s) P ≡ some k → WalkAnswers s P (NotWalked (BadPlan k))
       plan-refused k v =
           let bad = subst (PlanSays (rateCount Ordinary s) (taskCount Ordinary s) P) v (plan-verdict-says (rateCount Ordinary s) (taskCount Ordinary s) P) in
-          refuses-next set (planCheck Ordinary s P) k passes bad
+          refuses-next walked (planCheck Ordinary s P) k (walk-answered (Good m n l) e .0) bad
 
 -- ---- the cases
 pub record Cases : Type 0 where
@@ -195,7 +215,7 @@ pub record Cases : Type 0 where
   rates-4-4 : Declined (with-rates 4 4 (9 ∷ [])) (NotAbove 4)
   -- "Two rates, periods 9,999,999 and 10,000,000: refusal 4, place 9. One period of 10,000,000 passes."
   periods-too-long : Declined (two-periods 9999999 10000000) (TooLong 10)
-  period-10000000 : SetAfter (wordChecks Ordinary (one-period 10000000) ▹ hyperCheck Ordinary (one-period 10000000)) Ordinary (one-period 10000000) (Good 2 1 10000000)
+  period-10000000 : SetAfter (energyChecks Ordinary (one-period 10000000) ▹ hyperCheck Ordinary (one-period 10000000)) Ordinary (one-period 10000000) (Good 2 1 10000000)
   -- A rate count of 9 and a task count of 33, refused where they stand; a list that ends before its last word; a word
   -- too many.
   bad-rate-count : Declined (100 ∷ 0 ∷ 9 ∷ 2 ∷ []) (BadWord 2)
@@ -206,9 +226,37 @@ pub record Cases : Type 0 where
   -- number for task 2.
   plan-list-1 : (plan work : List ℕ) → length plan ≡ 1 → length work ≡ 243 → PlannerGives (S 100) plan work plan work (NotPlanned (TooShort 2))
   tie : (plan work : List ℕ) → length plan ≡ 2 → length work ≡ 243 → PlannerGives even-tasks plan work (2 ∷ 1 ∷ []) (replicate 243 0) (Planned 1 4 4 6)
+  -- Document 02, note 4. The slower rate costs 910 - 10 × 90 = 10 over idling, the faster 200 - 10 × 10 = 100: plan 1, and
+  -- with 10 idle ticks 910 + 10 × 10 = 1,010 in all, against 200 + 10 × 90 = 1,100 for plan 2.
+  idle-counts : (plan work : List ℕ) → length plan ≡ 1 → length work ≡ 82
+      → PlannerGives (slow-or-fast 10 910) plan work (1 ∷ []) (replicate 82 0) (Planned 1 90 100 1010)
+  -- So no bound between the jobs' energies alone holds: that of the plan given is 910, and plan 2 keeps every deadline
+  -- for ever with 200, 1,100 with its idle energy.
+  jobs-alone : (jobsEnergy (slow-or-fast 10 910) (1 ∷ []) ≡ 910) × (jobsEnergy (slow-or-fast 10 910) (2 ∷ []) ≡ 200) ×
+      (reportedEnergy (slow-or-fast 10 910) (2 ∷ []) ≡ 1100) × Keeps (slow-or-fast 10 910) (2 ∷ [])
+  jobs-alone-false : (1000 * jobsEnergy (slow-or-fast 10 910) (1 ∷ []) ≤ 1100 * jobsEnergy (slow-or-fast 10 910) (2 ∷ [])) → ⊥
+  -- Without idle energy the faster rate is the cheaper.
+  idle-nothing : (plan work : List ℕ) → length plan ≡ 1 → length work ≡ 82
+      → PlannerGives (slow-or-fast 0 910) plan work (2 ∷ []) (replicate 82 0) (Planned 8 10 100 200)
+  -- "10, an energy below H × job time": 900 is not below 10 × 90, and 899 is. With 900 the energy that selection sees is 0.
+  idle-equal : (plan work : List ℕ) → length plan ≡ 1 → length work ≡ 82
+      → PlannerGives (slow-or-fast 10 900) plan work (1 ∷ []) (replicate 82 0) (Planned 1 90 100 1000)
+  idle-above : Declined (slow-or-fast 10 899) (BelowIdle 8)
+  -- All that selection sees is 0: the first unit is 1, and the least load decides.
+  nothing-left : (plan work : List ℕ) → length plan ≡ 2 → length work ≡ 243
+      → PlannerGives (idle-tasks 10 10 40 20 40 20) plan work (2 ∷ 2 ∷ []) (replicate 243 0) (Planned 1 4 10 100)
+  -- "with the first such energy's place": tasks in order, rates in order; no plan would use the second task's 39, as its
+  -- other rate is cheaper. "after 3, before 4, and never by walk".
+  first-task : Declined (idle-tasks 10 10 40 19 39 20) (BelowIdle 9)
+  second-task : Declined (idle-tasks 10 10 40 20 39 20) (BelowIdle 12)
+  before-4 : Declined (idle-tasks 9999999 10000000 40 20 39 20) (BelowIdle 12)
+  after-4 : Declined (idle-tasks 9999999 10000000 40 20 40 20) (TooLong 10)
+  not-by-walk : WalkAnswers (idle-tasks 10 10 40 20 39 20) (1 ∷ 1 ∷ []) (Kept 8 2 0)
+  -- "H in microjoules per tick, 0 to 1,000".
+  idle-1001 : Declined (slow-or-fast 1001 910) (BadWord 1)
   -- A chip's list: its plan, and the walk of it.
   pub planned-chip : (plan work : List ℕ) → length plan ≡ 2 → length work ≡ 51
-      → PlannerGives chip-set plan work (2 ∷ 2 ∷ []) (replicate 51 0) (Planned 128 20 40 1440)
+      → PlannerGives chip-set plan work (2 ∷ 2 ∷ []) (replicate 51 0) (Planned 128 20 40 1680)
   pub walk-chip : WalkAnswers chip-set (2 ∷ 2 ∷ []) (Kept 20 20 0)
   -- Attempt 1, "A planner that gives every task the fastest rate": plan 3 3 for S has load 12 and energy 120. It fits;
   -- but plan 2 1 keeps every deadline for ever too, with 41, and demand 3's bound stops 120.
@@ -224,7 +272,7 @@ pub record Cases : Type 0 where
   empty-plan : WalkAnswers (S 100) [] (NotWalked (BadPlan 0))
 
 pub cases : Cases
-unfolding S one-task one-period two-periods chip-set even-tasks with-rates checkedOf shapeOf afterShape isBad isFall isOver headKinds extraKinds kindIn kindAt headKind taskKind allows isUnfit planVerdict seek total gcdIn gcd lcm running fastest exponent usedExponent usedFrom leastEnergy cell best leastOf firstOf via spend trace choose IsLe
+unfolding S one-task one-period two-periods chip-set even-tasks with-rates slow-or-fast idle-tasks checkedOf coveredOf shapeOf coverOf afterShape isBad isFall isOver isBelow hasBelow headKinds extraKinds kindIn kindAt headKind taskKind allows isUnfit planVerdict seek total gcdIn gcd lcm running fastest exponent usedExponent usedFrom leastEnergy cell best leastOf firstOf via spend trace choose IsLe
 cases = record {
   planned-100 = planned (S 100) 3 2 30 refl (2 ∷ 1 ∷ []) 0 1 29 41 (le-by-compare _ _ tt) (le-by-compare _ _ tt) refl refl refl refl refl refl;
   work-242 = λ plan work h. work-short (S 100) 3 2 30 refl plan work (omega arith);
@@ -249,7 +297,20 @@ cases = record {
   long-bad-plan = plan-refused (S 100) 3 2 30 refl (1 ∷ 1 ∷ 9 ∷ 9 ∷ []) 2 refl;
   plan-list-1 = λ plan work p q. plan-short (S 100) 3 2 30 refl plan work (omega arith) (omega arith);
   tie = planned even-tasks 2 2 4 refl (2 ∷ 1 ∷ []) 0 1 4 6 (le-by-compare _ _ tt) (le-by-compare _ _ tt) refl refl refl refl refl refl;
-  planned-chip = planned chip-set 4 2 40 refl (2 ∷ 2 ∷ []) 7 128 20 1440 (le-by-compare _ _ tt) (le-by-compare _ _ tt) refl refl refl refl refl refl;
+  idle-counts = planned (slow-or-fast 10 910) 2 1 100 refl (1 ∷ []) 0 1 90 1010 (le-by-compare _ _ tt) (le-by-compare _ _ tt) refl refl refl refl refl refl;
+  jobs-alone = (refl, refl, refl, walk-owes (slow-or-fast 10 910) (2 ∷ []) (Kept 10 90 0) (walks (slow-or-fast 10 910) 2 1 100 refl (2 ∷ []) refl, refl) .0);
+  jobs-alone-false = λ h. let bound : 1000 * 910 ≤ 1100 * 200 = h in omega arith;
+  idle-nothing = planned (slow-or-fast 0 910) 2 1 100 refl (2 ∷ []) 3 8 10 200 (le-by-compare _ _ tt) (le-by-compare _ _ tt) refl refl refl refl refl refl;
+  idle-equal = planned (slow-or-fast 10 900) 2 1 100 refl (1 ∷ []) 0 1 90 1000 (le-by-compare _ _ tt) (le-by-compare _ _ tt) refl refl refl refl refl refl;
+  idle-above = set-refused (slow-or-fast 10 899) (BelowIdle 8) refl;
+  nothing-left = planned (idle-tasks 10 10 40 20 40 20) 2 2 10 refl (2 ∷ 2 ∷ []) 0 1 4 100 (le-by-compare _ _ tt) (le-by-compare _ _ tt) refl refl refl refl refl refl;
+  first-task = set-refused (idle-tasks 10 10 40 19 39 20) (BelowIdle 9) refl;
+  second-task = set-refused (idle-tasks 10 10 40 20 39 20) (BelowIdle 12) refl;
+  before-4 = set-refused (idle-tasks 9999999 10000000 40 20 39 20) (BelowIdle 12) refl;
+  after-4 = set-refused (idle-tasks 9999999 10000000 40 20 40 20) (TooLong 10) refl;
+  not-by-walk = (walks (idle-tasks 10 10 40 20 39 20) 2 2 10 refl (1 ∷ 1 ∷ []) refl, refl);
+  idle-1001 = set-refused (slow-or-fast 1001 910) (BadWord 1) refl;
+  planned-chip = planned chip-set 4 2 40 refl (2 ∷ 2 ∷ []) 7 128 20 1680 (le-by-compare _ _ tt) (le-by-compare _ _ tt) refl refl refl refl refl refl;
   walk-chip = (walks chip-set 4 2 40 refl (2 ∷ 2 ∷ []) refl, refl);
   plan-3-3 = (refl, refl, walk-owes (S 100) (3 ∷ 3 ∷ []) (Kept 12 18 0) (walks (S 100) 3 2 30 refl (3 ∷ 3 ∷ []) refl, refl) .0);
   plan-3-3-stopped = λ p.

@@ -14,7 +14,7 @@ use Rattle.numbers.proofs.Tests.{and-true}
 use Rattle.numbers.proofs.Search.{lowest-unique, no-lowest}
 use Rattle.layout.specs.Words.{rateCount, periodPlace, WordFault}
 use Rattle.layout.specs.declared.Layout.{Layout}
-use Rattle.taskset.specs.Refusals.{IsBadWord, RateFault, IsNotAbove, PassesLimit, IsTooLong, PlanFault, IsBadPlan, Check, Passes, Accepts, Refuses, _▹_}
+use Rattle.taskset.specs.Refusals.{IsBadWord, RateFault, IsNotAbove, EnergyFault, IsBelowIdle, PassesLimit, IsTooLong, PlanFault, IsBadPlan, Check, Passes, Accepts, Refuses, _▹_}
 
 -- ---- lists of checks
 pub accepts-join : (cs ds : List Check) → Accepts cs → Accepts ds → Accepts (cs ++ ds)
@@ -156,6 +156,9 @@ module _ (layout : Layout) (s : List ℕ) where
 
   pub no-rate-fault : ((q : ℕ) → IsNotAbove layout s q → ⊥) → (q : ℕ) → RateFault layout s q → ⊥
   no-rate-fault = no-lowest (RateFault layout s)
+
+  pub no-energy-fault : ((q : ℕ) → IsBelowIdle layout s q → ⊥) → (q : ℕ) → EnergyFault layout s q → ⊥
+  no-energy-fault = no-lowest (EnergyFault layout s)
 
   pub none-passes : ((q : ℕ) → IsTooLong layout s q → ⊥) → (t : ℕ) → PassesLimit layout s t → ⊥
   none-passes h = no-lowest (PassesLimit layout s) (λ t l. h (periodPlace layout (rateCount layout s) t) (t, l, refl))

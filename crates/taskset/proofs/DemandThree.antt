@@ -1,8 +1,10 @@
--- DEMAND 3. For a set that passes checks 2, 3 and 4, whatever document 01 selects keeps every deadline for ever, its
--- energy is its own over the hyper-period, and no plan that keeps every deadline for ever is cheaper by more than the
--- slack; and no plan fits exactly when no plan keeps every deadline for ever. All of it is judged by the endless walk.
+-- DEMAND 3. For a set that passes checks 2, 3, 10 and 4, whatever document 01 selects keeps every deadline for ever, its
+-- energy is its own over the hyper-period, with its idle energy, and no plan that keeps every deadline for ever is cheaper
+-- by more than the slack, with that plan's idle energy; and no plan fits exactly when no plan keeps every deadline for
+-- ever. All of it is judged by the endless walk.
 -- Assumes nothing.
-use Prim.Native.Nat.{ℕ, _+_, _≤_, _<_}
+use Prim.Native.Nat.{ℕ, _+_, _*_, _≤_, _<_}
+use native.Mathlib.Nat.{mul-add, mul-le-mul-right}
 use mathlib.Core.Path.{_≡_, refl, sym, subst, _∙_}
 use mathlib.Core.Bool.{true, false, true≢false}
 use mathlib.Core.List.{List, [], _∷_}
@@ -14,9 +16,9 @@ use Rattle.numbers.proofs.Tests.{bool-cases, lt-or-le, between-true, true-betwe
 use Rattle.schedule.specs.Walk.{KeepsForEver}
 use Rattle.schedule.specs.Counted.{Outcome, IsKept, walk, kept, missed}
 use Rattle.schedule.proofs.Finite.{kept-iff-keeps, kept-counts}
-use Rattle.selection.specs.Plan.{Fitting, IsPlan, planLoad}
+use Rattle.selection.specs.Plan.{Fitting, IsPlan, planLoad, planEnergy}
 use Rattle.selection.proofs.Bounds.{planned-within}
-use Rattle.layout.specs.Words.{slack, rateCount, taskCount}
+use Rattle.layout.specs.Words.{slack, idle, rateCount, taskCount}
 use Rattle.taskset.specs.Quantities.{hyperPeriod, problem, endlessTasks, walkTasks, reportedEnergy}
 use Rattle.taskset.specs.Refusals.{number, second, Check, Accepts, Refuses, _▹_, NoneOk, PlanFault, IsBadPlan, noneCheck, readyChecks, walkChecks}
 use Rattle.taskset.specs.Calls.{plannerValues, Selected, PlannerGives, outcomeValues, WalkAnswers}
@@ -29,6 +31,11 @@ use Rattle.taskset.proofs.Checks.{no-plan-fault, Without, without-by, a
 use Rattle.layout.proofs.Whole.{slack-in}
 use Rattle.layout.specs.declared.Layout.the-variants.{Ordinary}
 use Rattle.taskset.proofs.Sets.{IsSet, set-of, regular, walk-load, keeps-iff-load}
+use Rattle.taskset.proofs.Idle.{Covered, covered-of, reported-is}
+
+-- A bound between two numbers holds with the same added to both.
+more-on-both : (G a b c : ℕ) → 1000 * a ≤ (1000 + G) * b → 1000 * (a + c) ≤ (1000 + G) * (b + c)
+more-on-both G a b c h = omega (arith, mul-add (1000 + G) b c, mul-le-mul-right {m = 1000} {n = 1000 + G} c (omega arith))
 
 module _ (s : List ℕ) (set : IsSet Ordinary s) where
   -- A plan keeps every deadline for ever exactly when it fits.
@@ -38,17 +45,21 @@ module _ (s : List ℕ) (set : IsSet Ordinary s) where
     λ f. record { plan = f .plan; for-ever = keeps-iff-load Ordinary s set Q .1 (f .fits) },
   )
 
-  -- A plan given keeps demand 3's promise.
-  pub plan-given : (P : List ℕ) (unit load hyper energy : ℕ) → Selected s P (plannerValues (Planned unit load hyper energy)) → PlanPromise s P energy
-  plan-given P unit load hyper energy c =
+  -- A plan given keeps demand 3's promise: selection bounds what every plan costs over H × L, and every plan that keeps
+  -- its deadlines costs that besides.
+  pub plan-given : Covered Ordinary s → (P : List ℕ) (unit load hyper energy : ℕ) → Selected s P (plannerValues (Planned unit load hyper energy)) → PlanPromise s P energy
+  plan-given covered P unit load hyper energy c =
       let e = c .values-are in
       let own : energy ≡ reportedEnergy s P = cc in
+      let mine = c .planned .chosen .ok in
       record {
-        keeps = keeps-iff-fits P .1 (c .planned .chosen .ok);
+        keeps = keeps-iff-fits P .1 mine;
         own = own;
         within = λ Q k.
-            rw own
-            (planned-within (Fitting (problem s)) (problem s) (slack s) (c .exponent) (slack-in Ordinary s (set .whole) .1) P (c .planned) Q (keeps-iff-fits Q .0 k));
+            let other = keeps-iff-fits Q .0 k in
+            rw (own, reported-is s covered P (mine .plan) (mine .fits), reported-is s covered Q (other .plan) (other .fits))
+            (more-on-both (slack s) (planEnergy (problem s) P) (planEnergy (problem s) Q) (idle s * hyperPeriod Ordinary s)
+            (planned-within (Fitting (problem s)) (problem s) (slack s) (c .exponent) (slack-in Ordinary s (set .whole) .1) P (c .planned) Q other));
       }
 
   -- No plan fits exactly when no plan keeps every deadline for ever.
@@ -90,10 +101,13 @@ module _ (s : List ℕ) (cs : List Check) (sets : Accepts cs → IsSet Ordinary 
     λ w. ⊎-elim (λ x. absurd (not-both cs n k (w .0) x)) (λ x. (x .1, x .2 .0)) (refuses-cases cs last n k h),
   )
 
--- The planner's checks have 2, 3 and 4 among them, and 7 last alone.
+-- The planner's checks have 2, 3, 10 and 4 among them, and 7 last alone.
 pub ready-set : (s : List ℕ) (planLength workLength : ℕ) → Accepts (readyChecks s planLength workLength) → IsSet Ordinary s
 ready-set s pl wl a =
     set-of Ordinary s (passed 2 (readyChecks s pl wl) refl a) (passed 3 (readyChecks s pl wl) refl a) (passed 4 (readyChecks s pl wl) refl a)
+
+pub ready-covered : (s : List ℕ) (planLength workLength : ℕ) → Accepts (readyChecks s planLength workLength) → Covered Ordinary s
+ready-covered s pl wl a = covered-of Ordinary s (passed 10 (readyChecks s pl wl) refl a)
 
 pub ready-not-7 : (s : List ℕ) (planLength workLength : ℕ) → Without 7 (readyChecks s planLength workLength)
 ready-not-7 s pl wl = without-by 7 (readyChecks s pl wl) refl
@@ -105,8 +119,9 @@ module _ (s plan work : List ℕ) where
 
   pub answer-owes : (plan′ work′ : List ℕ) (a : PlannerAnswer) → PlannerGives s plan work plan′ work′ a → PlannerOwes s plan work plan′ a
   answer-owes plan′ work′ (Planned unit load hyper energy) g =
+      let ready = accepts-but-last before (noneCheck (Fitting (problem s))) (g .0) in
       rw (g .1 .2 .front)
-      (plan-given s (ready-set s (length plan) (length work) (accepts-but-last before (noneCheck (Fitting (problem s))) (g .0))) (g .1 .0) unit load hyper energy (g .1 .1))
+      (plan-given s (ready-set s (length plan) (length work) ready) (ready-covered s (length plan) (length work) ready) (g .1 .0) unit load hyper energy (g .1 .1))
   answer-owes plan′ work′ (NotPlanned r) g =
       let owes = refusal-owes s before (ready-set s (length plan) (length work)) (ready-not-7 s (length plan) (length work)) (number r) (second r) (g .0) in
       (owes .0, (λ w. owes .1 w .0))

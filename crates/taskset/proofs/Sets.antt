@@ -8,7 +8,7 @@ use mathlib.Core.Logic.{_↔_, ⊎-elim}
 use native.Mathlib.Nat.{mul-le-mul, mul-le-mul-left, div-le-self, le-of-dvd, mod-eq-zero-of-dvd}
 use native.Mathlib.Omega.{arith}
 use lib.ListN.{getD}
-use Rattle.numbers.specs.Numbers.{All, running}
+use Rattle.numbers.specs.Numbers.{All, total, running}
 use Rattle.numbers.proofs.Tests.{lt-or-le}
 use Rattle.numbers.proofs.Rounding.{ceil-falls, ceil-positive}
 use Rattle.numbers.proofs.Sums.{sum, total-bound, total-over}
@@ -16,13 +16,13 @@ use Rattle.numbers.proofs.Multiples.{running-positive, running-divides, running
 use Rattle.schedule.specs.Walk.{KeepsForEver}
 use Rattle.schedule.proofs.Demand.{load}
 use Rattle.schedule.proofs.Periodic.{Regular, keeps-iff-fits, tasks-regular, tasks-load}
-use Rattle.selection.specs.Plan.{IsPlan, planLoad, planEnergy}
+use Rattle.selection.specs.Plan.{IsPlan, planLoad}
 use Rattle.selection.proofs.Fastest.{Falling}
-use Rattle.layout.specs.Words.{mostTasks, headSize, word, rateCount, taskCount, ratePlace, rate, period}
-use Rattle.taskset.specs.Quantities.{hyperLimit, jobTime, hyperPeriod, taskLoad, taskEnergy, problemOf, endlessTasks}
+use Rattle.layout.specs.Words.{mostTasks, mostIdle, headSize, word, idle, rateCount, taskCount, ratePlace, rate, period, energy}
+use Rattle.taskset.specs.Quantities.{hyperLimit, jobTime, hyperPeriod, taskLoad, taskEnergy, netEnergy, taskNet, problemOf, endlessTasks}
 use Rattle.taskset.specs.Refusals.{RateFault, PassesLimit, Passes, Accepts, _▹_, wordCheck, rateCheck, wordChecks, hyperCheck}
 use Rattle.taskset.proofs.Checks.{accepts-next, no-word-fault, no-rate-fault, none-passes}
-use Rattle.layout.proofs.Whole.{IsWhole, whole-of, whole-iff}
+use Rattle.layout.proofs.Whole.{IsWhole, whole-of, whole-iff, idle-in}
 use Rattle.layout.specs.declared.Layout.{Layout}
 
 pub record IsSet (layout : Layout) (s : List ℕ) : Type 0 where
@@ -118,12 +118,20 @@ module _ (layout : Layout) (s : List ℕ) where
         let jobs : hyperPeriod layout s / period layout s t ≤ hyperLimit = omega (arith, div-le-self (hyperPeriod layout s) (period layout s t), set .hyper-range .1) in
         omega (arith, mul-le-mul jobs (set .whole .energy-range t r l a b .1))
 
-    pub plan-energy-small : (P : List ℕ) → IsPlan (problemOf layout s) P → planEnergy (problemOf layout s) P ≤ mostTasks * (hyperLimit * 1000000)
-    plan-energy-small P p =
+    pub task-net-small : (t r : ℕ) → t < taskCount layout s → 1 ≤ r → r ≤ rateCount layout s → taskNet layout s t r ≤ hyperLimit * 1000000
+    task-net-small t r l a b =
+        let less : netEnergy layout s t r ≤ energy layout s t r = omega arith in
+        omega (arith, task-energy-small t r l a b, mul-le-mul-left (hyperPeriod layout s / period layout s t) less)
+
+    -- With at most 1,000 microjoules for each idle tick.
+    pub energy-small : (P : List ℕ) → IsPlan (problemOf layout s) P → (free : ℕ) → free ≤ hyperPeriod layout s
+        → total (taskEnergy layout s) (taskCount layout s) P + idle s * free ≤ mostTasks * (hyperLimit * 1000000) + mostIdle * hyperLimit
+    energy-small P p free few =
         omega (
           arith,
           total-bound (taskEnergy layout s) (hyperLimit * 1000000) (taskCount layout s) P (λ t l. task-energy-small t (getD P t 0) l (p .above t l) (p .below t l)),
           set .whole .tasks-range .1,
+          mul-le-mul {n₁ = idle s} {m₁ = free} {n₂ = mostIdle} {m₂ = hyperLimit} (idle-in layout s (set .whole)) (omega (arith, set .hyper-range .1)),
         )
 
     -- The walk's tasks under a list of rate numbers.

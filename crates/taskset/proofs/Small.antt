@@ -13,13 +13,13 @@ use Rattle.selection.specs.Plan.{Fitting}
 use Rattle.selection.proofs.Bounds.{last-small, work-small}
 use Rattle.layout.specs.Words.{headSize, slack, rateCount, taskCount, wordCount, taskCountPlace, kindAt, allows}
 use Rattle.taskset.specs.Quantities.{workNeeded, problem}
-use Rattle.taskset.specs.Refusals.{IsBadWord, IsNotAbove, IsTooLong, IsShort, IsBadPlan, Check, Accepts, Refuses, _▹_, wordChecks, hyperCheck, workCheck, roomCheck, noneCheck, planCheck, readyChecks, plannerChecks, walkChecks}
+use Rattle.taskset.specs.Refusals.{IsBadWord, IsNotAbove, IsBelowIdle, IsTooLong, IsShort, IsBadPlan, Check, Accepts, Refuses, _▹_, wordChecks, idleCheck, energyChecks, hyperCheck, workCheck, roomCheck, noneCheck, planCheck, readyChecks, plannerChecks, walkChecks}
 use Rattle.layout.specs.declared.Kind.{Kind}
 use Rattle.layout.specs.declared.Kind.the-variants.{RateCount, TaskCount}
 use Rattle.taskset.proofs.Checks.{no-word-fault, refuses-cases, passed}
 use Rattle.layout.proofs.Places.{kind-rates, kind-tasks, kind-past}
 use Rattle.layout.proofs.Whole.{IsWhole, whole-of, slack-in}
-use Rattle.layout.proofs.Layouts.{head-few, task-words}
+use Rattle.layout.proofs.Layouts.{head-few, extra-few, task-words}
 use Rattle.layout.specs.declared.Layout.the-variants.{Ordinary}
 
 module _ (s : List ℕ) where
@@ -69,6 +69,19 @@ module _ (s : List ℕ) where
     not-above-small : (q : ℕ) → IsNotAbove Ordinary s q → q ≤ 1000
     not-above-small q h = omega (arith, h .here .1, whole .rates-range .1, head-few Ordinary)
 
+    below-idle-small : (q : ℕ) → IsBelowIdle Ordinary s q → q ≤ 1000
+    below-idle-small q h =
+        let f = h .here in
+        omega (
+          arith,
+          f .place,
+          f .to-m,
+          whole .rates-range .1,
+          head-few Ordinary,
+          extra-few Ordinary,
+          task-words Ordinary (rateCount Ordinary s) (f .task) (whole .rates-range .1) (omega (arith, f .is-task, whole .tasks-range .1)),
+        )
+
     too-long-small : (q : ℕ) → IsTooLong Ordinary s q → q ≤ 1000
     too-long-small q h =
         let t = h .1 .here .0 in
@@ -116,6 +129,16 @@ module _ (s : List ℕ) where
       next-small (wordChecks Ordinary s) (hyperCheck Ordinary s) (words-second-small s)
       (λ a k h. omega (arith, too-long-small s (passed 2 (wordChecks Ordinary s) refl a) k h))
 
+  abbrev net : List Check
+  net = energyChecks Ordinary s ▹ hyperCheck Ordinary s
+
+  net-second-small : (n k : ℕ) → Refuses net n k → k < 2 ^ 32
+  net-second-small =
+      next-small (energyChecks Ordinary s) (hyperCheck Ordinary s)
+      (next-small (wordChecks Ordinary s) (idleCheck Ordinary s) (words-second-small s)
+      (λ a k h. omega (arith, below-idle-small s (passed 2 (wordChecks Ordinary s) refl a) k h)))
+      (λ a k h. omega (arith, too-long-small s (passed 2 (energyChecks Ordinary s) refl a) k h))
+
   -- The walk's refusals, and the planner's.
   pub walk-second-small : (P : List ℕ) (n k : ℕ) → Refuses (walkChecks s P) n k → k < 2 ^ 32
   walk-second-small P =
@@ -123,13 +146,13 @@ module _ (s : List ℕ) where
 
   module _ (planLength workLength : ℕ) where
     abbrev upTo5 : List Check
-    upTo5 = set ▹ workCheck (workNeeded s) workLength
+    upTo5 = net ▹ workCheck (workNeeded s) workLength
 
     ready-second-small : (n k : ℕ) → Refuses (readyChecks s planLength workLength) n k → k < 2 ^ 32
     ready-second-small =
         next-small upTo5 (roomCheck (taskCount Ordinary s) planLength)
-        (next-small set (workCheck (workNeeded s) workLength) set-second-small
-        (λ a k h. omega (arith, work-short-small s (passed 2 set refl a) workLength k h)))
+        (next-small net (workCheck (workNeeded s) workLength) net-second-small
+        (λ a k h. omega (arith, work-short-small s (passed 2 net refl a) workLength k h)))
         (λ a k h. omega (arith, plan-short-small s (passed 2 upTo5 refl a) planLength k h))
 
     pub planner-second-small : (n k : ℕ) → Refuses (plannerChecks s planLength workLength) n k → k < 2 ^ 32

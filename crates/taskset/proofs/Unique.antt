@@ -14,10 +14,10 @@ use Rattle.layout.specs.Words.{slack, taskCount}
 use Rattle.layout.specs.declared.Layout.{Layout}
 use Rattle.layout.specs.declared.Layout.the-variants.{Ordinary}
 use Rattle.taskset.specs.Quantities.{problem, workNeeded}
-use Rattle.taskset.specs.Refusals.{number, second, IsShort, NoneOk, Check, Refuses, _▹_, wordChecks, hyperCheck, workCheck, roomCheck, noneCheck, planCheck, readyChecks, plannerChecks, walkChecks}
+use Rattle.taskset.specs.Refusals.{number, second, IsShort, NoneOk, Check, Refuses, _▹_, wordChecks, idleCheck, energyChecks, hyperCheck, workCheck, roomCheck, noneCheck, planCheck, readyChecks, plannerChecks, walkChecks}
 use Rattle.taskset.specs.Calls.{CopyGives, CountsAfter, SetAfter, Selected, PlannerGives, WalkAnswers}
 use Rattle.taskset.specs.declared.Refusal.{Refusal}
-use Rattle.taskset.specs.declared.Refusal.the-variants.{TextDeparts, BadWord, NotAbove, TooLong, WorkShort, TooShort, NoPlan, BadPlan, EnergyOver}
+use Rattle.taskset.specs.declared.Refusal.the-variants.{TextDeparts, BadWord, NotAbove, TooLong, WorkShort, TooShort, NoPlan, BadPlan, EnergyOver, BelowIdle}
 use Rattle.taskset.specs.declared.Shape.{Shape}
 use Rattle.taskset.specs.declared.Shape.the-variants.{Whole, Refused as NotWhole}
 use Rattle.taskset.specs.declared.Checked.{Checked}
@@ -41,7 +41,8 @@ refusal n k =
     (cond (eqb n 5) (WorkShort k)
     (cond (eqb n 6) (TooShort k)
     (cond (eqb n 7) NoPlan
-    (cond (eqb n 8) (BadPlan k) (EnergyOver k))))))))
+    (cond (eqb n 8) (BadPlan k)
+    (cond (eqb n 9) (EnergyOver k) (BelowIdle k)))))))))
 
 refusal-of : (r : Refusal) → refusal (number r) (second r) ≡ r
 unfolding refusal
@@ -54,6 +55,7 @@ refusal-of (TooShort w) = refl
 refusal-of NoPlan = refl
 refusal-of (BadPlan k) = refl
 refusal-of (EnergyOver k) = refl
+refusal-of (BelowIdle q) = refl
 
 -- A refusal's number is above 0, and small.
 pub number-range : (r : Refusal) → (1 ≤ number r) × (number r ≤ 100)
@@ -67,6 +69,7 @@ number-range (TooShort w) = (le-by-compare _ _ tt, le-by-compare _ _ tt)
 number-range NoPlan = (le-by-compare _ _ tt, le-by-compare _ _ tt)
 number-range (BadPlan k) = (le-by-compare _ _ tt, le-by-compare _ _ tt)
 number-range (EnergyOver k) = (le-by-compare _ _ tt, le-by-compare _ _ tt)
+number-range (BelowIdle q) = (le-by-compare _ _ tt, le-by-compare _ _ tt)
 
 -- Two refusals of the same checks are one.
 pub refusal-unique : (cs : List Check) → AllSingle cs → (p r : Refusal) → Refuses cs (number p) (second p) → Refuses cs (number r) (second r) → p ≡ r
@@ -90,14 +93,20 @@ word-single layout s = (lowest-single, (lowest-single, tt))
 pub set-single : (layout : Layout) (s : List ℕ) → AllSingle (wordChecks layout s ▹ hyperCheck layout s)
 set-single layout s = single-next (wordChecks layout s) (hyperCheck layout s) (word-single layout s) (too-long-single layout s)
 
+pub energy-single : (layout : Layout) (s : List ℕ) → AllSingle (energyChecks layout s)
+energy-single layout s = single-next (wordChecks layout s) (idleCheck layout s) (word-single layout s) lowest-single
+
+pub net-single : (layout : Layout) (s : List ℕ) → AllSingle (energyChecks layout s ▹ hyperCheck layout s)
+net-single layout s = single-next (energyChecks layout s) (hyperCheck layout s) (energy-single layout s) (too-long-single layout s)
+
 pub ready-single : (s : List ℕ) (planLength workLength : ℕ) → AllSingle (readyChecks s planLength workLength)
 ready-single s pl wl =
     single-next (set ▹ workCheck (workNeeded s) wl) (roomCheck (taskCount Ordinary s) pl)
-    (single-next set (workCheck (workNeeded s) wl) (set-single Ordinary s) (short-single (workNeeded s) wl))
+    (single-next set (workCheck (workNeeded s) wl) (net-single Ordinary s) (short-single (workNeeded s) wl))
     (short-single (taskCount Ordinary s) pl)
   where
     set : List Check
-    set = wordChecks Ordinary s ▹ hyperCheck Ordinary s
+    set = energyChecks Ordinary s ▹ hyperCheck Ordinary s
 
 pub planner-single : (s : List ℕ) (planLength workLength : ℕ) → AllSingle (plannerChecks s planLength workLength)
 planner-single s pl wl =

@@ -22,8 +22,9 @@ pub record Keeps (s Q : List ℕ) : Type 0 where
   pub plan : IsPlan (problem s) Q
   pub for-ever : KeepsForEver (endlessTasks Ordinary s Q)
 
--- Of a plan given with an energy: it keeps every deadline for ever; the energy is its own, "the sum defined above"; and
--- (1000 + slack) × the energy of every plan that keeps every deadline for ever is at least 1000 × the energy returned.
+-- Of a plan given with an energy: it keeps every deadline for ever; the energy is its own, with what is drawn in idle
+-- ticks; and (1000 + slack) × the energy of every plan that keeps every deadline for ever is at least 1000 × the energy
+-- returned: "the 1000 + slack comparison is made between such totals".
 pub record PlanPromise (s P : List ℕ) (energy : ℕ) : Type 0 where
   pub keeps : Keeps s P
   pub own : energy ≡ reportedEnergy s P

@@ -1,12 +1,12 @@
--- What a set and a plan come to (document 01, 'A task set' and 'Which plan'): job times, hyper-period, loads, energies,
--- working words; the set as a problem of selection, and with a plan as the walk's tasks.
-use Prim.Native.Nat.{ℕ, _*_, _/_}
+-- What a set and a plan come to (document 01, 'A task set' and 'Which plan'; document 02, note 4): job times,
+-- hyper-period, loads, energies, working words; the set as a problem of selection, and with a plan as the walk's tasks.
+use Prim.Native.Nat.{ℕ, _+_, _-_, _*_, _/_}
 use mathlib.Core.List.{List}
 use lib.ListN.{getD}
-use Rattle.numbers.specs.Numbers.{ceil, running}
+use Rattle.numbers.specs.Numbers.{ceil, total, running}
 use Rattle.schedule.specs.Walk.{Task, periodic, tasksFrom}
-use Rattle.selection.specs.Plan.{Problem, planEnergy, workWords}
-use Rattle.layout.specs.Words.{slack, rateCount, taskCount, rate, period, cycles, energy}
+use Rattle.selection.specs.Plan.{Problem, planLoad, workWords}
+use Rattle.layout.specs.Words.{slack, idle, rateCount, taskCount, rate, period, cycles, energy}
 use Rattle.layout.specs.declared.Layout.{Layout}
 use Rattle.layout.specs.declared.Layout.the-variants.{Ordinary}
 
@@ -34,9 +34,16 @@ module _ (layout : Layout) (s : List ℕ) where
   abbrev pub taskEnergy : ℕ → ℕ → ℕ
   taskEnergy t r = hyperPeriod / period layout s t * energy layout s t r
 
-  -- The set as selection sees it.
+  -- "the energy per job less H × job time": of the task at t at rate number r, and of all its jobs in a hyper-period.
+  abbrev pub netEnergy : ℕ → ℕ → ℕ
+  netEnergy t r = energy layout s t r - idle s * jobTime t r
+
+  abbrev pub taskNet : ℕ → ℕ → ℕ
+  taskNet t r = hyperPeriod / period layout s t * netEnergy t r
+
+  -- The set as selection sees it: "Units, rounding and selection now use the energy per job less H × job time."
   abbrev pub problemOf : Problem
-  problemOf = record { count = taskCount layout s; rates = rateCount layout s; limit = hyperPeriod; load = taskLoad; energy = taskEnergy }
+  problemOf = record { count = taskCount layout s; rates = rateCount layout s; limit = hyperPeriod; load = taskLoad; energy = taskNet }
 
   -- The tasks of the endless walk: each released at 0 and at every multiple of its period, with its job time at the
   -- rate that the plan gives it.
@@ -51,9 +58,14 @@ module _ (layout : Layout) (s : List ℕ) where
 abbrev pub problem : List ℕ → Problem
 problem = problemOf Ordinary
 
--- The energy of a plan that a call returns and demand 3 compares: "Its load and energy are the sums."
+-- "the plan's task energies": the sum of them, as document 01 has a plan's energy.
+abbrev pub jobsEnergy : List ℕ → List ℕ → ℕ
+jobsEnergy s P = total (taskEnergy Ordinary s) (taskCount Ordinary s) P
+
+-- The energy of a plan that a call returns and demand 3 compares: "The reported energy is the plan's task energies plus
+-- H × (L - load), and the 1000 + slack comparison is made between such totals."
 abbrev pub reportedEnergy : List ℕ → List ℕ → ℕ
-reportedEnergy s P = planEnergy (problem s) P
+reportedEnergy s P = jobsEnergy s P + idle s * (hyperPeriod Ordinary s - planLoad (problem s) P)
 
 abbrev pub workNeeded : List ℕ → ℕ
 workNeeded s = workWords (taskCount Ordinary s) (slack s)

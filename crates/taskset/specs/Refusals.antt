@@ -1,6 +1,6 @@
 -- Why a call declines (document 01, the table of that name): each cause with the second number, and the order of each
 -- call's checks.
-use Prim.Native.Nat.{ℕ, suc, _-_, _≤_, _<_}
+use Prim.Native.Nat.{ℕ, suc, _-_, _*_, _≤_, _<_}
 use mathlib.Core.Path.{_≡_}
 use mathlib.Core.Bool.{false}
 use mathlib.Core.List.{List, [], _∷_, _++_}
@@ -8,15 +8,16 @@ use mathlib.Core.Logic.{_⊎_}
 use lib.ListN.{length, getD}
 use Rattle.numbers.specs.Numbers.{between, running, Lowest}
 use Rattle.selection.specs.Plan.{Fitting}
-use Rattle.layout.specs.Words.{word, rateCount, taskCount, ratePlace, periodPlace, period, WordFault}
+use Rattle.layout.specs.Words.{word, idle, rateCount, taskCount, ratePlace, periodPlace, energyPlace, period, energy, WordFault}
 use Rattle.layout.specs.declared.Layout.{Layout}
 use Rattle.layout.specs.declared.Layout.the-variants.{Ordinary}
-use Rattle.taskset.specs.Quantities.{hyperLimit, problem, workNeeded}
+use Rattle.taskset.specs.Quantities.{hyperLimit, jobTime, problem, workNeeded}
 use Rattle.taskset.specs.declared.Refusal.{Refusal}
-use Rattle.taskset.specs.declared.Refusal.the-variants.{TextDeparts, BadWord, NotAbove, TooLong, WorkShort, TooShort, NoPlan, BadPlan, EnergyOver}
+use Rattle.taskset.specs.declared.Refusal.the-variants.{TextDeparts, BadWord, NotAbove, TooLong, WorkShort, TooShort, NoPlan, BadPlan, EnergyOver, BelowIdle}
 
 -- The column 'Number', and the column 'Returned with it'; of document 02, "9, an energy worked out here is over
--- 1,000,000, with the first such task's number".
+-- 1,000,000, with the first such task's number", and "10, an energy below H × job time, with the first such energy's
+-- place".
 abbrev pub number : Refusal → ℕ
 number (TextDeparts o) = 1
 number (BadWord q) = 2
@@ -27,6 +28,7 @@ number (TooShort w) = 6
 number NoPlan = 7
 number (BadPlan k) = 8
 number (EnergyOver k) = 9
+number (BelowIdle q) = 10
 
 abbrev pub second : Refusal → ℕ
 second (TextDeparts o) = o
@@ -38,6 +40,7 @@ second (TooShort w) = w
 second NoPlan = 0
 second (BadPlan k) = k
 second (EnergyOver k) = k
+second (BelowIdle q) = q
 
 -- CAUSES. Each says when it holds with a second number k.
 
@@ -52,6 +55,20 @@ module _ (layout : Layout) (s : List ℕ) where
 
   abbrev pub IsNotAbove : ℕ → Type 0
   IsNotAbove = Lowest RateFault
+
+  -- 10: "an energy below H × job time", and "its place" q: that of the task at `task` at rate number `rate`.
+  pub record EnergyFault (q : ℕ) : Type 0 where
+    pub task : ℕ
+    pub is-task : task < taskCount layout s
+    pub rate : ℕ
+    pub from-1 : 1 ≤ rate
+    pub to-m : rate ≤ rateCount layout s
+    pub place : q ≡ energyPlace layout (rateCount layout s) task rate
+    pub below : energy layout s task rate < idle s * jobTime layout s task rate
+
+  -- "with the first such energy's place"
+  abbrev pub IsBelowIdle : ℕ → Type 0
+  IsBelowIdle = Lowest EnergyFault
 
   -- 4: "Hyper-period over 10,000,000"; "place of the period at which the running multiple passes it".
   abbrev pub PassesLimit : ℕ → Type 0
@@ -114,6 +131,9 @@ wordCheck layout s = check 2 (IsBadWord layout s)
 abbrev pub rateCheck : Layout → List ℕ → Check
 rateCheck layout s = check 3 (IsNotAbove layout s)
 
+abbrev pub idleCheck : Layout → List ℕ → Check
+idleCheck layout s = check 10 (IsBelowIdle layout s)
+
 abbrev pub hyperCheck : Layout → List ℕ → Check
 hyperCheck layout s = check 4 (IsTooLong layout s)
 
@@ -133,10 +153,14 @@ planCheck layout s P = check 8 (IsBadPlan (rateCount layout s) (taskCount layout
 abbrev pub wordChecks : Layout → List ℕ → List Check
 wordChecks layout s = wordCheck layout s ∷ rateCheck layout s ∷ []
 
--- "Planner: 2, 3, 4, 5, 6, 7." The lengths are those of the plan list and the working list.
+-- 10, "after 3, before 4, and never by walk or writer": with which every call goes on that goes by energies.
+abbrev pub energyChecks : Layout → List ℕ → List Check
+energyChecks layout s = wordChecks layout s ▹ idleCheck layout s
+
+-- "Planner: 2, 3, 4, 5, 6, 7", and 10 after 3. The lengths are those of the plan list and the working list.
 abbrev pub readyChecks : List ℕ → ℕ → ℕ → List Check
 readyChecks s planLength workLength =
-    wordChecks Ordinary s ▹ hyperCheck Ordinary s ▹ workCheck (workNeeded s) workLength ▹ roomCheck (taskCount Ordinary s) planLength
+    energyChecks Ordinary s ▹ hyperCheck Ordinary s ▹ workCheck (workNeeded s) workLength ▹ roomCheck (taskCount Ordinary s) planLength
 
 abbrev pub plannerChecks : List ℕ → ℕ → ℕ → List Check
 plannerChecks s planLength workLength = readyChecks s planLength workLength ▹ noneCheck (Fitting (problem s))

@@ -27,6 +27,8 @@ pub enum Refusal {
     BadPlan(usize),
     // An energy worked out by a chip's tables over the largest: task number.
     EnergyOver(usize),
+    // An energy below what idle ticks draw in the job's time: place.
+    BelowIdle(usize),
 }
 
 // The number of a refusal.
@@ -43,6 +45,7 @@ pub fn number_of(f: Refusal) -> u64
         Refusal::NoPlan => 7,
         Refusal::BadPlan(_) => 8,
         Refusal::EnergyOver(_) => 9,
+        Refusal::BelowIdle(_) => 10,
     }
 }
 
@@ -60,6 +63,7 @@ pub fn second_of(f: Refusal) -> u64
         Refusal::NoPlan => 0,
         Refusal::BadPlan(k) => k as u64,
         Refusal::EnergyOver(k) => k as u64,
+        Refusal::BelowIdle(k) => k as u64,
     }
 }
 
