@@ -1,24 +1,27 @@
 -- From what the searches of the code find to what checks 2, 3 and 4 answer.
 -- Assumes nothing.
-use Prim.Native.Nat.{ℕ, _≤_, _<_}
-use mathlib.Core.Path.{_≡_, refl, ap, _∙_}
+use Prim.Native.Nat.{ℕ, _+_, _*_, _≤_, _<_}
+use mathlib.Core.Path.{_≡_, refl, sym, ap, _∙_, subst}
 use mathlib.Core.Bool.{true, false}
 use mathlib.Core.List.{List, [], _∷_}
 use mathlib.Core.Logic.{inl, inr, ⊎-elim}
 use native.Mathlib.Omega.{arith}
 use lib.ListN.{length}
 use Rattle.numbers.specs.Numbers.{running}
-use Rattle.numbers.proofs.Tests.{bool-cases}
-use Rattle.layout.specs.Words.{headSize, mostRates, mostTasks, word, rateCount, taskCount, wordCount, ratePlace, taskCountPlace, periodPlace, period, kindAt, allows, OutOfRange, WordFault}
-use Rattle.taskset.specs.Refusals.{number, second, IsBadWord, RateFault, IsTooLong, Check, Passes, Accepts, _▹_, wordCheck, wordChecks, hyperCheck}
+use Rattle.numbers.proofs.Tests.{bool-cases, lt-or-le}
+use Rattle.layout.specs.Words.{headSize, mostRates, mostTasks, word, idle, rateCount, taskCount, wordCount, ratePlace, taskCountPlace, periodPlace, energyPlace, period, energy, kindAt, allows, OutOfRange, WordFault}
+use Rattle.taskset.specs.Refusals.{number, second, IsBadWord, RateFault, IsBelowIdle, IsTooLong, Check, Passes, Accepts, _▹_, wordCheck, wordChecks, idleCheck, hyperCheck}
 use Rattle.taskset.specs.Calls.{CountsAfter, SetAfter}
 use Rattle.numbers.specs.Search.{Found}
-use Rattle.checks.specs.Steps.{Falls, HasTasks, Followed}
-use Rattle.taskset.specs.declared.Refusal.the-variants.{BadWord, NotAbove}
+use Rattle.taskset.specs.Quantities.{jobTime}
+use Rattle.checks.specs.Steps.{Falls, HasTasks, Followed, OfTask, OfCounts, HasBelow}
+use Rattle.taskset.specs.declared.Refusal.the-variants.{BadWord, NotAbove, BelowIdle}
+use Rattle.taskset.specs.declared.Shape.{Shape}
 use Rattle.taskset.specs.declared.Shape.the-variants.{Whole, Refused as NotWhole}
 use Rattle.taskset.specs.declared.Checked.{Checked}
 use Rattle.taskset.specs.declared.Checked.the-variants.{Good, Refused as NotGood}
 use Rattle.taskset.proofs.Checks.{no-word-fault, accepts-join, refuses-back}
+use Rattle.taskset.proofs.Idle.{Below, covered-passes, first-below}
 use Rattle.layout.proofs.Whole.{whole-of, rates-in, tasks-in}
 use Rattle.layout.specs.declared.Layout.{Layout}
 
@@ -82,6 +85,58 @@ module _ (layout : Layout) (s : List ℕ) (b : ℕ) (found : Found (OutOfRange l
         pub is-shape : taskCountPlace layout (rateCount layout s) ≤ f
             → CountsAfter (wordChecks layout s) layout s (Whole (rateCount layout s) (taskCount layout s))
         is-shape h = ((words-pass, ((λ q r. falls-before q (omega (arith, r .here .1)) (r .here)), tt)), refl, refl)
+
+-- ---- check 10
+module _ {layout : Layout} {s : List ℕ} {m n : ℕ} (o : OfCounts layout m n s) {t : ℕ} (tasks : Found (HasBelow layout m s) 0 n t) where
+  pub of-task : t < n → OfTask layout m t s
+  of-task h = record { whole = o .whole; counted = o .counted; task = omega (arith, o .numbered) }
+
+  -- The first task that has an energy that is too low, and the first such of it.
+  module _ {r : ℕ} (rates : Found (Below layout s t) 1 (m + 1) r) (h : t < n) where
+    low : r ≤ m
+    low =
+        let x = tasks .hit h in
+        ⊎-elim
+        (λ (l : m < r). absurd (rates .none (x .0) (x .1) (omega (arith, x .2)) (x .3)))
+        (λ (l : r ≤ m). l)
+        (lt-or-le m r)
+
+    pub below-places : (m ≤ mostRates) × (t ≤ mostTasks) × (r ≤ mostRates)
+    below-places = (
+      omega (arith, o .counted, o .whole .rates-range .1),
+      omega (arith, o .numbered, o .whole .tasks-range .1),
+      omega (arith, low, o .counted, o .whole .rates-range .1),
+    )
+
+    pub below-idle : CountsAfter (idleCheck layout s ∷ []) layout s (NotWhole (BelowIdle (energyPlace layout m t r)))
+    below-idle =
+        let first : IsBelowIdle layout s (energyPlace layout (rateCount layout s) t r) =
+        first-below layout s t r (omega (arith, o .numbered)) (rates .from) (omega (arith, low, o .counted)) (rates .hit (omega (arith, low)))
+        (λ u l q a b x. tasks .none u (omega arith) l (q, a, omega (arith, o .counted), x))
+        (λ q a l x. rates .none q a l x) in
+        inl (refl, subst (λ (x : ℕ). IsBelowIdle layout s (energyPlace layout x t r)) (sym (o .counted)) first)
+
+  pub covered : n ≤ t → CountsAfter (idleCheck layout s ∷ []) layout s (Whole m n)
+  covered h = (
+    (covered-passes layout s (λ u r l a b.
+        ⊎-elim
+        (λ (x : Below layout s u r). absurd (tasks .none u (omega arith) (omega (arith, o .numbered)) (r, a, omega (arith, o .counted), x)))
+        (λ (x : idle s * jobTime layout s u r ≤ energy layout s u r). x)
+        (lt-or-le (energy layout s u r) (idle s * jobTime layout s u r))), tt),
+    o .counted,
+    o .numbered,
+  )
+
+-- What it asks, from check 2.
+pub of-counts : (layout : Layout) (s : List ℕ) (m n : ℕ) → Passes (wordCheck layout s) → m ≡ rateCount layout s → n ≡ taskCount layout s
+    → OfCounts layout m n s
+of-counts layout s m n pass a b = record { whole = whole-of layout s (no-word-fault layout s pass); counted = a; numbered = b }
+
+-- A check of the counts after others.
+pub after-counts : (cs : List Check) (c : Check) (layout : Layout) (s : List ℕ) → Accepts cs → (a : Shape)
+    → CountsAfter (c ∷ []) layout s a → CountsAfter (cs ▹ c) layout s a
+after-counts cs c layout s pass (Whole m n) h = (accepts-join cs (c ∷ []) pass (h .0), h .1, h .2)
+after-counts cs c layout s pass (NotWhole r) h = refuses-back cs (c ∷ []) (number r) (second r) pass h
 
 -- ---- check 4
 module _ (layout : Layout) (s : List ℕ) (m n : ℕ) where

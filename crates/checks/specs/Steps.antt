@@ -14,6 +14,7 @@ use Rattle.layout.specs.declared.Kind.the-variants.{LeftOver}
 use Rattle.layout.specs.declared.Layout.{Layout}
 use Rattle.taskset.specs.Quantities.{hyperLimit}
 use Rattle.layout.proofs.Whole.{IsWhole}
+use Rattle.taskset.proofs.Idle.{Below}
 
 -- What the word at q stands for, up to the task count; 'left over' behind that, where nothing is allowed. So the front
 -- ends at q: its word is out of its range, or stands behind the task count.
@@ -58,3 +59,13 @@ pub record OfTask (layout : Layout) (m t : ℕ) (s : List ℕ) : Type 0 where
   pub whole : IsWhole layout s
   pub counted : m ≡ rateCount layout s
   pub task : t < taskCount layout s
+
+-- A list that passes check 2 and has m rates and n tasks.
+pub record OfCounts (layout : Layout) (m n : ℕ) (s : List ℕ) : Type 0 where
+  pub whole : IsWhole layout s
+  pub counted : m ≡ rateCount layout s
+  pub numbered : n ≡ taskCount layout s
+
+-- The task at t has an energy, at one of m rates, that is below what idle ticks draw in the job's time.
+abbrev pub HasBelow : Layout → ℕ → List ℕ → ℕ → Type 0
+HasBelow layout m s t = (r : ℕ) × (1 ≤ r) × (r ≤ m) × Below layout s t r

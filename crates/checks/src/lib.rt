@@ -2,14 +2,15 @@
 // `taskset`; what stands where in a list, and what each word may be, is left to the crate layout.
 ghost use mathlib.Core.Path.{_≡_};
 ghost use mathlib.Core.List.{[], _∷_};
-ghost use Prim.Native.Nat.{_*_, _<_, _≤_};
+ghost use Prim.Native.Nat.{_+_, _*_, _<_, _≤_};
 ghost use lib.ListN.{length};
 ghost use Rattle.numbers.specs.Search.{Found};
-ghost use Rattle.layout.specs.Words.{ratePlace, taskCountPlace, tasksPlace, mostRates, slack, rate, period, cycles, energy, OutOfRange};
+ghost use Rattle.layout.specs.Words.{ratePlace, taskCountPlace, tasksPlace, mostRates, idlePlace, slack, idle, rate, period, cycles, energy, OutOfRange};
 ghost use Rattle.taskset.specs.Quantities.{jobTime};
-ghost use Rattle.taskset.specs.Refusals.{_▹_, wordChecks, hyperCheck};
+ghost use Rattle.taskset.specs.Refusals.{_▹_, wordChecks, idleCheck, energyChecks, hyperCheck};
 ghost use Rattle.taskset.specs.Calls.{CountsAfter, SetAfter};
-ghost use Rattle.checks.specs.Steps.{frontKind, EndsFront, FrontPassed, Falls, HasTasks, Followed, OfTask};
+ghost use Rattle.taskset.proofs.Idle.{Below};
+ghost use Rattle.checks.specs.Steps.{frontKind, EndsFront, FrontPassed, Falls, HasTasks, Followed, OfTask, OfCounts, HasBelow};
 use layout::Kind;
 use layout::Layout;
 use taskset::Checked;
@@ -175,6 +176,64 @@ fn follow(s: &[u32], layout: Layout, m: usize, n: usize) -> Multiple
     Multiple { tasks: t, value: l }
 }
 
+// The first rate number, of m, at which the energy of the task at place t is below what idle ticks draw in the job's
+// time; or m + 1.
+fn below_rate(s: &[u32], layout: Layout, m: usize, t: usize) -> usize
+    requires { ⌜ OfTask layout m t (now s) ⌝ }
+    ensures { λ r. ⌜ Found (Below layout (now (s .entry)) t) 1 (m + 1) r ⌝ }
+{
+    let idle = idle_of(s) as u64;
+    let mut r = 1;
+    while r <= m {
+        let time = job_time(s, layout, m, t, r) as u64;
+        let energy = energy_of(s, layout, m, t, r) as u64;
+        if energy < idle * time {
+            return r;
+        }
+        r += 1;
+    }
+    r
+}
+
+// The place of the first of n tasks that has such an energy; or n.
+fn below_task(s: &[u32], layout: Layout, m: usize, n: usize) -> usize
+    requires { ⌜ OfCounts layout m n (now s) ⌝ }
+    ensures { λ r. ⌜ Found (HasBelow layout m (now (s .entry))) 0 n r ⌝ }
+{
+    let mut t = 0;
+    while t < n {
+        if below_rate(s, layout, m, t) <= m {
+            return t;
+        }
+        t += 1;
+    }
+    t
+}
+
+// Check 10, of a list with m rates and n tasks that passes check 2.
+fn check_idle(s: &[u32], layout: Layout, m: usize, n: usize) -> Shape
+    requires { ⌜ OfCounts layout m n (now s) ⌝ }
+    ensures { λ r. ⌜ CountsAfter (idleCheck layout (now (s .entry)) ∷ []) layout (now (s .entry)) r ⌝ }
+{
+    let t = below_task(s, layout, m, n);
+    if t < n {
+        let r = below_rate(s, layout, m, t);
+        return Shape::Refused(Refusal::BelowIdle(layout::energy_place(layout, m, t, r)));
+    }
+    Shape::Whole { rates: m, tasks: n }
+}
+
+// Checks 2, 3 and 10, in this order.
+fn check_energies(s: &[u32], layout: Layout) -> Shape
+    ensures { λ r. ⌜ CountsAfter (energyChecks layout (now (s .entry))) layout (now (s .entry)) r ⌝ }
+{
+    let shape = check_words(s, layout);
+    match shape {
+        Shape::Refused(r) => Shape::Refused(r),
+        Shape::Whole { rates, tasks } => check_idle(s, layout, rates, tasks),
+    }
+}
+
 // Check 4, of a list with m rates and n tasks that passes check 2.
 pub fn check_hyper(s: &[u32], layout: Layout, m: usize, n: usize) -> Checked
     requires { ⌜ HasTasks layout m n (now s) ⌝ }
@@ -203,12 +262,31 @@ pub fn check_set(s: &[u32], layout: Layout) -> Checked
     }
 }
 
+// Checks 2, 3, 10 and 4, in this order: for whoever goes by energies.
+pub fn check_covered(s: &[u32], layout: Layout) -> Checked
+    ensures { λ r. ⌜ SetAfter (energyChecks layout (now (s .entry)) ▹ hyperCheck layout (now (s .entry))) layout (now (s .entry)) r ⌝ }
+{
+    let shape = check_energies(s, layout);
+    match shape {
+        Shape::Refused(r) => Checked::Refused(r),
+        Shape::Whole { rates, tasks } => check_hyper(s, layout, rates, tasks),
+    }
+}
+
 // The slack.
 pub fn slack_of(s: &[u32]) -> u32
     requires { ⌜ 0 < length (now s) ⌝ }
     ensures { λ r. ⌜ r ≡ slack (now (s .entry)) ⌝ }
 {
     s[layout::SLACK_PLACE]
+}
+
+// The idle energy of a tick.
+pub fn idle_of(s: &[u32]) -> u32
+    requires { ⌜ idlePlace < length (now s) ⌝ }
+    ensures { λ r. ⌜ r ≡ idle (now (s .entry)) ⌝ }
+{
+    s[layout::IDLE_PLACE]
 }
 
 // The period of the task at place t of a set.
