@@ -1,6 +1,6 @@
 -- The arrays of loads and energies, filled option by option.
 -- Assumes nothing.
-use Prim.Native.Nat.{ℕ, _+_, _*_, _/_, _^_, _≤_, _<_}
+use Prim.Native.Nat.{ℕ, _+_, _-_, _*_, _/_, _^_, _≤_, _<_}
 use mathlib.Core.Path.{_≡_, refl, _∙_}
 use mathlib.Core.List.{List}
 use mathlib.Core.Logic.{⊎-elim}
@@ -10,10 +10,10 @@ use native.Mathlib.Omega.{arith}
 use lib.ListN.{getD, set, length-set, replicate, length-replicate}
 use lib.Seq.{getD-set-same, getD-set-other}
 use Rattle.numbers.proofs.Rounding.{ceil-small}
-use Rattle.layout.specs.Words.{mostRates, mostTasks, rateCount, rate, period, cycles, energy}
+use Rattle.layout.specs.Words.{mostRates, mostTasks, idle, rateCount, rate, period, cycles, energy}
 use Rattle.layout.specs.declared.Layout.{Layout}
-use Rattle.taskset.specs.Quantities.{hyperLimit, jobTime, taskLoad, taskEnergy}
-use Rattle.taskset.proofs.Sets.{IsSet, task-energy-small}
+use Rattle.taskset.specs.Quantities.{hyperLimit, jobTime, taskLoad, taskNet}
+use Rattle.taskset.proofs.Sets.{IsSet, task-net-small}
 use Rattle.choice.proofs.Choosing.{zeros-at}
 use Rattle.options.specs.Options.{Laid, LaidBoth, TaskGiven}
 
@@ -59,13 +59,13 @@ put-next f m t r d e p = record {
 
 -- ---- loads and energies of a set
 pub both-none : (layout : Layout) (s : List ℕ) (m : ℕ) → LaidBoth layout s m 0 1 (replicate 512 0) (replicate 512 0)
-both-none layout s m = record { loads = put-none (taskLoad layout s) m; energies = put-none (taskEnergy layout s) m }
+both-none layout s m = record { loads = put-none (taskLoad layout s) m; energies = put-none (taskNet layout s) m }
 
 pub both-next : (layout : Layout) (s : List ℕ) (m t r : ℕ) (ls es : List ℕ) → r ≡ m + 1 → LaidBoth layout s m t r ls es
     → LaidBoth layout s m (t + 1) 1 ls es
 both-next layout s m t r ls es e b = record {
   loads = put-next (taskLoad layout s) m t r ls e (b .loads);
-  energies = put-next (taskEnergy layout s) m t r es e (b .energies);
+  energies = put-next (taskNet layout s) m t r es e (b .energies);
 }
 
 module _ {layout : Layout} {m l t : ℕ} {s : List ℕ} (g : TaskGiven layout m l t s) where
@@ -86,8 +86,8 @@ module _ {layout : Layout} {m l t : ℕ} {s : List ℕ} (g : TaskGiven layout m 
     jobs-few : l / p ≤ hyperLimit
     jobs-few = omega (arith, div-le-self l p, g .hyper, set-is .hyper-range .1)
 
-    -- job time x and energy y at rate number r, as they were read
-    module _ (r x y : ℕ) (from : 1 ≤ r) (to : r ≤ m) where
+    -- job time x and energy y at rate number r, and the idle energy h of a tick, as they were read
+    module _ (r x y h : ℕ) (from : 1 ≤ r) (to : r ≤ m) where
       rate-number : r ≤ rateCount layout s
       rate-number = omega (arith, g .of-task .counted)
 
@@ -101,17 +101,22 @@ module _ {layout : Layout} {m l t : ℕ} {s : List ℕ} (g : TaskGiven layout m 
                 (omega (arith, x-is, ceil-small (cycles layout s t) (rate layout s r) f)),
           )
 
-      pub energy-fits : y ≡ energy layout s t r → l / p * y ≤ hyperLimit * 1000000
-      energy-fits y-is = rw (g .hyper, p-is, y-is) (task-energy-small layout s set-is t r (g .of-task .task) from rate-number)
+      -- What idle ticks draw in the job's time is no more than its energy, so that the rest is one.
+      pub drawn-fits : x ≡ jobTime layout s t r → y ≡ energy layout s t r → h ≡ idle s → h * x ≤ y
+      drawn-fits x-is y-is h-is = rw (h-is, x-is, y-is) (g .covered t r (g .of-task .task) from rate-number)
 
-      pub both-more : (ls es : List ℕ) → x ≡ jobTime layout s t r → y ≡ energy layout s t r
+      pub energy-fits : x ≡ jobTime layout s t r → y ≡ energy layout s t r → h ≡ idle s → l / p * (y - h * x) ≤ hyperLimit * 1000000
+      energy-fits x-is y-is h-is =
+          rw (g .hyper, p-is, h-is, x-is, y-is) (task-net-small layout s set-is t r (g .of-task .task) from rate-number)
+
+      pub both-more : (ls es : List ℕ) → x ≡ jobTime layout s t r → y ≡ energy layout s t r → h ≡ idle s
           → LaidBoth layout s m t r ls es
-          → LaidBoth layout s m t (r + 1) (set ls (t * 16 + r) (l / p * x)) (set es (t * 16 + r) (l / p * y))
-      both-more ls es x-is y-is b = record {
+          → LaidBoth layout s m t (r + 1) (set ls (t * 16 + r) (l / p * x)) (set es (t * 16 + r) (l / p * (y - h * x)))
+      both-more ls es x-is y-is h-is b = record {
         loads =
             put-more (taskLoad layout s) m t r (l / p * x) ls task-few rates-few to (rw (g .hyper, p-is, x-is) refl)
             (omega (arith, load-fits x-is)) (b .loads);
         energies =
-            put-more (taskEnergy layout s) m t r (l / p * y) es task-few rates-few to (rw (g .hyper, p-is, y-is) refl)
-            (omega (arith, energy-fits y-is)) (b .energies);
+            put-more (taskNet layout s) m t r (l / p * (y - h * x)) es task-few rates-few to (rw (g .hyper, p-is, h-is, x-is, y-is) refl)
+            (omega (arith, energy-fits x-is y-is h-is)) (b .energies);
       }

@@ -5,8 +5,9 @@ use mathlib.Core.Path.{_≡_}
 use mathlib.Core.List.{List}
 use lib.ListN.{length, getD}
 use Rattle.layout.specs.declared.Layout.{Layout}
-use Rattle.taskset.specs.Quantities.{hyperPeriod, taskLoad, taskEnergy}
+use Rattle.taskset.specs.Quantities.{hyperPeriod, taskLoad, taskNet}
 use Rattle.taskset.proofs.Sets.{IsSet}
+use Rattle.taskset.proofs.Idle.{Covered}
 use Rattle.checks.specs.Steps.{OfTask}
 use Rattle.table.specs.Rows.{optionAt}
 
@@ -18,14 +19,15 @@ pub record Laid (f : ℕ → ℕ → ℕ) (m t r : ℕ) (d : List ℕ) : Type 0 
   pub before : (u q : ℕ) → u < t → 1 ≤ q → q ≤ m → optionAt d u q ≡ f u q
   pub here : (q : ℕ) → 1 ≤ q → q < r → optionAt d t q ≡ f t q
 
--- The set's loads and energies, so far.
+-- The set's loads and the energies that selection goes by, so far.
 pub record LaidBoth (layout : Layout) (s : List ℕ) (m t r : ℕ) (ls es : List ℕ) : Type 0 where
   pub loads : Laid (taskLoad layout s) m t r ls
-  pub energies : Laid (taskEnergy layout s) m t r es
+  pub energies : Laid (taskNet layout s) m t r es
 
--- What a task's options ask: the task is one of a set of m rates, and l is the set's hyper-period.
+-- What a task's options ask: the task is one of a set of m rates that passes check 10, and l is the set's hyper-period.
 pub record TaskGiven (layout : Layout) (m l t : ℕ) (s : List ℕ) : Type 0 where
   pub set : IsSet layout s
+  pub covered : Covered layout s
   pub of-task : OfTask layout m t s
   pub hyper : l ≡ hyperPeriod layout s
 

@@ -1,5 +1,6 @@
-// A set's options, laid out for whoever chooses among them: the load and the energy of each task at each rate, by task
-// and rate number, in two arrays. Which plan is chosen, and how, is left to the engines above.
+// A set's options, laid out for whoever chooses among them: the load of each task at each rate, and the energy less what
+// idle ticks would draw in that time, by task and rate number, in two arrays. Which plan is chosen, and how, is left to
+// the engines above.
 ghost use Prim.Native.Nat.{_+_};
 ghost use Rattle.options.specs.Options.{LaidBoth, TaskGiven, TasksGiven};
 use layout::Layout;
@@ -20,12 +21,13 @@ fn put_task(
     ensures { λ _. ⌜ LaidBoth layout (now (set .entry)) m (t + 1) 1 (now (loads .exit)) (now (energies .exit)) ⌝ }
 {
     let jobs = hyper / checks::period_of(set, layout, m, t) as u64;
+    let idle = checks::idle_of(set) as u64;
     let mut r: usize = 1;
     while r <= m {
-        let time = checks::job_time(set, layout, m, t, r);
-        let energy = checks::energy_of(set, layout, m, t, r);
-        loads[t * 16 + r] = jobs * time as u64;
-        energies[t * 16 + r] = jobs * energy as u64;
+        let time = checks::job_time(set, layout, m, t, r) as u64;
+        let energy = checks::energy_of(set, layout, m, t, r) as u64;
+        loads[t * 16 + r] = jobs * time;
+        energies[t * 16 + r] = jobs * (energy - idle * time);
         r += 1;
     }
 }

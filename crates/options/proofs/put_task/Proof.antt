@@ -1,27 +1,30 @@
 -- The options of one task, rate by rate. The invariant: the arrays hold those of the tasks before, and of this task
 -- those of the rates before the one in hand.
 -- Assumes nothing.
-use Prim.Native.Nat.{_+_, _-_, _≤_, _<_}
+use Prim.Native.Nat.{_+_, _-_, _*_, _≤_, _<_}
 use native.Mathlib.Omega.{arith}
 use Rattle.layout.specs.Words.{mostRates, mostTasks}
 use Rattle.options.specs.Options.{LaidBoth}
-use Rattle.options.proofs.Filling.{both-next, task-few, rates-few, period-positive, load-fits, energy-fits, both-more}
+use Rattle.options.proofs.Filling.{both-next, task-few, rates-few, period-positive, load-fits, drawn-fits, energy-fits, both-more}
 use borrow.Author.Needs.{needs}
 use Rattle.options.proofs.put_task.Statement.{statement}
 use Rattle.options.proofs.put_task.Tie as tie
 
 abbrev Inv-loop : tie.InvT-loop
-Inv-loop loads₀ energies₀ set layout m hyper t jobs r₀ loads energies r = (1 ≤ r) × (r ≤ m + 1) × LaidBoth layout set m t r loads energies
+Inv-loop loads₀ energies₀ set layout m hyper t jobs h r₀ loads energies r = (1 ≤ r) × (r ≤ m + 1) × LaidBoth layout set m t r loads energies
 
 abbrev μ-loop : tie.MeasureT-loop
-μ-loop loads₀ energies₀ set layout m hyper t jobs r₀ loads energies r = m + 1 - r
+μ-loop loads₀ energies₀ set layout m hyper t jobs h r₀ loads energies r = m + 1 - r
 
 -- The ways back from where a rate's job time and energy were read; and how many tasks and rates there are at most.
 abbrev at-loop : tie.After-energy-of Inv-loop μ-loop → tie.At-loop Inv-loop μ-loop
 at-loop c = c .before .before .before
 
 abbrev start : tie.At-loop Inv-loop μ-loop → tie.Start Inv-loop μ-loop
-start a = a .before .before .before
+start a = a .before .before .before .before
+
+abbrev read : tie.After-energy-of Inv-loop μ-loop → tie.After-period-of Inv-loop μ-loop
+read c = at-loop c .before .before
 
 few : (c : tie.After-energy-of Inv-loop μ-loop)
     → let s = start (at-loop c) .args in (s .t < mostTasks) × (s .m ≤ mostRates)
@@ -36,26 +39,35 @@ cast-jobs c = search needs
 div-jobs : tie.Need-div-jobs Inv-loop μ-loop
 div-jobs c = omega (arith, c .period-of .ensures, period-positive (c .before .before .pre .0))
 
+idle-of-requires : tie.Need-idle-of-requires Inv-loop μ-loop
+idle-of-requires c κs = let w = c .before .before .pre .0 .of-task .whole in omega (arith, w .size)
+
+cast-idle : tie.Need-cast-idle Inv-loop μ-loop
+cast-idle c = search needs
+
 loop-holds : tie.Need-loop-holds Inv-loop μ-loop
-loop-holds c = (omega arith, omega arith, c .before .before .pre .1)
+loop-holds c = (omega arith, omega arith, c .before .before .before .pre .1)
 
 job-time-requires : tie.Need-job-time-requires Inv-loop μ-loop
 job-time-requires c κs =
-    let a = c .before in (a .before .before .before .pre .0 .of-task, a .loop .inv .0, omega arith)
+    let a = c .before in (start a .pre .0 .of-task, a .loop .inv .0, omega arith)
+
+cast-time : tie.Need-cast-time Inv-loop μ-loop
+cast-time c = search needs
 
 energy-of-requires : tie.Need-energy-of-requires Inv-loop μ-loop
 energy-of-requires c κs =
-    let a = c .before .before in (a .before .before .before .pre .0 .of-task, a .loop .inv .0, omega arith)
+    let a = c .before .before in (start a .pre .0 .of-task, a .loop .inv .0, omega arith)
 
-cast-loads : tie.Need-cast-loads Inv-loop μ-loop
-cast-loads c = search needs
+cast-energy : tie.Need-cast-energy Inv-loop μ-loop
+cast-energy c = search needs
 
 mul-loads : tie.Need-mul-loads Inv-loop μ-loop
 mul-loads c =
     let a = at-loop c in
     omega (
       arith,
-      load-fits (start a .pre .0) _ (a .before .period-of .ensures) (a .loop .r) _ 0 (a .loop .inv .0)
+      load-fits (start a .pre .0) _ (read c .period-of .ensures) (a .loop .r) _ 0 0 (a .loop .inv .0)
           (omega arith) (c .before .job-time .ensures),
     )
 
@@ -71,26 +83,37 @@ mul-loads-3 c = omega (arith, few c)
 element-write-loads : tie.Need-element-write-loads Inv-loop μ-loop
 element-write-loads c = omega (arith, few c, at-loop c .loop .inv .2 .loads .size)
 
-cast-energies : tie.Need-cast-energies Inv-loop μ-loop
-cast-energies c = search needs
+-- What idle ticks draw in the job's time is no more than its energy, and no product overflows.
+drawn : (c : tie.After-energy-of Inv-loop μ-loop)
+    → at-loop c .before .idle-of .result * c .before .job-time .result ≤ c .energy-of .result
+drawn c =
+    let a = at-loop c in
+    drawn-fits (start a .pre .0) _ (read c .period-of .ensures) (a .loop .r) _ _ _ (a .loop .inv .0) (omega arith)
+    (c .before .job-time .ensures) (c .energy-of .ensures) (a .before .idle-of .ensures)
 
 mul-energies : tie.Need-mul-energies Inv-loop μ-loop
-mul-energies c =
+mul-energies c = omega (arith, drawn c)
+
+sub-energies : tie.Need-sub-energies Inv-loop μ-loop
+sub-energies c = drawn c
+
+mul-energies-2 : tie.Need-mul-energies-2 Inv-loop μ-loop
+mul-energies-2 c =
     let a = at-loop c in
     omega (
       arith,
-      energy-fits (start a .pre .0) _ (a .before .period-of .ensures) (a .loop .r) 0 _ (a .loop .inv .0)
-          (omega arith) (c .energy-of .ensures),
+      energy-fits (start a .pre .0) _ (read c .period-of .ensures) (a .loop .r) _ _ _ (a .loop .inv .0)
+          (omega arith) (c .before .job-time .ensures) (c .energy-of .ensures) (a .before .idle-of .ensures),
     )
 
-mul-energies-2 : tie.Need-mul-energies-2 Inv-loop μ-loop
-mul-energies-2 c = omega (arith, few c)
+mul-energies-3 : tie.Need-mul-energies-3 Inv-loop μ-loop
+mul-energies-3 c = omega (arith, few c)
 
 add-energies : tie.Need-add-energies Inv-loop μ-loop
 add-energies c = omega (arith, few c)
 
-mul-energies-3 : tie.Need-mul-energies-3 Inv-loop μ-loop
-mul-energies-3 c = omega (arith, few c)
+mul-energies-4 : tie.Need-mul-energies-4 Inv-loop μ-loop
+mul-energies-4 c = omega (arith, few c)
 
 element-write-energies : tie.Need-element-write-energies Inv-loop μ-loop
 element-write-energies c = omega (arith, few c, at-loop c .loop .inv .2 .energies .size)
@@ -106,14 +129,14 @@ loop-again c =
     let a = at-loop c in (
       omega arith,
       omega arith,
-      both-more (start a .pre .0) _ (a .before .period-of .ensures) (a .loop .r) _ _ (a .loop .inv .0) (omega arith) _ _
-          (c .before .job-time .ensures) (c .energy-of .ensures) (a .loop .inv .2),
+      both-more (start a .pre .0) _ (read c .period-of .ensures) (a .loop .r) _ _ _ (a .loop .inv .0) (omega arith) _ _
+          (c .before .job-time .ensures) (c .energy-of .ensures) (a .before .idle-of .ensures) (a .loop .inv .2),
     )
 
 returns : tie.Need-returns Inv-loop μ-loop
 returns c =
     let a = c .before in
-    let g = a .before .before .before in
+    let g = start a in
     both-next (g .args .layout) (g .args .set .now) (g .args .m) (g .args .t) (a .loop .r) _ _ (omega arith) (a .loop .inv .2)
 
 pub put-task-spec : {M : Type 1} → statement M
@@ -125,20 +148,24 @@ put-task-spec =
     period-of-requires
     cast-jobs
     div-jobs
+    idle-of-requires
+    cast-idle
     loop-holds
     job-time-requires
+    cast-time
     energy-of-requires
-    cast-loads
+    cast-energy
     mul-loads
     mul-loads-2
     add-loads
     mul-loads-3
     element-write-loads
-    cast-energies
     mul-energies
+    sub-energies
     mul-energies-2
-    add-energies
     mul-energies-3
+    add-energies
+    mul-energies-4
     element-write-energies
     add-r
     loop-less
