@@ -1,7 +1,7 @@
 -- From the functions below it to the call: what the checks give is what the choice asks for, and what is chosen over
 -- the arrays is what document 01 selects of the set.
 -- Assumes nothing.
-use Prim.Native.Nat.{ℕ, _≤_, _<_}
+use Prim.Native.Nat.{ℕ, _+_, _-_, _*_, _≤_, _<_}
 use mathlib.Core.Path.{_≡_, refl, _∙_}
 use mathlib.Core.List.{List}
 use mathlib.Core.Logic.{_↔_, ⊎-elim}
@@ -12,11 +12,11 @@ use Rattle.numbers.specs.Numbers.{total}
 use Rattle.numbers.proofs.Tests.{lt-or-le}
 use Rattle.selection.specs.Plan.{Problem, planLoad, Fitting, IsPlan, fastest}
 use Rattle.selection.proofs.Fastest.{some-fits-iff-fastest}
-use Rattle.selection.proofs.Same.{Same, load-same, energy-same, fastest-load-same, planned-same}
-use Rattle.layout.specs.Words.{mostRates, mostTasks, slack, rateCount, taskCount}
+use Rattle.selection.proofs.Same.{Same, plan-same, load-same, energy-same, fastest-load-same, planned-same}
+use Rattle.layout.specs.Words.{mostRates, mostTasks, mostIdle, idlePlace, slack, idle, rateCount, taskCount}
 use Rattle.layout.specs.declared.Layout.the-variants.{Ordinary}
 use Rattle.layout.proofs.Whole.{slack-in}
-use Rattle.taskset.specs.Quantities.{hyperLimit, hyperPeriod, problem, workNeeded}
+use Rattle.taskset.specs.Quantities.{hyperLimit, hyperPeriod, problem, reportedEnergy, workNeeded}
 use Rattle.taskset.specs.Refusals.{number, second, IsShort, Check, Accepts, Refuses, noneCheck, readyChecks, plannerChecks}
 use Rattle.taskset.specs.Calls.{plannerValues, SetAfter, Selected, HoldsPlan, Cleared, PlannerGives}
 use Rattle.taskset.specs.declared.Refusal.{Refusal}
@@ -25,8 +25,9 @@ use Rattle.taskset.specs.declared.Checked.the-variants.{Good, Refused as NotGoo
 use Rattle.taskset.specs.declared.PlannerAnswer.{PlannerAnswer}
 use Rattle.taskset.specs.declared.PlannerAnswer.the-variants.{Planned, Refused as NotPlanned}
 use Rattle.taskset.proofs.Checks.{accepts-next, refuses-next, refuses-before, passed}
-use Rattle.taskset.proofs.Sets.{IsSet, falling}
-use Rattle.taskset.proofs.DemandThree.{answer-owes, ready-set}
+use Rattle.taskset.proofs.Sets.{IsSet, falling, energy-small}
+use Rattle.taskset.proofs.DemandThree.{answer-owes, ready-set, ready-covered}
+use Rattle.taskset.proofs.Idle.{Covered, reported-is}
 use Rattle.table.specs.Rows.{optionAt}
 use Rattle.choice.specs.declared.Request.{Request}
 use Rattle.choice.specs.declared.Choice.{Choice}
@@ -46,7 +47,7 @@ refused : (s plan work : List ℕ) (r : Refusal)
     → PlannerCall s plan work plan work (NotPlanned r)
 refused s plan work r h = called s plan work plan work (NotPlanned r) (h, refl, refl) tt
 
--- A refusal by checks 2 to 6 is the call's.
+-- A refusal by the checks before 7 is the call's.
 pub ready-refused : (s plan work : List ℕ) (r : Refusal)
     → SetAfter (readyChecks s (length plan) (length work)) Ordinary s (NotGood r)
     → PlannerCall s plan work plan work (NotPlanned r)
@@ -59,7 +60,7 @@ long-enough : (needed lent : ℕ) → ((k : ℕ) → IsShort needed lent k → �
 long-enough needed lent pass =
     ⊎-elim (λ (h : lent < needed). absurd (pass needed (h, refl))) (λ (h : needed ≤ lent). h) (lt-or-le lent needed)
 
--- A set of m rates, n tasks and hyper-period l has passed checks 2 to 6.
+-- A set of m rates, n tasks and hyper-period l has passed the checks before 7.
 pub record Prepared (s plan work : List ℕ) (m n l : ℕ) : Type 0 where
   pub after : SetAfter (readyChecks s (length plan) (length work)) Ordinary s (Good m n l)
 
@@ -73,10 +74,13 @@ module _ {s plan work : List ℕ} {m n l : ℕ} (prepared : Prepared s plan work
   set : IsSet Ordinary s
   set = ready-set s (length plan) (length work) (good .0)
 
+  covered : Covered Ordinary s
+  covered = ready-covered s (length plan) (length work) (good .0)
+
   pub hyper-fits : l ≤ hyperLimit
   hyper-fits = omega (arith, good .3, set .hyper-range .1)
 
-  pub words-given : 0 < length s
+  pub words-given : idlePlace < length s
   words-given = omega (arith, set .whole .size)
 
   rates-range : (2 ≤ m) × (m ≤ mostRates)
@@ -90,6 +94,7 @@ module _ {s plan work : List ℕ} {m n l : ℕ} (prepared : Prepared s plan work
     few = few;
     each = λ t h. record {
       set = set;
+      covered = covered;
       of-task = record { whole = set .whole; counted = good .1; task = omega (arith, good .2) };
       hyper = good .3;
     };
@@ -166,8 +171,27 @@ module _ {s plan work : List ℕ} {m n l : ℕ} (prepared : Prepared s plan work
             plan-is : IsPlan chosenFrom (take n plan′)
             plan-is = chose .planned .chosen .ok .plan
 
-            selected : Selected s (take n plan′) (plannerValues (Planned (c .unit) (c .load) l (c .energy)))
-            selected = record {
+            fits-set : planLoad (problem s) (take n plan′) ≤ hyperPeriod Ordinary s
+            fits-set = omega (arith, chose .planned .chosen .ok .fits, load-same chosenFrom (problem s) same (take n plan′) plan-is, good .3)
+
+            energy-is : c .energy + idle s * hyperPeriod Ordinary s ≡ reportedEnergy s (take n plan′)
+            energy-is =
+                omega (
+                  arith,
+                  chose .energy-is,
+                  energy-same chosenFrom (problem s) same (take n plan′) plan-is,
+                  reported-is s covered (take n plan′) (plan-same chosenFrom (problem s) same (take n plan′) plan-is) fits-set,
+                )
+
+            -- What is added for idle ticks, h of them a tick, fits.
+            pub energy-fits : {h : ℕ} → h ≡ idle s → c .energy + h * l ≤ mostTasks * (hyperLimit * 1000000) + mostIdle * hyperLimit
+            energy-fits e =
+                rw (e, good .3, energy-is)
+                (energy-small Ordinary s set (take n plan′) (plan-same chosenFrom (problem s) same (take n plan′) plan-is)
+                (hyperPeriod Ordinary s - planLoad (problem s) (take n plan′)) (omega arith))
+
+            selected : {e : ℕ} → e ≡ reportedEnergy s (take n plan′) → Selected s (take n plan′) (plannerValues (Planned (c .unit) (c .load) l e))
+            selected energy = record {
               exponent = chose .exponent;
               planned =
                   rw (← g-is)
@@ -178,7 +202,7 @@ module _ {s plan work : List ℕ} {m n l : ℕ} (prepared : Prepared s plan work
                     chose .unit-is,
                     chose .load-is ∙ load-same chosenFrom (problem s) same (take n plan′) plan-is,
                     good .3,
-                    chose .energy-is ∙ energy-same chosenFrom (problem s) same (take n plan′) plan-is,
+                    energy,
                   );
             }
 
@@ -188,14 +212,15 @@ module _ {s plan work : List ℕ} {m n l : ℕ} (prepared : Prepared s plan work
             cleared : Cleared (workNeeded s) work work′
             cleared = rw (← good .2, ← g-is) (chose .cleared)
 
-            numbers : RateNumbers s plan′ (Planned (c .unit) (c .load) l (c .energy))
-            numbers t h =
-                let e = getD-take n plan′ t 0 (omega (arith, good .2)) in
-                let low : 1 ≤ getD plan′ t 0 = omega (arith, e, plan-is .above t (omega (arith, good .2))) in
-                let high : getD plan′ t 0 ≤ rateCount Ordinary s = omega (arith, e, good .1, plan-is .below t (omega (arith, good .2))) in
+            numbers : (e : ℕ) → RateNumbers s plan′ (Planned (c .unit) (c .load) l e)
+            numbers e t h =
+                let at = getD-take n plan′ t 0 (omega (arith, good .2)) in
+                let low : 1 ≤ getD plan′ t 0 = omega (arith, at, plan-is .above t (omega (arith, good .2))) in
+                let high : getD plan′ t 0 ≤ rateCount Ordinary s = omega (arith, at, good .1, plan-is .below t (omega (arith, good .2))) in
                 record { from-1 = low; to-m = high; place = omega arith }
 
-            pub chosen-given : PlannerCall s plan work plan′ work′ (Planned (c .unit) (c .load) l (c .energy))
-            chosen-given =
-                called s plan work plan′ work′ (Planned (c .unit) (c .load) l (c .energy))
-                (accepts, (take n plan′, selected, holds), cleared) numbers
+            pub chosen-given : {h : ℕ} → h ≡ idle s → PlannerCall s plan work plan′ work′ (Planned (c .unit) (c .load) l (c .energy + h * l))
+            chosen-given {h} e =
+                let energy : c .energy + h * l ≡ reportedEnergy s (take n plan′) = rw (e, good .3) energy-is in
+                called s plan work plan′ work′ (Planned (c .unit) (c .load) l (c .energy + h * l))
+                (accepts, (take n plan′, selected energy, holds), cleared) (numbers (c .energy + h * l))

@@ -1,4 +1,4 @@
--- Checks 5 and 6 after 2, 3 and 4.
+-- Checks 5 and 6 after 2, 3, 10 and 4.
 -- Assumes nothing.
 use Prim.Native.Nat.{ℕ, _≤_, _<_}
 use mathlib.Core.Path.{_≡_, refl}
@@ -10,20 +10,20 @@ use Rattle.layout.specs.Words.{mostTasks, slack, taskCount}
 use Rattle.layout.specs.declared.Layout.the-variants.{Ordinary}
 use Rattle.layout.proofs.Whole.{IsWhole, whole-of, slack-in}
 use Rattle.taskset.specs.Quantities.{workNeeded}
-use Rattle.taskset.specs.Refusals.{number, second, Check, Accepts, _▹_, wordChecks, hyperCheck, workCheck, roomCheck, readyChecks}
+use Rattle.taskset.specs.Refusals.{number, second, Check, Accepts, _▹_, energyChecks, hyperCheck, workCheck, roomCheck, readyChecks}
 use Rattle.taskset.specs.Calls.{SetAfter}
 use Rattle.taskset.specs.declared.Refusal.{Refusal}
 use Rattle.taskset.specs.declared.Refusal.the-variants.{WorkShort, TooShort}
 use Rattle.taskset.specs.declared.Checked.the-variants.{Good, Refused as NotGood}
 use Rattle.taskset.proofs.Checks.{no-word-fault, accepts-next, refuses-next, refuses-before, passed}
 
--- A set of m rates, n tasks and hyper-period l has passed checks 2, 3 and 4.
+-- A set of m rates, n tasks and hyper-period l has passed checks 2, 3, 10 and 4.
 pub record SetPassed (s : List ℕ) (m n l : ℕ) : Type 0 where
-  pub after : SetAfter (wordChecks Ordinary s ▹ hyperCheck Ordinary s) Ordinary s (Good m n l)
+  pub after : SetAfter (energyChecks Ordinary s ▹ hyperCheck Ordinary s) Ordinary s (Good m n l)
 
 module _ (s : List ℕ) (planLength workLength : ℕ) where
   abbrev set : List Check
-  set = wordChecks Ordinary s ▹ hyperCheck Ordinary s
+  set = energyChecks Ordinary s ▹ hyperCheck Ordinary s
 
   abbrev upTo5 : List Check
   upTo5 = set ▹ workCheck (workNeeded s) workLength

@@ -24,11 +24,11 @@ fn work_needed(n: usize, g: u32) -> usize
     (n + 1) * (last + 1)
 }
 
-// Checks 2 to 6, in this order: rate count, task count and hyper-period, or a refusal.
+// Checks 2, 3, 10, 4, 5 and 6, in this order: rate count, task count and hyper-period, or a refusal.
 pub fn ready(set: &[u32], plan_len: usize, work_len: usize) -> Checked
     ensures { λ r. ⌜ SetAfter (readyChecks (now (set .entry)) «plan_len» «work_len») Ordinary (now (set .entry)) r ⌝ }
 {
-    let checked = checks::check_set(set, Layout::Ordinary);
+    let checked = checks::check_covered(set, Layout::Ordinary);
     match checked {
         Checked::Refused(r) => Checked::Refused(r),
         Checked::Good {
@@ -52,8 +52,9 @@ pub fn ready(set: &[u32], plan_len: usize, work_len: usize) -> Checked
     }
 }
 
-// Check 7 and the choice of a plan, for a set that has passed checks 2 to 6. No load is lower than at the last rate, so
-// some plan fits exactly when the plan with every task at that rate does.
+// Check 7 and the choice of a plan, for a set that has passed the checks before it. No load is lower than at the last
+// rate, so some plan fits exactly when the plan with every task at that rate does. The choice goes by what is drawn over
+// idling: with the idle energy of every tick it is what is reported, the plan's task energies and H for each idle tick.
 pub fn plan_checked(
     set: &[u32],
     plan: &mut [u32],
@@ -88,11 +89,13 @@ pub fn plan_checked(
         slack: checks::slack_of(set),
     };
     let c = choice::choose(&loads, &energies, q, plan, work);
+    let idle = checks::idle_of(set) as u64;
+    let energy = c.energy + idle * hyper;
     PlannerAnswer::Planned {
         unit: c.unit,
         load: c.load,
         hyper,
-        energy: c.energy,
+        energy,
     }
 }
 

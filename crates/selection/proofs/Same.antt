@@ -31,7 +31,7 @@ same-sym {p} {q} same = record {
 
 -- ---- what a plan comes to
 module _ (p q : Problem) (same : Same p q) where
-  plan-same : (P : List ℕ) → IsPlan p P → IsPlan q P
+  pub plan-same : (P : List ℕ) → IsPlan p P → IsPlan q P
   plan-same P h = record {
     size = h .size ∙ same .count;
     above = λ t l. h .above t (omega (arith, same .count));

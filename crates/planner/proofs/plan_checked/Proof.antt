@@ -1,9 +1,13 @@
 -- Check 7, then the choice over the arrays.
 -- Assumes nothing.
+use Prim.Native.Nat.{_+_, _*_, _≤_}
 use native.Mathlib.Omega.{arith}
+use Rattle.layout.specs.Words.{mostTasks, mostIdle}
 use Rattle.layout.specs.declared.Layout.the-variants.{Ordinary}
+use Rattle.taskset.specs.Quantities.{hyperLimit}
 use Rattle.options.proofs.Filling.{both-none}
-use Rattle.planner.proofs.Calls.{Prepared, hyper-fits, words-given, tasks-given, sum-given, none-fits, choice-ready, chosen-given}
+use Rattle.planner.proofs.Calls.{Prepared, hyper-fits, words-given, tasks-given, sum-given, none-fits, choice-ready, energy-fits, chosen-given}
+use borrow.Author.Needs.{needs}
 use Rattle.planner.proofs.plan_checked.Statement.{statement}
 use Rattle.planner.proofs.plan_checked.Tie as tie
 
@@ -38,7 +42,7 @@ cast-limit : tie.Need-cast-limit
 cast-limit c = omega (arith, hyper-fits (prepared (start (put (c .before)))))
 
 slack-of-requires : tie.Need-slack-of-requires
-slack-of-requires c κs = words-given (prepared (start (put (c .before))))
+slack-of-requires c κs = omega (arith, words-given (prepared (start (put (c .before)))))
 
 choose-requires : tie.Need-choose-requires
 choose-requires c κs =
@@ -47,19 +51,48 @@ choose-requires c κs =
     choice-ready (prepared (start (put f))) (put f .put-tasks .ensures) (f .fastest-sum .ensures) (s .before .if1 .left)
     (s .slack-of .ensures)
 
+-- Where the plan has been chosen, with the slack that was read before it.
+abbrev chosen : tie.After-slice-known4 → tie.After-choose
+chosen c = c .before .before .before .before
+
+abbrev slacked : tie.After-choose → tie.After-slack-of
+slacked e = e .before .before .before .before .before
+
+idle-of-requires : tie.Need-idle-of-requires
+idle-of-requires c κs = words-given (prepared (start (put (summed (slacked (chosen c))))))
+
+-- With the idle energy of every tick the energy is the one reported, and small.
+fits : (c : tie.After-idle-of) → chosen (c .before) .choose .result .energy + c .idle-of .result * start (put (summed (slacked (chosen (c .before))))) .args .hyper
+    ≤ mostTasks * (hyperLimit * 1000000) + mostIdle * hyperLimit
+fits c =
+    let e = chosen (c .before) in
+    let s = slacked e in
+    let f = summed s in
+    energy-fits (prepared (start (put f))) (put f .put-tasks .ensures) (f .fastest-sum .ensures) (s .before .if1 .left)
+    (s .slack-of .ensures) (e .choose .ensures) (c .idle-of .ensures)
+
+cast-idle : tie.Need-cast-idle
+cast-idle c = search needs
+
+mul-energy : tie.Need-mul-energy
+mul-energy c = omega (arith, fits c)
+
+add-energy : tie.Need-add-energy
+add-energy c = omega (arith, fits (c .before))
+
 same-length : tie.Need-same-length
-same-length c = c .before .before .before .before .choose .ensures .plan-size
+same-length c = chosen (c .before .before) .choose .ensures .plan-size
 
 same-length-2 : tie.Need-same-length-2
-same-length-2 c = c .before .before .before .before .choose .ensures .work-size
+same-length-2 c = chosen (c .before .before) .choose .ensures .work-size
 
 chosen-plan : tie.Need-returns-2
 chosen-plan c =
-    let e = c .before .before .before .before in
-    let s = e .before .before .before .before .before in
+    let e = chosen (c .before .before) in
+    let s = slacked e in
     let f = summed s in
     chosen-given (prepared (start (put f))) (put f .put-tasks .ensures) (f .fastest-sum .ensures) (s .before .if1 .left)
-    (s .slack-of .ensures) (e .choose .ensures)
+    (s .slack-of .ensures) (e .choose .ensures) (c .before .idle-of .ensures)
 
 pub plan-checked-spec : {M : Type 1} → statement M
 plan-checked-spec =
@@ -71,6 +104,10 @@ plan-checked-spec =
     cast-limit
     slack-of-requires
     choose-requires
+    idle-of-requires
+    cast-idle
+    mul-energy
+    add-energy
     same-length
     same-length-2
     chosen-plan)

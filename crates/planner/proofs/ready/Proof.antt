@@ -1,11 +1,11 @@
--- Checks 2, 3 and 4, then 5, then 6.
+-- Checks 2, 3, 10 and 4, then 5, then 6.
 -- Assumes nothing.
 use mathlib.Core.Path.{_≡_, subst, ap, _∙_}
 use Rattle.layout.specs.declared.Layout.the-variants.{Ordinary}
 use Rattle.selection.specs.Plan.{workWords}
 use Rattle.layout.specs.Words.{slack}
 use Rattle.taskset.specs.Calls.{SetAfter}
-use Rattle.taskset.specs.Refusals.{_▹_, wordChecks, hyperCheck}
+use Rattle.taskset.specs.Refusals.{_▹_, energyChecks, hyperCheck}
 use Rattle.planner.proofs.Enough.{SetPassed, set-refused, slack-range, tasks-few, some-words, work-short, plan-short, is-ready}
 use borrow.Author.Needs.{needs}
 use Rattle.planner.proofs.ready.Statement.{statement}
@@ -22,15 +22,15 @@ passed : (g : tie.After-checked2)
     → SetPassed (start g .args .set .now) (g .checked2 .given .0 .0) (g .checked2 .given .0 .1 .0) (g .checked2 .given .0 .1 .1 .0)
 passed g =
     let s = start g .args .set .now in
-    record { after = subst (SetAfter (wordChecks Ordinary s ▹ hyperCheck Ordinary s) Ordinary s) (g .checked2 .given .1) (g .before .before .check-set .ensures) }
+    record { after = subst (SetAfter (energyChecks Ordinary s ▹ hyperCheck Ordinary s) Ordinary s) (g .checked2 .given .1) (g .before .before .check-covered .ensures) }
 
 -- The working words needed, by the slack that was read.
 needed : (w : tie.After-work-needed)
     → w .work-needed .result ≡ workWords (good w .checked2 .given .0 .1 .0) (slack (start (good w) .args .set .now))
 needed w = w .work-needed .ensures ∙ ap (workWords (good w .checked2 .given .0 .1 .0)) (w .before .slack-of .ensures)
 
-check-set-requires : tie.Need-check-set-requires
-check-set-requires c κs = search needs
+check-covered-requires : tie.Need-check-covered-requires
+check-covered-requires c κs = search needs
 
 enum-known-checked : tie.Need-enum-known-checked
 enum-known-checked c = search needs
@@ -70,8 +70,8 @@ refused c =
     let a = r .before .before .before .before .args in
     let s = a .set .now in
     set-refused _ (a .plan-len) (a .work-len) (r .checked .given .0 .0)
-    (subst (SetAfter (wordChecks Ordinary s ▹ hyperCheck Ordinary s) Ordinary s) (r .checked .given .1)
-    (r .before .before .check-set .ensures))
+    (subst (SetAfter (energyChecks Ordinary s ▹ hyperCheck Ordinary s) Ordinary s) (r .checked .given .1)
+    (r .before .before .check-covered .ensures))
 
 all-passed : tie.Need-returns-4
 all-passed c =
@@ -83,7 +83,7 @@ pub ready-spec : {M : Type 1} → statement M
 ready-spec =
     tie.close
     (tie.spec
-    check-set-requires
+    check-covered-requires
     enum-known-checked
     enum-known-checked-2
     slack-of-requires
