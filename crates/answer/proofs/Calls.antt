@@ -76,7 +76,7 @@ pub ready-refused : (s : List ℕ) (r : Refusal) → SetAfter (readyChecks s pla
     → Refuses (plannerChecks s planLent workLent) (number r) (second r)
 ready-refused s r h = refuses-before (readyChecks s planLent workLent) (noneCheck (Fitting (problem s))) (number r) (second r) h
 
--- What passes checks 2 to 6 with some words passes them with more.
+-- What passes the checks before 7 with some words passes them with more.
 pub more-room : (s : List ℕ) (p w p′ w′ m n l : ℕ) → p ≤ p′ → w ≤ w′
     → SetAfter (readyChecks s p w) Ordinary s (Good m n l) → SetAfter (readyChecks s p′ w′) Ordinary s (Good m n l)
 more-room s p w p′ w′ m n l a b h =

@@ -1,6 +1,6 @@
 -- From the planner's answers to what its C entry gives.
 -- Assumes nothing.
-use Prim.Native.Nat.{ℕ, _^_, _≤_, _<_}
+use Prim.Native.Nat.{ℕ, _-_, _^_, _≤_, _<_}
 use mathlib.Core.Path.{_≡_, refl, sym, ap, subst, _∙_}
 use mathlib.Core.List.{List, [], _∷_, _++_}
 use mathlib.Core.Logic.{inl, inr}
@@ -17,7 +17,7 @@ use Rattle.taskset.specs.declared.Refusal.{Refusal}
 use Rattle.taskset.specs.declared.Refusal.the-variants.{TooShort}
 use Rattle.taskset.specs.declared.PlannerAnswer.the-variants.{Planned, Refused as NotPlanned}
 use Rattle.taskset.proofs.Checks.{Without, without-by, accepts-but-last, accepts-next, refuses-next, refuses-before, refuses-back, refuses-rest, passed}
-use Rattle.taskset.proofs.Sets.{IsSet, plan-energy-small}
+use Rattle.taskset.proofs.Sets.{IsSet, energy-small}
 use Rattle.taskset.proofs.Small.{planner-second-small}
 use Rattle.taskset.proofs.DemandThree.{refusal-owes, ready-set}
 use Rattle.planner.specs.Answers.{PlannerCall}
@@ -39,7 +39,7 @@ module _ (s plan work d : List ℕ) where
   abbrev before : List Check
   before = beforeSeven s (length plan) (length work) (length d)
 
-  -- The checks before 7 have 2, 3 and 4 among them, and no 7.
+  -- The checks before 7 have 2, 3, 10 and 4 among them, and no 7.
   before-set : Accepts before → IsSet Ordinary s
   before-set a = ready-set s (length plan) (length work) (accepts-but-last ready six a)
 
@@ -63,7 +63,7 @@ module _ (s plan work d : List ℕ) where
           seven-iff = ((λ z. owes .0 (omega (arith, e))), (λ n. let both = owes .1 n in omega (arith, e, both .0, both .1)));
         }
 
-    -- Checks 2 to 6 have passed, and the results fit: what is left to refuse is 7.
+    -- The checks before 7 have passed, and the results fit: what is left to refuse is 7.
     pub answer-refused : (r : Refusal) (x : ℕ) → x ≡ code r → Accepts ready → 32 ≤ length d → PlannerCall s plan work plan′ work′ (NotPlanned r)
         → PlanEntry s plan work d plan′ work′ d x
     answer-refused r x e a enough c =
@@ -71,14 +71,14 @@ module _ (s plan work d : List ℕ) where
         (refuses-back before (seven ∷ []) (number r) (second r) (accepts-next ready six a (λ k h. omega (arith, h .0)))
         (refuses-rest ready (seven ∷ []) (number r) (second r) a (c .gives .0)))
 
-  -- A refusal of checks 2 to 6 is the entry's, and its second number is small.
+  -- A refusal of the checks before 7 is the entry's, and its second number is small.
   pub ready-small : (r : Refusal) → Refuses ready (number r) (second r) → second r < 2 ^ 32
   ready-small r h = planner-second-small s (length plan) (length work) (number r) (second r) (refuses-before ready seven (number r) (second r) h)
 
   pub ready-refused : (r : Refusal) (x : ℕ) → x ≡ code r → Refuses ready (number r) (second r) → PlanEntry s plan work d plan work d x
   ready-refused r x e h = refused plan work refl refl r x e (ready-small r h) (refuses-before before seven (number r) (second r) (refuses-before ready six (number r) (second r) h))
 
-  -- Too few result bytes, after checks 2 to 6.
+  -- Too few result bytes, after the checks before 7.
   pub results-few : (x : ℕ) → x ≡ code (TooShort 32) → Accepts ready → length d < 32 → PlanEntry s plan work d plan work d x
   results-few x e a l = refused plan work refl refl (TooShort resultSize) x e (omega arith) (refuses-before before seven 6 resultSize (refuses-next ready six resultSize a (l, refl)))
 
@@ -105,7 +105,7 @@ module _ (s plan work d : List ℕ) where
         let energy-is : energy ≡ reportedEnergy s P = cc in
         let load-read : resultAt d′ 1 ≡ load = read 1 (omega arith) (omega (arith, load-is, fits .fits, set .hyper-range .1)) in
         let hyper-read : resultAt d′ 2 ≡ hyper = read 2 (omega arith) (omega (arith, hyper-is, set .hyper-range .1)) in
-        let energy-read : resultAt d′ 3 ≡ energy = read 3 (omega arith) (omega (arith, energy-is, plan-energy-small Ordinary s set P (fits .plan))) in
+        let energy-read : resultAt d′ 3 ≡ energy = read 3 (omega arith) (omega (arith, energy-is, energy-small Ordinary s set P (fits .plan) (hyperPeriod Ordinary s - planLoad (problem s) P) (omega arith))) in
         record {
           gives = inl (Planned unit load hyper energy, accepted, c .gives, refl, bytes);
           numbers = λ z. c .numbers;

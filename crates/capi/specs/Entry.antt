@@ -111,7 +111,7 @@ GenerateEntryGives seed n set results set′ =
     (set′ ≡ set) results
 
 -- The entry's contract: the above; and again over the words and the bytes, where 0 is returned: the first value says how
--- many of the first words are the generator's, and they pass checks 2, 3 and 4.
+-- many of the first words are the generator's, and they pass checks 2, 3, 10 and 4.
 pub record GenerateEntry (seed n : ℕ) (set results set′ results′ : List ℕ) (returned : ℕ) : Type 0 where
   pub gives : GenerateEntryGives seed n set results set′ results′ returned
   pub words-are : returned ≡ 0 → take (resultAt results′ 0) set′ ≡ generated seed n

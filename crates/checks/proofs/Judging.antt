@@ -1,4 +1,4 @@
--- From what the searches of the code find to what checks 2, 3 and 4 answer.
+-- From what the searches of the code find to what checks 2, 3, 10 and 4 answer.
 -- Assumes nothing.
 use Prim.Native.Nat.{ℕ, _+_, _*_, _≤_, _<_}
 use mathlib.Core.Path.{_≡_, refl, sym, ap, _∙_, subst}

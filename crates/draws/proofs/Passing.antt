@@ -1,4 +1,4 @@
--- A set from the generator passes checks 2, 3 and 4, and its hyper-period divides 400: for every seed, and 1 to 32 tasks.
+-- A set from the generator passes checks 2, 3, 10 and 4, and its hyper-period divides 400: for every seed, and 1 to 32 tasks.
 -- Assumes nothing.
 use Prim.Native.Nat.{ℕ, zero, suc, _+_, _*_, _%_, _≤_, _<_, _∣_}
 use mathlib.Core.Path.{_≡_, refl, sym, ap, _∙_, subst}
@@ -11,11 +11,12 @@ use borrow.Author.Tests.{eqb-true}
 use Rattle.numbers.specs.Numbers.{between}
 use Rattle.numbers.proofs.Tests.{and-true, between-true}
 use Rattle.numbers.proofs.Lists.{every-at}
-use Rattle.layout.specs.Words.{headSize, slackPlace, rateCount, taskCount, periodPlace, rate, period, allows, headKind}
+use Rattle.layout.specs.Words.{headSize, slackPlace, idlePlace, rateCount, taskCount, periodPlace, rate, period, allows, headKind}
 use Rattle.layout.specs.declared.Layout.the-variants.{Ordinary}
-use Rattle.layout.proofs.Layouts.{slack-kind, zero-in-head, zero-in-extra}
+use Rattle.layout.proofs.Layouts.{slack-kind, idle-in-head, zero-in-head, zero-in-extra}
 use Rattle.layout.proofs.Whole.{IsWhole}
 use Rattle.taskset.proofs.Sets.{hyper-divides, set-passes}
+use Rattle.taskset.proofs.Idle.{covered-passes, nothing-covered}
 use Rattle.draws.specs.Generated.{draw, periods, drawnPeriod, drawnEnergy, fiveRates, generated}
 use Rattle.draws.specs.Calls.{PassesChecks}
 use Rattle.draws.proofs.Sizes.{set-size}
@@ -99,5 +100,6 @@ module _ (seed n : ℕ) (some : 1 ≤ n) (few : n ≤ 32) where
   pub passes-checks : PassesChecks s
   passes-checks = record {
     passes = set-passes Ordinary s whole ascending 400 (omega arith) (omega arith) multiple;
+    passes-10 = covered-passes Ordinary s (nothing-covered Ordinary s (head-zero seed n idlePlace (omega arith) (idle-in-head Ordinary)));
     hyper-divides = hyper-divides Ordinary s whole ascending 400 (omega arith) (omega arith) multiple;
   }

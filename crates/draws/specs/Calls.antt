@@ -8,7 +8,7 @@ use Rattle.numbers.specs.Numbers.{between}
 use Rattle.layout.specs.Words.{mostTasks}
 use Rattle.layout.specs.declared.Layout.the-variants.{Ordinary}
 use Rattle.taskset.specs.Quantities.{hyperPeriod}
-use Rattle.taskset.specs.Refusals.{Check, check, Accepts, _▹_, roomCheck, wordChecks, hyperCheck}
+use Rattle.taskset.specs.Refusals.{Check, check, Passes, Accepts, _▹_, roomCheck, wordChecks, idleCheck, hyperCheck}
 use Rattle.taskset.specs.Calls.{CopyGives}
 use Rattle.taskset.specs.declared.CopyAnswer.{CopyAnswer}
 use Rattle.taskset.specs.declared.CopyAnswer.the-variants.{Wrote, Refused as NotCopied}
@@ -27,9 +27,11 @@ generatorChecks seed n lent = (countCheck n ∷ []) ▹ roomCheck (length (gener
 abbrev pub GeneratorGives : (seed n : ℕ) (d d′ : List ℕ) → CopyAnswer → Type 0
 GeneratorGives seed n d = CopyGives (generatorChecks seed n (length d)) (generated seed n) d
 
--- "A list from it passes checks 2, 3 and 4 for every seed." Its hyper-period divides 400.
+-- "A list from it passes checks 2, 3 and 4 for every seed." It passes 10 as well, since "the generator's hold 0" for H;
+-- and its hyper-period divides 400.
 pub record PassesChecks (s : List ℕ) : Type 0 where
   pub passes : Accepts (wordChecks Ordinary s ▹ hyperCheck Ordinary s)
+  pub passes-10 : Passes (idleCheck Ordinary s)
   pub hyper-divides : hyperPeriod Ordinary s ∣ 400
 
 -- So do the words written, of as many as the answer says.

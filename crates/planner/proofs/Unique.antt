@@ -1,4 +1,4 @@
--- Two answers of checks 2 to 6 are equal; and so are two answers of the call, with the lists given back.
+-- Two answers of the checks before 7 are equal; and so are two answers of the call, with the lists given back.
 -- Assumes nothing.
 use Prim.Native.Nat.{ℕ}
 use mathlib.Core.Path.{_≡_}

@@ -36,7 +36,7 @@ NoneKeeps s = (Q : List ℕ) → Keeps s Q → ⊥
 
 -- What the planner owes with its answer, where plan and work were lent and plan′ is the plan list given back: of a plan
 -- its promise; and "Demand 3 allows 7 only where no plan keeps every deadline for ever": a refusal is 7 exactly when
--- checks 2 to 6 pass and none does.
+-- the checks before it pass and none does.
 abbrev pub PlannerOwes : (s plan work plan′ : List ℕ) → PlannerAnswer → Type 0
 PlannerOwes s plan work plan′ (Planned unit load hyper energy) = PlanPromise s (take (taskCount Ordinary s) plan′) energy
 PlannerOwes s plan work plan′ (NotPlanned r) = (number r ≡ 7) ↔ (Accepts (readyChecks s (length plan) (length work)) × NoneKeeps s)

@@ -1,4 +1,4 @@
--- Checks 2 to 6, then the planner, then the lines of what it says.
+-- The checks before 7, then the planner, then the lines of what it says.
 -- Assumes nothing.
 use Prim.Native.Nat.{ℕ, _≤_}
 use mathlib.Core.List.{List}
@@ -36,7 +36,7 @@ checked p = p .before .before .before .before
 abbrev planned-set : tie.After-plan-checked → List ℕ
 planned-set p = set-of (checked p .before .before)
 
--- What checks 2 to 6 gave.
+-- What the checks before 7 gave.
 ready : (c : tie.After-rates) → let s = set-of (c .before .before) in
     SetAfter (readyChecks s planLent workLent) Ordinary s
     (Good (c .rates .given .0 .0) (c .rates .given .0 .1 .0) (c .rates .given .0 .1 .1 .0))

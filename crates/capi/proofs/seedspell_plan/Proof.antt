@@ -1,4 +1,4 @@
--- Checks 2 to 6, the result bytes, and then the planner's answer.
+-- The checks before 7, the result bytes, and then the planner's answer.
 -- Assumes nothing.
 use mathlib.Core.Path.{subst}
 use lib.ListN.{length}

@@ -1,4 +1,4 @@
--- The call: checks 2 to 6, then check 7 and the choice.
+-- The call: the checks before 7, then check 7 and the choice.
 -- Assumes nothing.
 use mathlib.Core.Path.{subst}
 use lib.ListN.{length}

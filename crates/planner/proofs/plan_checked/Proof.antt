@@ -11,7 +11,7 @@ use borrow.Author.Needs.{needs}
 use Rattle.planner.proofs.plan_checked.Statement.{statement}
 use Rattle.planner.proofs.plan_checked.Tie as tie
 
--- The ways back: from the slack to the fastest sum, to the arrays, and to the start, where checks 2 to 6 have passed.
+-- The ways back: from the slack to the fastest sum, to the arrays, and to the start, where the checks before 7 have passed.
 abbrev summed : tie.After-slack-of → tie.After-fastest-sum
 summed s = s .before .before
 
