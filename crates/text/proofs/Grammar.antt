@@ -3,7 +3,7 @@
 -- Assumes nothing.
 use Prim.Native.Nat.{ℕ, zero, suc, _+_, _≤_}
 use mathlib.Core.Path.{_≡_, refl, sym, _∙_, subst}
-use mathlib.Core.List.{List, [], _∷_, _++_}
+use mathlib.Core.List.{List, [], _∷_, _++_, append-assoc}
 use mathlib.Core.Bool.{true, false}
 use mathlib.Core.Logic.{_⊎_, inl, inr}
 use mathlib.Core.Option.{Option, none, some}
@@ -18,7 +18,7 @@ use Rattle.text.specs.Text.{chipName, clockText, idleText, scriptText}
 use Rattle.text.specs.Text.{Word, Between, IdleOk, ClockOk, energyCount, TaskLineOk, ScriptOk, IsTextOf, WellFormed, FirstBad}
 use Rattle.text.proofs.Reading.{Res, got, bad, later, seq, skip, upTo, field, numbers, starts, both}
 use Rattle.text.proofs.Reading.{mkTask, mkScript, readEnergies, readTask, readTasks, moreTasks, readName}
-use Rattle.text.proofs.Reading.{readIdleLine, noIdleLine, readIdle, readChip, readClock, readScript, readText, readAt}
+use Rattle.text.proofs.Reading.{noIdleLine, readIdle, readHead, readChip, readClock, readScript, readText, readAt}
 use Rattle.text.proofs.Pieces.{Good, Piece, seq-piece, Form, Right, whole-exact, whole-right, first-bad-same}
 use Rattle.text.proofs.Literals.{literal-piece, Any}
 use Rattle.text.proofs.Branches.{map-piece, either-piece}
@@ -160,7 +160,7 @@ abbrev Absent : Option ℕ → Type 0
 Absent none = Unit {0}
 Absent (some h) = ⊥
 
-pub idle-piece : Piece idleText IdleOk NoIdle readIdle
+idle-piece : Piece idleText IdleOk NoIdle readIdle
 idle-piece =
     either-piece idleText IdleOk 105
     (map-piece some idleText Given (follows (end-piece (bytes ")\n(") (λ r. refl) (field-piece (bytes "idle "))))
@@ -249,47 +249,43 @@ no-idle : (k : Clock) (u r : List ℕ) → NoIdle ((clockText k ++ u) ++ r)
 no-idle (rates fs) u r = refl
 no-idle (chip c) u r = refl
 
-abbrev ClockTasks : Type 0
-ClockTasks = Clock × List TaskLine
+-- the lines of the head, and what stands behind them
+abbrev headText : ℕ × Option ℕ → List ℕ
+headText h = bytes "(slack " ++ (decimal (h .0) ++ (bytes ")\n(" ++ idleText (h .1)))
 
-abbrev behindIdle : ClockTasks → List ℕ
-behindIdle x = clockText (x .0) ++ (bytes ")\n" ++ joined taskText (x .1))
+abbrev HeadOk : ℕ × Option ℕ → Type 0
+HeadOk h = Word (h .0) × IdleOk (h .1)
 
-abbrev BehindIdle : ClockTasks → Type 0
-BehindIdle x = ClockOk (x .0) × Between (TaskLineOk (energyCount (x .0))) 1 32 (x .1)
+head-piece : Piece headText HeadOk NoIdle readHead
+head-piece =
+    seq-piece both headText HeadOk (field-piece (bytes "(slack "))
+    (λ _ _. skip-piece (bytes ")\n(") (none, tt) idle-piece)
+    (λ a b. refl) (λ a b d e. (d, e)) (λ h d. (h .0, h .1, d .0, d .1, refl)) (λ _ _. (none, tt)) (λ a b r _ _ _. refl)
 
-some-behind : (x : ClockTasks) × BehindIdle x
-some-behind = let t = some-tasks (energyCount (chip Xscale)) in ((chip Xscale, t .0), (tt, t .1))
+abbrev behindText : Clock × List TaskLine → List ℕ
+behindText x = clockText (x .0) ++ (bytes ")\n" ++ joined taskText (x .1))
 
-behind-idle : Piece behindIdle BehindIdle (λ r. starts 40 r ≡ false)
-    (seq both readClock (λ k. skip (bytes ")\n") (readTasks (energyCount k))))
-behind-idle =
-    seq-piece both behindIdle BehindIdle clock-piece
+behind-head : Piece behindText (λ x. ClockOk (x .0) × Between (TaskLineOk (energyCount (x .0))) 1 32 (x .1))
+    (λ r. starts 40 r ≡ false) (seq both readClock (λ k. skip (bytes ")\n") (readTasks (energyCount k))))
+behind-head =
+    seq-piece both behindText _ clock-piece
     (λ k d. skip-piece (bytes ")\n") (some-tasks (energyCount k)) (tasks-piece (energyCount k)))
     (λ a b. refl) (λ a b d e. (d, e)) (λ x d. (x .0, x .1, d .0, d .1, refl)) (λ k _. some-tasks (energyCount k))
     (λ a b r _ _ _. (refl, refl))
 
-behind-slack : Piece (λ (x : Option ℕ × ClockTasks). bytes ")\n(" ++ (idleText (x .0) ++ behindIdle (x .1)))
-    (λ x. IdleOk (x .0) × BehindIdle (x .1)) (λ r. starts 40 r ≡ false)
-    (seq both (skip (bytes ")\n(") readIdle)
-    (λ _. seq both readClock (λ k. skip (bytes ")\n") (readTasks (energyCount k)))))
-behind-slack =
-    seq-piece both _ _ (skip-piece (bytes ")\n(") (none, tt) idle-piece) (λ _ _. behind-idle)
-    (λ a b. refl) (λ a b d e. (d, e)) (λ x d. (x .0, x .1, d .0, d .1, refl)) (λ _ _. some-behind)
-    (λ a b r _ _ _. no-idle (b .0) _ r)
-
 pub script-piece : Piece scriptText ScriptOk (λ r. starts 40 r ≡ false) readScript
 script-piece =
-    seq-piece mkScript scriptText ScriptOk (field-piece (bytes "(slack ")) (λ _ _. behind-slack)
-    (λ a b. refl)
-    (λ a b d e. record {
-      slack = d;
-      idle = e .0;
-      clock = e .1 .0;
-      tasks = record { least = e .1 .1 .least; most = omega (arith, e .1 .1 .most); each = e .1 .1 .each };
+    seq-piece mkScript scriptText ScriptOk head-piece (λ _ _. behind-head)
+    (λ h x. simp append-assoc)
+    (λ h x d e. record {
+      slack = d .0;
+      idle = d .1;
+      clock = e .0;
+      tasks = record { least = e .1 .least; most = omega (arith, e .1 .most); each = e .1 .each };
     })
-    (λ s d. (s .slack, (s .idle, (s .clock, s .tasks)), d .slack, (d .idle, (d .clock, d .tasks)), refl))
-    (λ _ _. ((none, some-behind .0), (tt, some-behind .1))) (λ a b r _ _ _. refl)
+    (λ s d. ((s .slack, s .idle), (s .clock, s .tasks), (d .slack, d .idle), (d .clock, d .tasks), refl))
+    (λ _ _. let t = some-tasks (energyCount (chip Xscale)) in ((chip Xscale, t .0), (tt, t .1)))
+    (λ h x r _ _ _. no-idle (x .0) _ r)
 
 -- a script's text is read as that script
 pub read-render : (s : Script) → ScriptOk s → readText (scriptText s) ≡ got s (length (scriptText s))

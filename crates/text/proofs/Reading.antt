@@ -107,8 +107,8 @@ numbers = many (field (bytes " ")) 32
 abbrev pub mkTask : ℕ → ℕ × List ℕ → TaskLine
 mkTask p r = record { period = p; cycles = r .0; energies = r .1 }
 
-abbrev pub mkScript : ℕ → Option ℕ × (Clock × List TaskLine) → Script
-mkScript g r = record { slack = g; idle = r .0; clock = r .1 .0; tasks = r .1 .1 }
+abbrev pub mkScript : ℕ × Option ℕ → Clock × List TaskLine → Script
+mkScript h r = record { slack = h .0; idle = h .1; clock = r .0; tasks = r .1 }
 
 abbrev pub both : {A B : Type 0} → A → B → A × B
 both a b = (a, b)
@@ -147,7 +147,11 @@ noIdleLine t = got none 0
 abbrev pub readIdle : List ℕ → Res (Option ℕ)
 readIdle = either 105 readIdleLine noIdleLine
 
--- what stands behind that, from its name on: a c begins the chip's line
+-- the lines of the head
+abbrev pub readHead : List ℕ → Res (ℕ × Option ℕ)
+readHead = seq both (field (bytes "(slack ")) (λ _. skip (bytes ")\n(") readIdle)
+
+-- what stands behind the head, from its name on: a c begins the chip's line
 abbrev pub readChipLine : List ℕ → Res Clock
 readChipLine = mapped chip (skip (bytes "chip ") readChip)
 
@@ -159,10 +163,9 @@ readClock = either 99 readChipLine readRatesLine
 
 abbrev pub readScript : List ℕ → Res Script
 readScript =
-    seq mkScript (field (bytes "(slack "))
-    (λ _. seq both (skip (bytes ")\n(") readIdle)
+    seq mkScript readHead
     (λ _. seq both readClock
-    (λ k. skip (bytes ")\n") (readTasks (energyCount k)))))
+    (λ k. skip (bytes ")\n") (readTasks (energyCount k))))
 
 -- all of a text: nothing may follow
 abbrev pub ended : {A : Type 0} → ℕ → Res A → Res A
