@@ -4,7 +4,7 @@
 use mathlib.Core.Path.{_≡_, refl}
 use mathlib.Core.Bool.{true, false}
 use mathlib.Core.List.{[], _∷_}
-use Rattle.chips.specs.Chips.{megahertz, milliwatts, chipEnergy, chipRates, chipEnergies}
+use Rattle.chips.specs.Chips.{megahertz, milliwatts, chipEnergy, chipRates, chipEnergies, idleFigures, chipIdle}
 use Rattle.chips.specs.declared.Chip.the-variants.{Xscale, Ppc405lp}
 use Rattle.chips.proofs.Rising.{rising}
 
@@ -30,9 +30,12 @@ pub record Cases : Type 0 where
   -- An energy of exactly 1,000,000, at 12,500 ticks of 80 mW; one cycle more is one tick more.
   pub at-million : chipEnergy Xscale 1875000000 1 ≡ 1000000
   pub over-million : chipEnergy Xscale 1875000001 1 ≡ 1000080
+  -- "12 for ppc405lp, 40 for xscale"
+  pub ppc405lp-idle : chipIdle Ppc405lp ≡ 12
+  pub xscale-idle : chipIdle Xscale ≡ 40
 
 pub cases : Cases
-unfolding megahertz milliwatts chipRates chipEnergies
+unfolding megahertz milliwatts chipRates chipEnergies idleFigures
 cases = record {
   rises = refl;
   stays = refl;
@@ -49,4 +52,6 @@ cases = record {
   ppc405lp-no-cycle = refl;
   at-million = refl;
   over-million = refl;
+  ppc405lp-idle = refl;
+  xscale-idle = refl;
 }

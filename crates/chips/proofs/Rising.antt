@@ -9,8 +9,8 @@ use native.Mathlib.Omega.{arith}
 use lib.ListN.{length, getD}
 use Rattle.numbers.specs.Numbers.{between}
 use Rattle.numbers.proofs.Tests.{and-true, between-true}
-use Rattle.layout.specs.Words.{mostRates}
-use Rattle.chips.specs.Chips.{megahertz, milliwatts, chipCount, chipRates}
+use Rattle.layout.specs.Words.{mostRates, mostIdle}
+use Rattle.chips.specs.Chips.{megahertz, milliwatts, chipCount, chipRates, idleFigures, idleEntry}
 use Rattle.chips.specs.declared.Chip.{Chip}
 use Rattle.chips.specs.declared.Chip.the-variants.{Xscale, Ppc405lp}
 
@@ -68,6 +68,16 @@ pub powers-in-order : (c : Chip) → rising 1 5000 (milliwatts c) ≡ true
 unfolding milliwatts
 powers-in-order Xscale = refl
 powers-in-order Ppc405lp = refl
+
+-- Idle energies from 1 microjoule to the most that a list may hold, and one for each chip.
+pub idle-in-order : rising 1 mostIdle idleFigures ≡ true
+unfolding idleFigures
+idle-in-order = refl
+
+pub idle-inside : (c : Chip) → idleEntry c < length idleFigures
+unfolding idleFigures
+idle-inside Xscale = omega arith
+idle-inside Ppc405lp = omega arith
 
 -- The rate numbers of a chip, where it is known which one it is.
 pub xscale-few : {c : Chip} {r : ℕ} → c ≡ Xscale → r ≤ chipCount c → r ≤ 5

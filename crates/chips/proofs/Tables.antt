@@ -9,11 +9,13 @@ use lib.ListN.{length, getD}
 use Rattle.numbers.proofs.Tests.{between-true}
 use Rattle.numbers.proofs.Lists.{each-length, each-at}
 use Rattle.numbers.proofs.Rounding.{ceil-falls, ceil-positive}
-use Rattle.layout.specs.Words.{mostRates}
+use Rattle.layout.specs.Words.{mostRates, mostIdle}
 use Rattle.taskset.specs.Quantities.{jobTicks}
 use Rattle.chips.specs.Chips.{milliwatts, chipCount, chipRate, chipPower, chipEnergy, chipRates, chipEnergies}
+use Rattle.chips.specs.Chips.{idleFigures, idleEntry, chipIdle}
 use Rattle.chips.specs.declared.Chip.{Chip}
 use Rattle.chips.proofs.Rising.{Entry, entry-at, count-in-range, powers-as-many, rates-in-order, powers-in-order}
+use Rattle.chips.proofs.Rising.{idle-in-order, idle-inside}
 
 -- ---- how many
 pub count-range : (c : Chip) → (2 ≤ chipCount c) × (chipCount c ≤ mostRates)
@@ -58,6 +60,11 @@ pub powers-rise : (c : Chip) (r : ℕ) → 1 ≤ r → r < chipCount c → chipP
 powers-rise c r a b =
     let next : suc (r - 1) ≡ suc r - 1 = omega arith in
     rw next at (power-at c r a (omega arith) .below-next (omega (arith, powers-as-many c)))
+
+-- ---- idle energies
+-- A chip's own is one that a list may hold.
+pub idle-range : (c : Chip) → (1 ≤ chipIdle c) × (chipIdle c ≤ mostIdle)
+idle-range c = omega (arith, entry-at 1 mostIdle idleFigures idle-in-order (idleEntry c) (idle-inside c))
 
 -- ---- energies
 -- An energy has room in a word: at 10,000 cycles per tick or more, fewer than 2^32 cycles take at most 429,497 ticks.

@@ -1,4 +1,5 @@
--- Two processors by name (document 02, note 2): the rates of each, and what a job costs on it.
+-- Two processors by name (document 02, notes 2 and 4): the rates of each, what a job costs on it, and what an idle tick
+-- does.
 use Prim.Native.Nat.{ℕ, _-_, _*_}
 use mathlib.Core.List.{List, [], _∷_}
 use lib.ListN.{length, getD}
@@ -34,6 +35,18 @@ chipPower c r = entry (milliwatts c) r
 -- "and an energy is power in mW times the job time": of a job of so many cycles, at rate number r.
 abbrev pub chipEnergy : Chip → ℕ → ℕ → ℕ
 chipEnergy c cycles r = chipPower c r * jobTicks cycles (chipRate c r)
+
+-- "Chips bring H of their own unless the line is given: 12 for ppc405lp, 40 for xscale."
+unfoldable pub idleFigures : List ℕ
+idleFigures = 12 ∷ 40 ∷ []
+
+-- Where a chip's figure stands in that table, counted from 0.
+abbrev pub idleEntry : Chip → ℕ
+idleEntry Xscale = 1
+idleEntry Ppc405lp = 0
+
+abbrev pub chipIdle : Chip → ℕ
+chipIdle c = getD idleFigures (idleEntry c) 0
 
 -- The chip's rates, and the energies of such a job, one per rate.
 unfoldable pub chipRates : Chip → List ℕ

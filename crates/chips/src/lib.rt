@@ -1,10 +1,10 @@
-// Two processors by name: constant tables of their rates and powers, and what a job costs by them. How a text names
-// them is left to the crates above.
+// Two processors by name: constant tables of their rates, powers and idle energies, and what a job costs by them. How a
+// text names them is left to the crates above.
 ghost use mathlib.Core.Path.{_≡_};
 ghost use Prim.Native.Nat.{_+_, _≤_};
 ghost use lib.ListN.{length};
 ghost use Rattle.taskset.proofs.Writing.{written};
-ghost use Rattle.chips.specs.Chips.{chipCount, chipRate, chipPower, chipEnergy, chipRates, chipEnergies};
+ghost use Rattle.chips.specs.Chips.{chipCount, chipRate, chipPower, chipEnergy, chipRates, chipEnergies, idleEntry, chipIdle};
 
 // The chips that a text can name.
 pub enum Chip {
@@ -20,6 +20,9 @@ const XSCALE_POWERS: [u32; 5] = [80, 170, 400, 900, 1_600];
 const PPC405LP_RATES: [u32; 4] = [33_000, 100_000, 266_000, 333_000];
 
 const PPC405LP_POWERS: [u32; 4] = [19, 72, 600, 750];
+
+// Idle energies in microjoules per tick, of the ppc405lp and of the xscale.
+const IDLE: [u32; 2] = [12, 40];
 
 // How many rates a chip has.
 pub fn rate_count(chip: Chip) -> usize
@@ -60,6 +63,23 @@ fn energy(chip: Chip, cycles: u32, r: usize) -> u32
 {
     let time = taskset::job_ticks(cycles, rate(chip, r));
     power(chip, r) * time
+}
+
+// Where a chip's entry stands in the table of idle energies.
+fn idle_entry(chip: Chip) -> usize
+    ensures { λ r. ⌜ r ≡ idleEntry chip ⌝ }
+{
+    match chip {
+        Chip::Xscale => 1,
+        Chip::Ppc405lp => 0,
+    }
+}
+
+// The energy of an idle tick on a chip.
+pub fn idle(chip: Chip) -> u32
+    ensures { λ r. ⌜ r ≡ chipIdle chip ⌝ }
+{
+    IDLE[idle_entry(chip)]
 }
 
 // The chip's rates, to the list from a place on.

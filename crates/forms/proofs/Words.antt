@@ -3,6 +3,7 @@
 use Prim.Native.Nat.{ℕ, zero, suc, _+_, _≤_}
 use mathlib.Core.Path.{_≡_, refl, sym, ap, _∙_}
 use mathlib.Core.List.{List, [], _∷_, _++_}
+use mathlib.Core.Option.{none}
 use native.Mathlib.Nat.{add-zero}
 use native.Mathlib.Omega.{arith}
 use lib.ListN.{length, set}
@@ -11,11 +12,13 @@ use Rattle.layout.specs.Words.{mostRates, headKinds, extraKinds, headSize, task
 use Rattle.layout.specs.declared.Layout.the-variants.{Ordinary}
 use Rattle.chips.proofs.Tables.{count-range, rates-length, energies-length}
 use Rattle.text.specs.Text.{bytes, TaskLine, Clock, rates, chip, Script, ClockOk, energyCount, TaskLineOk, ratesOf}
-use Rattle.text.specs.Text.{headWords, extraWords, taskWords, words}
-use Rattle.text.proofs.Reading.{got, skip, upTo, numbers, readEnergies, readTask, readAt}
+use Rattle.text.specs.Text.{idleOf, headWords, extraWords, taskWords, words}
+use Rattle.text.proofs.Reading.{got, skip, upTo, numbers, noIdleLine, readEnergies, readTask, readAt}
 use Rattle.text.proofs.Grammar.{dom-of, task-piece}
 use Rattle.taskset.proofs.Writing.{written, written-then, length-written}
-use Rattle.forms.specs.Forms.{clockOf, ratesIn, energiesIn, Fits, wordsBy}
+use Rattle.forms.specs.Forms.{lineOf, clockOf, ratesIn, energiesIn, idleIn, Fits, wordsBy}
+use Rattle.forms.specs.declared.Idle.{Idle}
+use Rattle.forms.specs.declared.Idle.the-variants.{Given, Absent}
 use Rattle.forms.specs.declared.Clock as code
 use Rattle.forms.specs.declared.Clock.the-variants.{Rates, Named}
 use Rattle.taskset.proofs.Stores.{stored, in-front}
@@ -29,7 +32,7 @@ pub task-front : (t : TaskLine) → length (t .period ∷ t .cycles ∷ extraWor
 unfolding extraKinds
 task-front t = refl
 
--- The clock that the code has, of the clock of a script: as many rates and energies, and the same words.
+-- The clock that the code has, of the clock of a script: as many rates and energies, the same idle energy and words.
 pub rates-in : (k : Clock) → ratesIn (clockOf k) ≡ length (ratesOf k)
 rates-in (rates fs) = refl
 rates-in (chip c) = sym (rates-length c)
@@ -37,6 +40,11 @@ rates-in (chip c) = sym (rates-length c)
 pub energies-in : (k : Clock) → energiesIn (clockOf k) ≡ energyCount k
 energies-in (rates fs) = refl
 energies-in (chip c) = refl
+
+pub idle-in : (v : Idle) (k : Clock) → idleIn v (clockOf k) ≡ idleOf (lineOf v) k
+idle-in (Given h) k = refl
+idle-in Absent (rates fs) = refl
+idle-in Absent (chip c) = refl
 
 pub words-by : (k : Clock) → wordsBy (clockOf k) ≡ taskWords k
 words-by (rates fs) = refl
@@ -60,6 +68,11 @@ pub no-energies : (s : List ℕ) (at : ℕ) → readAt (readEnergies 0) s at ≡
 unfolding readAt
 no-energies s at = rw add-zero
 
+-- Where no idle line stands, nothing is read.
+pub no-idle-line : (s : List ℕ) (at : ℕ) → readAt noIdleLine s at ≡ got none at
+unfolding readAt
+no-idle-line s at = rw add-zero
+
 -- A task that was read has as many energies as rates.
 pub task-words : (k : code.Clock) (s : List ℕ) (at i : ℕ) (t : TaskLine) → readAt (readTask (energiesIn k)) s at ≡ got t i
     → length (wordsBy k t) ≡ taskSize Ordinary (ratesIn k)
@@ -72,12 +85,12 @@ task-words k s at i t e = go k (dom-of (task-piece (energiesIn k)) s at i t e)
 
 -- The rates and the tasks stand in their places, and the counts and the head go in front of them, from the back to the
 -- front.
-pub set-words : (s : Script) (d e : List ℕ) (h k m n : ℕ) → h ≡ headSize Ordinary → k ≡ taskCountPlace Ordinary m
+pub set-words : (s : Script) (ws d e : List ℕ) (h k m n : ℕ) → ws ≡ headWords s → h ≡ headSize Ordinary → k ≡ taskCountPlace Ordinary m
     → length (ratesOf (s .clock)) ≡ m → length (s .tasks) ≡ n → tasksPlace Ordinary m ≤ length d
     → e ≡ written (tasksPlace Ordinary m) (joined (taskWords (s .clock)) (s .tasks)) (written (h + 1) (ratesOf (s .clock)) d)
-    → stored 0 (headWords s) (set (set e k n) h m) ≡ written 0 (words s) d
+    → stored 0 ws (set (set e k n) h m) ≡ written 0 (words s) d
 unfolding words
-set-words s d e h k m n hs ks ms ns room q =
+set-words s ws d e h k m n are hs ks ms ns room q =
     let ts : List ℕ = joined (taskWords (s .clock)) (s .tasks) in
     let fs : List ℕ = ratesOf (s .clock) in
     let rs : List ℕ = written (h + 1) fs d in
@@ -85,7 +98,8 @@ set-words s d e h k m n hs ks ms ns room q =
     let counted : set e k n ≡ written (h + 1) (fs ++ n ∷ ts) d =
     ap (λ (z : List ℕ). set z k n) q ∙ in-front (n ∷ []) ts rs k (tasksPlace Ordinary m) (omega arith) (omega arith)
     ∙ written-then fs (n ∷ ts) d (h + 1) k (omega arith) (omega arith) in
-    ap (λ (z : List ℕ). stored 0 (headWords s) (set z h m)) counted
+    ap (λ (z : List ℕ). stored 0 z (set (set e k n) h m)) are
+    ∙ ap (λ (z : List ℕ). stored 0 (headWords s) (set z h m)) counted
     ∙ ap (stored 0 (headWords s)) (in-front (m ∷ []) (fs ++ n ∷ ts) d h (h + 1) refl (omega arith))
     ∙ in-front (headWords s) (m ∷ (fs ++ n ∷ ts)) d 0 h (omega (arith, head-front s)) (omega arith)
     ∙ rw (ms, ns)

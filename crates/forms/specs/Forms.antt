@@ -3,14 +3,22 @@
 use Prim.Native.Nat.{ℕ, _≤_}
 use mathlib.Core.Path.{_≡_}
 use mathlib.Core.List.{List, _∷_, _++_}
+use mathlib.Core.Option.{Option, none, some}
 use lib.ListN.{length}
 use Rattle.layout.specs.Words.{mostRates}
-use Rattle.chips.specs.Chips.{chipCount, chipEnergies}
+use Rattle.chips.specs.Chips.{chipCount, chipEnergies, chipIdle}
 use Rattle.chips.specs.declared.Chip.{Chip}
 use Rattle.text.specs.Text as Text
 use Rattle.text.specs.Text.{bytes, TaskLine, Script, ratesOf, extraWords, words}
 use Rattle.text.proofs.Reading.{Res, got, bad, mapRes, field}
 use Rattle.taskset.proofs.Writing.{written}
+use Rattle.forms.specs.declared.Idle.{Idle}
+use Rattle.forms.specs.declared.Idle.the-variants.{Given, Absent}
+use Rattle.forms.specs.declared.IdleRead.{IdleRead}
+use Rattle.forms.specs.declared.IdleRead.the-variants.{Got as IdleGot, Bad as IdleBad}
+use Rattle.forms.specs.declared.Head.{Head}
+use Rattle.forms.specs.declared.HeadRead.{HeadRead}
+use Rattle.forms.specs.declared.HeadRead.the-variants.{Got as HeadGot, Bad as HeadBad}
 use Rattle.forms.specs.declared.Clock.{Clock}
 use Rattle.forms.specs.declared.Clock.the-variants.{Rates, Named}
 use Rattle.forms.specs.declared.ChipRead.{ChipRead}
@@ -42,7 +50,23 @@ pub record Gives {A B : Type 0} (value : A → B) (words : A → List ℕ) (k : 
 abbrev pub plain : List ℕ → List ℕ
 plain xs = xs
 
--- The answers about a chip's name, the line behind the slack's, and a set.
+-- The idle line as a script has it, and the head.
+abbrev pub lineOf : Idle → Option ℕ
+lineOf (Given h) = some h
+lineOf Absent = none
+
+abbrev pub headOf : Head → ℕ × Option ℕ
+headOf h = (h .slack, lineOf (h .idle))
+
+-- The answers about the idle line, the head, a chip's name, the line behind the head, and a set.
+abbrev pub ofIdle : IdleRead → Res (Option ℕ)
+ofIdle (IdleGot v i) = got (lineOf v) i
+ofIdle (IdleBad o) = bad o
+
+abbrev pub ofHead : HeadRead → Res (ℕ × Option ℕ)
+ofHead (HeadGot h i) = got (headOf h) i
+ofHead (HeadBad o) = bad o
+
 abbrev pub ofChip : ChipRead → Res Chip
 ofChip (NameGot c i) = got c i
 ofChip (NameBad o) = bad o
@@ -68,6 +92,12 @@ ratesIn (Named c) = chipCount c
 abbrev pub energiesIn : Clock → ℕ
 energiesIn (Rates m) = m
 energiesIn (Named c) = 0
+
+-- The idle energy that the line or the clock brings.
+abbrev pub idleIn : Idle → Clock → ℕ
+idleIn (Given h) k = h
+idleIn Absent (Rates m) = 0
+idleIn Absent (Named c) = chipIdle c
 
 -- A line of rates has some, and not too many.
 abbrev pub Fits : Clock → Type 0

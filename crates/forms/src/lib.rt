@@ -10,21 +10,43 @@ ghost use Rattle.text.specs.Text;
 ghost use Rattle.text.proofs.Reading;
 ghost use Rattle.text.proofs.Reading.{ext, mapped, readAt, starts};
 ghost use Rattle.scanner.specs.Steps.{ofRead, noValue};
-ghost use Rattle.forms.specs.Forms.{spacedNumber, Gives, plain, ofChip, ofClock, ofSet, clockOf, saidOf};
-ghost use Rattle.forms.specs.Forms.{ratesIn, energiesIn, Fits, energiesBy, wordsBy};
+ghost use Rattle.forms.specs.Forms.{spacedNumber, Gives, plain, ofIdle, ofHead, ofChip, ofClock, ofSet, clockOf, saidOf};
+ghost use Rattle.forms.specs.Forms.{ratesIn, energiesIn, idleIn, Fits, energiesBy, wordsBy};
 use chips::Chip;
 use layout::Layout;
 use scanner::Class;
 use scanner::Read;
 
-// What stands behind the slack's line: so many rates, or a chip by its name.
+// The idle line: the number that it says, or that there is none.
+pub enum Idle {
+    Given(u32),
+    Absent,
+}
+
+// The lines of the head.
+pub struct Head {
+    pub slack: u32,
+    pub idle: Idle,
+}
+
+// What stands behind the head: so many rates, or a chip by its name.
 pub enum Clock {
     Rates(usize),
     Named(Chip),
 }
 
-// What reading a chip's name gives, and the line behind the slack's: it and the place after it, or the offset at which
-// the text departs.
+// What reading the idle line gives, the head, a chip's name, and the line behind the head: it and the place after it, or
+// the offset at which the text departs.
+pub enum IdleRead {
+    Got(Idle, usize),
+    Bad(usize),
+}
+
+pub enum HeadRead {
+    Got(Head, usize),
+    Bad(usize),
+}
+
 pub enum ChipRead {
     Got(Chip, usize),
     Bad(usize),
@@ -79,6 +101,53 @@ fn numbers(s: &[u8], at: usize, out: &mut [u32], k: usize, low: usize, spare: us
         n += 1;
     }
     Read::Got(n as u32, i)
+}
+
+// The idle line from its name on, with the bracket that opens the line behind it: an i begins it, and no other line that
+// may stand there.
+fn idle_line(s: &[u8], at: usize) -> IdleRead
+    ensures { λ r. ⌜ ofIdle r ≡ readAt Reading.readIdle (now (s .entry)) at ⌝ }
+{
+    if !scanner::is_letter(s, at, b'i') {
+        return IdleRead::Got(Idle::Absent, at);
+    }
+    let number = scanner::field(s, at, b"idle ");
+    let Read::Got(h, i) = number else {
+        return IdleRead::Bad(scanner::place_of(number));
+    };
+    match scanner::literal(s, i, b")\n(") {
+        Read::Got(_, j) => IdleRead::Got(Idle::Given(h), j),
+        Read::Bad(o) => IdleRead::Bad(o),
+    }
+}
+
+// The head's lines, with the bracket that opens the line behind them, since the letter behind a bracket tells which line
+// it opens.
+fn head_lines(s: &[u8]) -> HeadRead
+    ensures { λ r. ⌜ ofHead r ≡ readAt Reading.readHead (now (s .entry)) 0 ⌝ }
+{
+    let number = scanner::field(s, 0, b"(slack ");
+    let Read::Got(slack, i) = number else {
+        return HeadRead::Bad(scanner::place_of(number));
+    };
+    let next = scanner::literal(s, i, b")\n(");
+    let Read::Got(_, i) = next else {
+        return HeadRead::Bad(scanner::place_of(next));
+    };
+    match idle_line(s, i) {
+        IdleRead::Got(idle, j) => HeadRead::Got(Head { slack, idle }, j),
+        IdleRead::Bad(o) => HeadRead::Bad(o),
+    }
+}
+
+// The place that an answer about the head names.
+fn head_place(r: HeadRead) -> usize
+    ensures { λ x. ⌜ x ≡ ext (ofHead r) ⌝ }
+{
+    match r {
+        HeadRead::Got(_, i) => i,
+        HeadRead::Bad(o) => o,
+    }
 }
 
 // The name of a chip, once it is known which it must be.
@@ -136,7 +205,7 @@ fn rates_line(s: &[u8], at: usize, out: &mut [u32], k: usize) -> ClockRead
     }
 }
 
-// The line behind the slack's, from its name on: a c begins the chip's.
+// The line behind the head, from its name on: a c begins the chip's.
 fn clock_line(s: &[u8], at: usize, out: &mut [u32], k: usize) -> ClockRead
     requires { ⌜ k + mostRates ≤ length (now out) ⌝ }
     ensures { λ r. ⌜ Gives clockOf Text.ratesOf k (now (out .entry)) (now (out .exit))
@@ -165,6 +234,19 @@ fn rate_count(clock: Clock) -> usize
     match clock {
         Clock::Rates(m) => m,
         Clock::Named(chip) => chips::rate_count(chip),
+    }
+}
+
+// The idle energy of a set: what the line says, and without it the chip's own, or 0.
+fn idle_energy(line: Idle, clock: Clock) -> u32
+    ensures { λ r. ⌜ r ≡ idleIn line clock ⌝ }
+{
+    match line {
+        Idle::Given(h) => h,
+        Idle::Absent => match clock {
+            Clock::Rates(_) => 0,
+            Clock::Named(chip) => chips::idle(chip),
+        },
     }
 }
 
@@ -270,24 +352,19 @@ fn tasks(s: &[u8], at: usize, out: &mut [u32], clock: Clock) -> Read
     Read::Got(n as u32, i)
 }
 
-// A set's words, to the front of the list: what they are, and the place after the last line. The first line is read
-// with the bracket that opens the second, since the letter behind it tells which line that is. A count is known only
-// when what it counts stands in the list, so the words in front of a list are stored after it.
+// A set's words, to the front of the list: what they are, and the place after the last line. A count is known only when
+// what it counts stands in the list, and the idle energy only with the chip, so the words in front are stored last.
 pub fn read_set(s: &[u8], out: &mut [u32]) -> SetRead
     requires { ⌜ mostWords ≤ length (now out) ⌝ }
     ensures { λ r. ⌜ Gives saidOf Text.words 0 (now (out .entry)) (now (out .exit))
         (readAt Reading.readScript (now (s .entry)) 0) (ofSet r) ⌝ }
 {
-    let head = layout::head_size(Layout::Ordinary);
-    let slack = scanner::field(s, 0, b"(slack ");
-    let Read::Got(g, i) = slack else {
-        return SetRead::Bad(scanner::place_of(slack));
+    let size = layout::head_size(Layout::Ordinary);
+    let front = head_lines(s);
+    let HeadRead::Got(head, i) = front else {
+        return SetRead::Bad(head_place(front));
     };
-    let next = scanner::literal(s, i, b")\n(");
-    let Read::Got(_, i) = next else {
-        return SetRead::Bad(scanner::place_of(next));
-    };
-    let line = clock_line(s, i, out, head + 1);
+    let line = clock_line(s, i, out, size + 1);
     let ClockRead::Got(clock, i) = line else {
         return SetRead::Bad(place_of(line));
     };
@@ -301,8 +378,10 @@ pub fn read_set(s: &[u8], out: &mut [u32]) -> SetRead
     };
     let m = rate_count(clock);
     out[layout::task_count_place(Layout::Ordinary, m)] = task_count;
-    out[head] = m as u32;
-    out[layout::SLACK_PLACE] = g;
+    out[size] = m as u32;
+    out[layout::SLACK_PLACE] = head.slack;
+    let idle = head.idle;
+    out[layout::IDLE_PLACE] = idle_energy(idle, clock);
     let n = task_count as usize;
     let said = Said {
         clock,

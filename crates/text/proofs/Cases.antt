@@ -1,10 +1,11 @@
 -- The cases of the bracketed text, worked in the documents or beside them, proved of the definitions: document 01's
--- example, a text for each chip, both sides of refusal 9, and where texts depart.
+-- example, a text for each chip, idle lines, both sides of refusal 9, and where texts depart.
 -- Assumes nothing.
 use Prim.Native.Nat.{ℕ, _-_, _^_, _≤_, _<_}
 use mathlib.Core.Path.{_≡_, refl, _∙_, subst}
 use mathlib.Core.List.{List, [], _∷_, _++_}
 use mathlib.Core.Bool.{true}
+use mathlib.Core.Option.{Option, none, some}
 use mathlib.Core.Logic.{inl, inr, ⊎-elim}
 use native.Mathlib.Omega.{arith}
 use native.Mathlib.Bridge.{le-by-compare, IsLe}
@@ -16,32 +17,44 @@ use Rattle.numbers.proofs.Lists.{each-length, each-at, every, every-at}
 use Rattle.numbers.proofs.Tests.{lt-or-le}
 use Rattle.layout.specs.Words.{headKinds, extraKinds, mostEnergy, energy}
 use Rattle.layout.specs.declared.Layout.the-variants.{Ordinary}
-use Rattle.chips.specs.Chips.{megahertz, milliwatts, chipRates, chipEnergies}
+use Rattle.chips.specs.Chips.{megahertz, milliwatts, chipRates, chipEnergies, idleFigures}
 use Rattle.chips.specs.declared.Chip.{Chip}
 use Rattle.chips.specs.declared.Chip.the-variants.{Xscale, Ppc405lp}
 use Rattle.taskset.specs.Refusals.{Accepts, Refuses}
 use Rattle.taskset.proofs.Cases.{chip-set}
-use Rattle.text.specs.Text.{rates, chip, Script, bytes, digits, decimal, scriptText, TaskLineOk, ScriptOk, IsTextOf}
-use Rattle.text.specs.Text.{WellFormed, FirstBad, ratesOf, words, scriptOf}
+use Rattle.text.specs.Text.{Clock, rates, chip, Script, bytes, digits, decimal, scriptText, TaskLineOk, ScriptOk, IsTextOf}
+use Rattle.text.specs.Text.{WellFormed, FirstBad, ratesOf, headWords, words, scriptOf}
 use Rattle.text.specs.Calls.{WorksOut, HasOver, readerChecks}
 use Rattle.text.proofs.Reading.{literal, more, number, many, readText}
 use Rattle.text.proofs.Pieces.{no-first-bad}
 use Rattle.text.proofs.Copies.{is-read, is-refused, NoneOver, takes}
 
--- Document 01's input of the program is the text of "the set list S", and says the words of S.
-abbrev S : List ℕ
-S = 100 ∷ 3 ∷ 2 ∷ 4 ∷ 8 ∷ 2 ∷ 10 ∷ 12 ∷ 4 ∷ 9 ∷ 20 ∷ 15 ∷ 20 ∷ 7 ∷ 15 ∷ 30 ∷ []
+-- Document 01's input of the program is the text of "the set list S", and says the words of S, with idle energy 0; a
+-- line behind its first says another.
+abbrev S : ℕ → List ℕ
+S h = 100 ∷ h ∷ 3 ∷ 2 ∷ 4 ∷ 8 ∷ 2 ∷ 10 ∷ 12 ∷ 4 ∷ 9 ∷ 20 ∷ 15 ∷ 20 ∷ 7 ∷ 15 ∷ 30 ∷ []
 
 unfoldable pub example : List ℕ
 example = bytes "(slack 100)\n(rates 2 4 8)\n(task (period 10) (cycles 12) (energy 4 9 20))\n(task (period 15) (cycles 20) (energy 7 15 30))\n"
 
-pub example-text : IsTextOf (scriptOf S) example
+pub example-text : IsTextOf (scriptOf (S 0)) example
 unfolding example readText number more literal many scriptOf headKinds extraKinds
-example-text = is-read (scriptOf S) example (length example) refl .0
+example-text = is-read (scriptOf (S 0)) example (length example) refl .0
 
-pub example-words : words (scriptOf S) ≡ S
+pub example-words : words (scriptOf (S 0)) ≡ S 0
 unfolding words scriptOf headKinds extraKinds
 example-words = refl
+
+unfoldable with-idle : List ℕ
+with-idle = bytes "(slack 100)\n(idle 12)\n(rates 2 4 8)\n(task (period 10) (cycles 12) (energy 4 9 20))\n(task (period 15) (cycles 20) (energy 7 15 30))\n"
+
+idle-text : IsTextOf (scriptOf (S 12)) with-idle
+unfolding with-idle readText number more literal many scriptOf headKinds extraKinds
+idle-text = is-read (scriptOf (S 12)) with-idle (length with-idle) refl .0
+
+idle-words : words (scriptOf (S 12)) ≡ S 12
+unfolding words scriptOf headKinds extraKinds
+idle-words = refl
 
 -- A text for each chip, and the words that it says: at 33 MHz a million cycles take 31 ticks, the last not all used.
 unfoldable pub xscale : List ℕ
@@ -49,16 +62,17 @@ xscale = bytes "(slack 100)\n(chip xscale)\n(task (period 10) (cycles 1500000))\
 
 abbrev pub xscaleWords : List ℕ
 xscaleWords =
-    100 ∷ 5 ∷ 150000 ∷ 400000 ∷ 600000 ∷ 800000 ∷ 1000000 ∷ 2 ∷ 10 ∷ 1500000 ∷ 800 ∷ 680 ∷ 1200 ∷ 1800 ∷ 3200 ∷ 20 ∷ 3000000 ∷
+    100 ∷ 40 ∷ 5 ∷ 150000 ∷ 400000 ∷ 600000 ∷ 800000 ∷ 1000000 ∷ 2 ∷ 10 ∷ 1500000 ∷ 800 ∷ 680 ∷ 1200 ∷ 1800 ∷ 3200 ∷ 20 ∷ 3000000 ∷
     1600 ∷ 1360 ∷ 2000 ∷ 3600 ∷ 4800 ∷ []
 
 unfoldable pub ppc405lp : List ℕ
 ppc405lp = bytes "(slack 500)\n(chip ppc405lp)\n(task (period 40) (cycles 1000000))\n(task (period 20) (cycles 500000))\n"
 
--- A script of two tasks under a chip.
+-- A script of two tasks under a chip, without an idle line.
 abbrev pub underChip : ℕ → Chip → ℕ → ℕ → ℕ → ℕ → Script
 underChip g c p₁ c₁ p₂ c₂ = record {
   slack = g;
+  idle = none;
   clock = chip c;
   tasks = record { period = p₁; cycles = c₁; energies = [] } ∷ record { period = p₂; cycles = c₂; energies = [] } ∷ [];
 }
@@ -70,12 +84,41 @@ pub record Chips : Type 0 where
   pub ppc405lp-words : words (underChip 500 Ppc405lp 40 1000000 20 500000) ≡ chip-set
 
 pub chips : Chips
-unfolding xscale ppc405lp chip-set readText number more literal many words chipRates chipEnergies megahertz milliwatts
+unfolding xscale ppc405lp chip-set readText number more literal many words chipRates chipEnergies megahertz milliwatts idleFigures
 chips = record {
   xscale-text = is-read (underChip 100 Xscale 10 1500000 20 3000000) xscale (length xscale) refl .0;
   xscale-words = refl;
   ppc405lp-text = is-read (underChip 500 Ppc405lp 40 1000000 20 500000) ppc405lp (length ppc405lp) refl .0;
   ppc405lp-words = refl;
+}
+
+-- Idle energies: "Chips bring H of their own unless the line is given", also where it says 0. Of a line of rates, a line
+-- that says 0 says what none says. Its range is not judged: a number over 1,000 is read.
+abbrev oneTask : Option ℕ → Clock → List ℕ → Script
+oneTask o k es = record { slack = 5; idle = o; clock = k; tasks = record { period = 7; cycles = 9; energies = es } ∷ [] }
+
+pub record Idles : Type 0 where
+  pub given-0 : IsTextOf (oneTask (some 0) (chip Xscale) []) (bytes "(slack 5)\n(idle 0)\n(chip xscale)\n(task (period 7) (cycles 9))\n")
+  pub given-0-word : headWords (oneTask (some 0) (chip Xscale) []) ≡ 5 ∷ 0 ∷ []
+  pub given : IsTextOf (oneTask (some 1001) (chip Ppc405lp) []) (bytes "(slack 5)\n(idle 1001)\n(chip ppc405lp)\n(task (period 7) (cycles 9))\n")
+  pub given-word : headWords (oneTask (some 1001) (chip Ppc405lp) []) ≡ 5 ∷ 1001 ∷ []
+  pub xscale-word : headWords (oneTask none (chip Xscale) []) ≡ 5 ∷ 40 ∷ []
+  pub ppc405lp-word : headWords (oneTask none (chip Ppc405lp) []) ≡ 5 ∷ 12 ∷ []
+  pub rates-0 : IsTextOf (oneTask (some 0) (rates (1 ∷ 2 ∷ [])) (3 ∷ 4 ∷ []))
+      (bytes "(slack 5)\n(idle 0)\n(rates 1 2)\n(task (period 7) (cycles 9) (energy 3 4))\n")
+  pub rates-0-words : words (oneTask (some 0) (rates (1 ∷ 2 ∷ [])) (3 ∷ 4 ∷ [])) ≡ words (oneTask none (rates (1 ∷ 2 ∷ [])) (3 ∷ 4 ∷ []))
+
+pub idles : Idles
+unfolding readText number more literal many words idleFigures
+idles = record {
+  given-0 = is-read (oneTask (some 0) (chip Xscale) []) _ 62 refl .0;
+  given-0-word = refl;
+  given = is-read (oneTask (some 1001) (chip Ppc405lp) []) _ 67 refl .0;
+  given-word = refl;
+  xscale-word = refl;
+  ppc405lp-word = refl;
+  rates-0 = is-read (oneTask (some 0) (rates (1 ∷ 2 ∷ [])) (3 ∷ 4 ∷ [])) _ 73 refl .0;
+  rates-0-words = refl;
 }
 
 -- Refusal 9, either side of its edge. On the xscale 625,000,000 cycles take 625 ticks at 1,000 MHz and 1,600 mW, which is
@@ -96,23 +139,24 @@ abbrev ppcEnough : Script
 ppcEnough = underChip 9 Ppc405lp 7 443156000 7 443156000
 
 abbrev unjudged : Script
-unjudged = record { slack = 0; clock = chip Xscale; tasks = record { period = 0; cycles = 4294967295; energies = [] } ∷ [] }
+unjudged = record { slack = 0; idle = none; clock = chip Xscale; tasks = record { period = 0; cycles = 4294967295; energies = [] } ∷ [] }
 
 abbrev inText : Script
 inText = record {
   slack = 9;
+  idle = none;
   clock = rates (1 ∷ 2 ∷ []);
   tasks = record { period = 7; cycles = 9; energies = 1000001 ∷ 1 ∷ [] } ∷ [];
 }
 
 pub record Overs : Type 0 where
   pub over : (lent : ℕ) → Refuses (readerChecks (scriptText tooMuch) lent) 9 2
-  pub at-most : (lent : ℕ) → 22 ≤ lent → Accepts (readerChecks (scriptText enough) lent)
+  pub at-most : (lent : ℕ) → 23 ≤ lent → Accepts (readerChecks (scriptText enough) lent)
   pub ppc405lp-over : (lent : ℕ) → Refuses (readerChecks (scriptText ppcMuch) lent) 9 2
-  pub ppc405lp-at-most : (lent : ℕ) → 19 ≤ lent → Accepts (readerChecks (scriptText ppcEnough) lent)
+  pub ppc405lp-at-most : (lent : ℕ) → 20 ≤ lent → Accepts (readerChecks (scriptText ppcEnough) lent)
   pub left-over : (lent : ℕ) → Refuses (readerChecks (scriptText tooMuch ++ (10 ∷ [])) lent) 1 98
   pub unranged : (lent : ℕ) → Refuses (readerChecks (scriptText unjudged) lent) 9 1
-  pub given : (lent : ℕ) → 9 ≤ lent → Accepts (readerChecks (scriptText inText) lent)
+  pub given : (lent : ℕ) → 10 ≤ lent → Accepts (readerChecks (scriptText inText) lent)
 
 -- Tasks with an energy over the largest.
 much-2 : HasOver tooMuch 2
@@ -203,6 +247,7 @@ two-ok c a b h l =
     record { period = omega arith; cycles = l; energies = record { least = omega arith; most = omega arith; each = tt } } in
     record {
       slack = omega arith;
+      idle = tt;
       clock = tt;
       tasks = record { least = omega arith; most = omega arith; each = (line a h, (line b l, tt)) };
     }
@@ -221,6 +266,7 @@ is-unjudged =
     text-of unjudged
     (record {
       slack = omega arith;
+      idle = tt;
       clock = tt;
       tasks = record {
         least = omega arith;
@@ -234,6 +280,7 @@ is-in-text =
     text-of inText
     (record {
       slack = omega arith;
+      idle = tt;
       clock = record { least = omega arith; most = omega arith; each = (omega arith, (omega arith, tt)) };
       tasks = record {
         least = omega arith;
@@ -251,9 +298,9 @@ is-in-text =
 
 -- How many words they have.
 record Lengths : Type 0 where
-  xscale : length (words enough) ≡ 22
-  ppc405lp : length (words ppcEnough) ≡ 19
-  in-text : length (words inText) ≡ 9
+  xscale : length (words enough) ≡ 23
+  ppc405lp : length (words ppcEnough) ≡ 20
+  in-text : length (words inText) ≡ 10
 
 lengths : Lengths
 unfolding words chipRates chipEnergies megahertz headKinds extraKinds
@@ -322,7 +369,8 @@ alike n = bytes "(slack 1)\n(rates 1 2)\n" ++ joined (λ (k : ℕ). bytes "(task
 -- 1, offset 0." After the largest number only a bracket may follow, after a first digit 0 no other, and a text that
 -- ends before its first task ends early. With chips: an unknown name departs at the first letter that no name has there,
 -- an energy form under a chip at the space in front of it, a missing one under rates at the bracket in its place, and
--- where a chip and a line of rates both stand, the second at the first byte that no text has.
+-- where a chip and a line of rates both stand, the second at the first byte that no text has. An idle line that stands
+-- twice, or not behind the slack's, departs at its first letter, and one without a number where the number should be.
 pub record Departures : Type 0 where
   ninth-rate : FirstBad WellFormed (bytes "(slack 1)\n(rates 1 2 3 4 5 6 7 8 9)\n") 32
   task-33 : FirstBad WellFormed (alike 33) 1366
@@ -340,6 +388,12 @@ pub record Departures : Type 0 where
   chip-then-rates : FirstBad WellFormed (bytes "(slack 1)\n(chip xscale)\n(rates 1 2)\n") 25
   rates-then-chip : FirstBad WellFormed (bytes "(slack 1)\n(rates 1 2)\n(chip xscale)\n") 23
   two-chips : FirstBad WellFormed (bytes "(slack 1)\n(chip xscale)\n(chip xscale)\n") 25
+  idle-twice : FirstBad WellFormed (bytes "(slack 1)\n(idle 2)\n(idle 2)\n(rates 1 2)\n") 20
+  idle-behind-rates : FirstBad WellFormed (bytes "(slack 1)\n(rates 1 2)\n(idle 2)\n") 23
+  idle-behind-chip : FirstBad WellFormed (bytes "(slack 1)\n(chip xscale)\n(idle 2)\n") 25
+  idle-before-slack : FirstBad WellFormed (bytes "(idle 2)\n(slack 1)\n(rates 1 2)\n") 1
+  idle-empty : FirstBad WellFormed (bytes "(slack 1)\n(idle)\n(rates 1 2)\n") 15
+  idle-largest-passed : FirstBad WellFormed (bytes "(slack 1)\n(idle 4294967296)\n") 25
 
 pub departures : Departures
 unfolding alike readText number more literal many
@@ -359,4 +413,10 @@ departures = record {
   chip-then-rates = is-refused _ 25 refl;
   rates-then-chip = is-refused _ 23 refl;
   two-chips = is-refused _ 25 refl;
+  idle-twice = is-refused _ 20 refl;
+  idle-behind-rates = is-refused _ 23 refl;
+  idle-behind-chip = is-refused _ 25 refl;
+  idle-before-slack = is-refused _ 1 refl;
+  idle-empty = is-refused _ 15 refl;
+  idle-largest-passed = is-refused _ 25 refl;
 }

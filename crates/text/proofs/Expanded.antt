@@ -4,6 +4,7 @@ use Prim.Native.Nat.{ℕ, zero, suc, _+_, _-_, _≤_, _<_}
 use mathlib.Core.Path.{_≡_, refl, sym, ap, _∙_}
 use mathlib.Core.List.{List, [], _∷_}
 use mathlib.Core.Bool.{true}
+use mathlib.Core.Option.{Option, none, some}
 use mathlib.Core.Logic.{_↔_, ⊎-elim}
 use native.Mathlib.Nat.{add-zero}
 use native.Mathlib.Omega.{arith}
@@ -14,7 +15,7 @@ use Rattle.numbers.proofs.Lists.{each-at, all-at, joined-at}
 use Rattle.numbers.proofs.Search.{no-lowest}
 use Rattle.numbers.proofs.Tests.{lt-or-le, true-between}
 use Rattle.layout.specs.Words.{headKinds, extraKinds, headSize, extraSize, headKind, kindIn, allows, longestPeriod}
-use Rattle.layout.specs.Words.{mostEnergy, word, slack, rateCount, taskCount}
+use Rattle.layout.specs.Words.{mostIdle, mostEnergy, word, rateCount, taskCount}
 use Rattle.layout.specs.Words.{taskSize, periodPlace, rate, period, cycles, energy}
 use Rattle.layout.specs.declared.Layout.the-variants.{Ordinary}
 use Rattle.layout.proofs.Whole.{IsWhole}
@@ -23,11 +24,11 @@ use Rattle.layout.proofs.Built as laws
 use Rattle.chips.specs.Chips.{chipCount, chipRate, chipEnergy, chipRates, chipEnergies}
 use Rattle.chips.specs.declared.Chip.{Chip}
 use Rattle.chips.proofs.Limits.{mostCycles, most-cycles, longer-over}
-use Rattle.chips.proofs.Tables.{count-range, rates-length, rate-range, rates-rise, energy-positive}
+use Rattle.chips.proofs.Tables.{count-range, rates-length, rate-range, rates-rise, idle-range, energy-positive}
 use Rattle.taskset.specs.Refusals.{Passes, Accepts, wordChecks}
 use Rattle.taskset.proofs.Sets.{words-pass}
 use Rattle.text.specs.Text.{TaskLine, chip, Script, energyCount, TaskLineOk, ScriptOk, IsTextOf}
-use Rattle.text.specs.Text.{headWords, extraWords, taskWords, words}
+use Rattle.text.specs.Text.{idleOf, headWords, extraWords, taskWords, words}
 use Rattle.text.specs.Calls.{HasOver, energyCheck}
 use Rattle.text.proofs.Sizes.{task-size, words-size}
 use Rattle.text.proofs.Copies.{NoneOver}
@@ -36,6 +37,14 @@ use Rattle.text.proofs.Copies.{NoneOver}
 pub record LineIn (l : TaskLine) : Type 0 where
   pub period : (1 ≤ l .period) × (l .period ≤ longestPeriod)
   pub cycles : (1 ≤ l .cycles) × (l .cycles ≤ 4000000000)
+
+abbrev pub IdleIn : Option ℕ → Type 0
+IdleIn none = Unit {0}
+IdleIn (some h) = h ≤ mostIdle
+
+-- A script that names a chip.
+abbrev pub chipScript : Chip → ℕ → Option ℕ → List TaskLine → Script
+chipScript c g o ts = record { slack = g; idle = o; clock = chip c; tasks = ts }
 
 -- The line of the task at place t.
 abbrev pub lineAt : List TaskLine → ℕ → TaskLine
@@ -46,9 +55,9 @@ unfolding headKinds
 head-length s = refl
 
 -- ---- what stands where
-module _ (c : Chip) (g : ℕ) (ts : List TaskLine) (ok : ScriptOk (record { slack = g; clock = chip c; tasks = ts })) where
+module _ (c : Chip) (g : ℕ) (o : Option ℕ) (ts : List TaskLine) (ok : ScriptOk (chipScript c g o ts)) where
   abbrev s : Script
-  s = record { slack = g; clock = chip c; tasks = ts }
+  s = chipScript c g o ts
 
   abbrev m : ℕ
   m = length (chipRates c)
@@ -148,24 +157,30 @@ module _ (c : Chip) (g : ℕ) (ts : List TaskLine) (ok : ScriptOk (record { slac
 pub passes-over : (s : Script) (t : List ℕ) → IsTextOf s t → Passes (energyCheck t) → NoneOver s
 passes-over s t is pass w = no-lowest (HasOver s) (λ k l. pass k (s, is, w, l))
 
--- Where its slack, its periods and its cycles are in their ranges, and no energy is over the largest, a chip's list
--- passes checks 2 and 3.
-module _ (c : Chip) (g : ℕ) (ts : List TaskLine) (ok : ScriptOk (record { slack = g; clock = chip c; tasks = ts }))
-    (slack-in : (1 ≤ g) × (g ≤ 1000)) (lines-in : All LineIn ts)
-    (none : NoneOver (record { slack = g; clock = chip c; tasks = ts })) where
-  abbrev list : List ℕ
-  list = words (record { slack = g; clock = chip c; tasks = ts })
+-- The idle energy that the list has is in its range: the chip's own is.
+idle-most : (c : Chip) (o : Option ℕ) → IdleIn o → idleOf o (chip c) ≤ mostIdle
+idle-most c none h = idle-range c .1
+idle-most c (some i) h = h
 
-  line-in : (t : ℕ) → t < length ts → LineIn (line c g ts ok t)
+-- Where its slack, its idle line if there is one, its periods and its cycles are in their ranges, and no energy is over
+-- the largest, a chip's list passes checks 2 and 3.
+module _ (c : Chip) (g : ℕ) (o : Option ℕ) (ts : List TaskLine) (ok : ScriptOk (chipScript c g o ts))
+    (slack-in : (1 ≤ g) × (g ≤ 1000)) (idle-in : IdleIn o) (lines-in : All LineIn ts)
+    (none : NoneOver (chipScript c g o ts)) where
+  abbrev list : List ℕ
+  list = words (chipScript c g o ts)
+
+  line-in : (t : ℕ) → t < length ts → LineIn (line c g o ts ok t)
   line-in t h = all-at LineIn ts lines-in t _ h
 
   task : (t : ℕ) → t < taskCount Ordinary list → t < length ts
-  task t h = omega (arith, tasks-is c g ts ok)
+  task t h = omega (arith, tasks-is c g o ts ok)
 
   head-in : (q : ℕ) → q < headSize Ordinary → allows list q (headKind Ordinary q) ≡ true
   unfolding allows headKinds headKind kindIn words
   head-in zero h = true-between 1 1000 g (slack-in .0) (slack-in .1)
-  head-in (suc q) h = absurd (omega arith)
+  head-in (suc zero) h = true-between 0 mostIdle (idleOf o (chip c)) (omega arith) (idle-most c o idle-in)
+  head-in (suc (suc q)) h = absurd (omega arith)
 
   extra-in : (t k : ℕ) → t < taskCount Ordinary list → k < extraSize Ordinary
       → allows list (periodPlace Ordinary (rateCount Ordinary list) t + (2 + k)) (kindIn (extraKinds Ordinary) k) ≡ true
@@ -173,14 +188,14 @@ module _ (c : Chip) (g : ℕ) (ts : List TaskLine) (ok : ScriptOk (record { slac
   extra-in t k h l = absurd (omega arith)
 
   few : (r : ℕ) → r ≤ rateCount Ordinary list → r ≤ length (chipRates c)
-  few r b = omega (arith, rates-is c g ts ok)
+  few r b = omega (arith, rates-is c g o ts ok)
 
   energy-in : (t r : ℕ) → t < taskCount Ordinary list → 1 ≤ r → r ≤ rateCount Ordinary list
       → (1 ≤ energy Ordinary list t r) × (energy Ordinary list t r ≤ 1000000)
   energy-in t r h a b =
       let l = line-in t (task t h) in
-      let e = energy-is c g ts ok t (task t h) r a (few r b) in (
-        omega (arith, energy-positive c (line c g ts ok t .cycles) r (l .cycles .0) a (omega (arith, few r b, rates-length c))),
+      let e = energy-is c g o ts ok t (task t h) r a (few r b) in (
+        omega (arith, energy-positive c (line c g o ts ok t .cycles) r (l .cycles .0) a (omega (arith, few r b, rates-length c))),
         ⊎-elim
             (λ (over : mostEnergy < energy Ordinary list t r).
             let back : suc t - 1 ≡ t = omega arith in
@@ -198,26 +213,26 @@ module _ (c : Chip) (g : ℕ) (ts : List TaskLine) (ok : ScriptOk (record { slac
 
   whole : IsWhole Ordinary list
   whole =
-      let m = rates-is c g ts ok in
-      let n = tasks-is c g ts ok in
+      let m = rates-is c g o ts ok in
+      let n = tasks-is c g o ts ok in
       record {
-        size = words-size (record { slack = g; clock = chip c; tasks = ts }) ok
+        size = words-size (chipScript c g o ts) ok
             ∙ ap (λ (j : ℕ). periodPlace Ordinary j (length ts)) (sym m)
             ∙ ap (periodPlace Ordinary (rateCount Ordinary list)) (sym n);
         rates-range = (omega (arith, rates-length c, count-range c), omega (arith, rates-length c, count-range c));
         tasks-range = (omega (arith, ok .tasks .least), omega (arith, ok .tasks .most));
         head-word = head-in;
         rate-range = λ r a b.
-            let e = rate-is c g ts ok r a (few r b) in
+            let e = rate-is c g o ts ok r a (few r b) in
             let k = rate-range c r a (omega (arith, few r b, rates-length c)) in
             (omega arith, omega arith);
         period-range = λ t h.
             let l = line-in t (task t h) .period in
-            let e = period-is c g ts ok t (task t h) in
+            let e = period-is c g o ts ok t (task t h) in
             (omega arith, omega arith);
         cycles-range = λ t h.
             let l = line-in t (task t h) .cycles in
-            let e = cycles-is c g ts ok t (task t h) in
+            let e = cycles-is c g o ts ok t (task t h) in
             (omega arith, omega arith);
         extra-word = extra-in;
         energy-range = energy-in;
@@ -227,8 +242,8 @@ module _ (c : Chip) (g : ℕ) (ts : List TaskLine) (ok : ScriptOk (record { slac
   rising r a b =
       omega (
         arith,
-        rate-is c g ts ok r a (few r (omega arith)),
-        rate-is c g ts ok (suc r) (omega arith) (few (suc r) b),
+        rate-is c g o ts ok r a (few r (omega arith)),
+        rate-is c g o ts ok (suc r) (omega arith) (few (suc r) b),
         rates-rise c r a (omega (arith, few (suc r) b, rates-length c)),
       )
 

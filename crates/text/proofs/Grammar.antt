@@ -3,9 +3,10 @@
 -- Assumes nothing.
 use Prim.Native.Nat.{ℕ, zero, suc, _+_, _≤_}
 use mathlib.Core.Path.{_≡_, refl, sym, _∙_, subst}
-use mathlib.Core.List.{List, [], _∷_, _++_}
+use mathlib.Core.List.{List, [], _∷_, _++_, append-assoc}
 use mathlib.Core.Bool.{true, false}
 use mathlib.Core.Logic.{_⊎_, inl, inr}
+use mathlib.Core.Option.{Option, none, some}
 use native.Mathlib.Omega.{arith}
 use native.Mathlib.Nat.{add-zero}
 use lib.ListN.{length, drop}
@@ -13,11 +14,11 @@ use Rattle.numbers.specs.Numbers.{All, joined}
 use Rattle.chips.specs.declared.Chip.{Chip}
 use Rattle.chips.specs.declared.Chip.the-variants.{Xscale, Ppc405lp}
 use Rattle.text.specs.Text.{TaskLine, Clock, rates, chip, Script, bytes, decimal, spaced, energyText, taskText}
-use Rattle.text.specs.Text.{chipName, clockText, scriptText}
-use Rattle.text.specs.Text.{Word, Between, ClockOk, energyCount, TaskLineOk, ScriptOk, IsTextOf, WellFormed, FirstBad}
+use Rattle.text.specs.Text.{chipName, clockText, idleText, scriptText}
+use Rattle.text.specs.Text.{Word, Between, IdleOk, ClockOk, energyCount, TaskLineOk, ScriptOk, IsTextOf, WellFormed, FirstBad}
 use Rattle.text.proofs.Reading.{Res, got, bad, later, seq, skip, upTo, field, numbers, starts, both}
 use Rattle.text.proofs.Reading.{mkTask, mkScript, readEnergies, readTask, readTasks, moreTasks, readName}
-use Rattle.text.proofs.Reading.{readChip, readClock, readScript, readText, readAt}
+use Rattle.text.proofs.Reading.{noIdleLine, readIdle, readHead, readChip, readClock, readScript, readText, readAt}
 use Rattle.text.proofs.Pieces.{Good, Piece, seq-piece, Form, Right, whole-exact, whole-right, first-bad-same}
 use Rattle.text.proofs.Literals.{literal-piece, Any}
 use Rattle.text.proofs.Branches.{map-piece, either-piece}
@@ -51,6 +52,11 @@ renamed {A} {textA} {Dom} {F} {rd} text same P = record {
     go : (t : List ℕ) (x : Res A) → Good textA Dom t x → Good text Dom t x
     go t (got a n) g = (g .0, g .1, g .2 ∙ sym (same a (g .0)))
     go t (bad o) g = (g .0, (g .1 .0, g .1 .1, g .1 .2, g .1 .3 ∙ sym (same (g .1 .0) (g .1 .1))))
+
+-- whatever follows it
+follows : {A : Type 0} {text : A → List ℕ} {Dom : A → Type 0} {F : List ℕ → Type 0} {read : List ℕ → Res A}
+    → Piece text Dom Any read → Piece text Dom F read
+follows P = record { exact = λ a d r f. P .exact a d r tt; good = P .good; local = P .local }
 
 pub field-piece : (l : List ℕ) → Piece (λ v. l ++ decimal v) Word NoDigit (field l)
 field-piece l = skip-piece l (0, omega arith) number-piece
@@ -142,6 +148,56 @@ chip-piece =
     which Xscale d = inl refl
     which Ppc405lp d = inr refl
 
+-- an idle line, and none: what follows does not begin as it does
+abbrev NoIdle : List ℕ → Type 0
+NoIdle r = starts 105 r ≡ false
+
+abbrev Given : Option ℕ → Type 0
+Given none = ⊥
+Given (some h) = Word h
+
+abbrev Absent : Option ℕ → Type 0
+Absent none = Unit {0}
+Absent (some h) = ⊥
+
+idle-piece : Piece idleText IdleOk NoIdle readIdle
+idle-piece =
+    either-piece idleText IdleOk 105
+    (map-piece some idleText Given (follows (end-piece (bytes ")\n(") (λ r. refl) (field-piece (bytes "idle "))))
+    (λ h. refl) (λ h d. d) given-part)
+    absent-piece from-given from-absent which given-begins absent-begins
+  where
+    given-part : (o : Option ℕ) → Given o → (h : ℕ) × Word h × (some h ≡ o)
+    given-part none d = absurd d
+    given-part (some h) d = (h, d, refl)
+
+    absent-exact : (o : Option ℕ) → Absent o → (r : List ℕ) → NoIdle r → got none 0 ≡ got o (length (idleText o))
+    absent-exact none d r f = refl
+    absent-exact (some h) d r f = absurd d
+
+    absent-piece : Piece idleText Absent NoIdle noIdleLine
+    absent-piece = record { exact = absent-exact; good = λ t. (tt, omega arith, refl); local = λ t u lt same. refl }
+
+    from-given : (o : Option ℕ) → Given o → IdleOk o
+    from-given none d = absurd d
+    from-given (some h) d = omega arith
+
+    from-absent : (o : Option ℕ) → Absent o → IdleOk o
+    from-absent none d = tt
+    from-absent (some h) d = absurd d
+
+    which : (o : Option ℕ) → IdleOk o → Given o ⊎ Absent o
+    which none d = inr tt
+    which (some h) d = inl (omega arith)
+
+    given-begins : (o : Option ℕ) → Given o → (r : List ℕ) → starts 105 (idleText o ++ r) ≡ true
+    given-begins none d r = absurd d
+    given-begins (some h) d r = refl
+
+    absent-begins : (o : Option ℕ) → Absent o → (r : List ℕ) → NoIdle r → starts 105 (idleText o ++ r) ≡ false
+    absent-begins none d r f = f
+    absent-begins (some h) d r f = absurd d
+
 -- a line of rates, and a chip's line
 abbrev OfRates : Clock → Type 0
 OfRates (rates fs) = Between Word 2 8 fs
@@ -160,10 +216,6 @@ clock-piece =
     (λ fs d. d) rates-part)
     from-chip from-rates which chip-begins rates-begin
   where
-    follows : {A : Type 0} {text : A → List ℕ} {Dom : A → Type 0} {read : List ℕ → Res A} → Piece text Dom Any read
-        → Piece text Dom NoItem read
-    follows P = record { exact = λ a d r f. P .exact a d r tt; good = P .good; local = P .local }
-
     chip-part : (k : Clock) → OfChip k → (c : Chip) × Any c × (chip c ≡ k)
     chip-part (rates fs) d = absurd d
     chip-part (chip c) d = (c, tt, refl)
@@ -192,28 +244,48 @@ clock-piece =
     rates-begin (rates fs) d r f = refl
     rates-begin (chip c) d r f = absurd d
 
-behind-slack : Piece (λ (x : Clock × List TaskLine). bytes ")\n(" ++
-    (clockText (x .0) ++ (bytes ")\n" ++ joined taskText (x .1))))
-    (λ x. ClockOk (x .0) × Between (TaskLineOk (energyCount (x .0))) 1 32 (x .1)) (λ r. starts 40 r ≡ false)
-    (seq both (skip (bytes ")\n(") readClock) (λ k. skip (bytes ")\n") (readTasks (energyCount k))))
-behind-slack =
-    seq-piece both _ _
-    (skip-piece (bytes ")\n(") (chip Xscale, tt) clock-piece)
+-- neither begins as an idle line does
+no-idle : (k : Clock) (u r : List ℕ) → NoIdle ((clockText k ++ u) ++ r)
+no-idle (rates fs) u r = refl
+no-idle (chip c) u r = refl
+
+-- the lines of the head, and what stands behind them
+abbrev headText : ℕ × Option ℕ → List ℕ
+headText h = bytes "(slack " ++ (decimal (h .0) ++ (bytes ")\n(" ++ idleText (h .1)))
+
+abbrev HeadOk : ℕ × Option ℕ → Type 0
+HeadOk h = Word (h .0) × IdleOk (h .1)
+
+head-piece : Piece headText HeadOk NoIdle readHead
+head-piece =
+    seq-piece both headText HeadOk (field-piece (bytes "(slack "))
+    (λ _ _. skip-piece (bytes ")\n(") (none, tt) idle-piece)
+    (λ a b. refl) (λ a b d e. (d, e)) (λ h d. (h .0, h .1, d .0, d .1, refl)) (λ _ _. (none, tt)) (λ a b r _ _ _. refl)
+
+abbrev behindText : Clock × List TaskLine → List ℕ
+behindText x = clockText (x .0) ++ (bytes ")\n" ++ joined taskText (x .1))
+
+behind-head : Piece behindText (λ x. ClockOk (x .0) × Between (TaskLineOk (energyCount (x .0))) 1 32 (x .1))
+    (λ r. starts 40 r ≡ false) (seq both readClock (λ k. skip (bytes ")\n") (readTasks (energyCount k))))
+behind-head =
+    seq-piece both behindText _ clock-piece
     (λ k d. skip-piece (bytes ")\n") (some-tasks (energyCount k)) (tasks-piece (energyCount k)))
     (λ a b. refl) (λ a b d e. (d, e)) (λ x d. (x .0, x .1, d .0, d .1, refl)) (λ k _. some-tasks (energyCount k))
     (λ a b r _ _ _. (refl, refl))
 
 pub script-piece : Piece scriptText ScriptOk (λ r. starts 40 r ≡ false) readScript
 script-piece =
-    seq-piece mkScript scriptText ScriptOk (field-piece (bytes "(slack ")) (λ _ _. behind-slack)
-    (λ a b. refl)
-    (λ a b d e. record {
-      slack = d;
+    seq-piece mkScript scriptText ScriptOk head-piece (λ _ _. behind-head)
+    (λ h x. simp append-assoc)
+    (λ h x d e. record {
+      slack = d .0;
+      idle = d .1;
       clock = e .0;
       tasks = record { least = e .1 .least; most = omega (arith, e .1 .most); each = e .1 .each };
     })
-    (λ s d. (s .slack, (s .clock, s .tasks), d .slack, (d .clock, d .tasks), refl))
-    (λ _ _. let t = some-tasks (energyCount (chip Xscale)) in ((chip Xscale, t .0), (tt, t .1))) (λ a b r _ _ _. refl)
+    (λ s d. ((s .slack, s .idle), (s .clock, s .tasks), (d .slack, d .idle), (d .clock, d .tasks), refl))
+    (λ _ _. let t = some-tasks (energyCount (chip Xscale)) in ((chip Xscale, t .0), (tt, t .1)))
+    (λ h x r _ _ _. no-idle (x .0) _ r)
 
 -- a script's text is read as that script
 pub read-render : (s : Script) → ScriptOk s → readText (scriptText s) ≡ got s (length (scriptText s))

@@ -5,6 +5,7 @@
 use Prim.Native.Nat.{ℕ, zero, suc, _+_, _-_, _*_, _^_}
 use mathlib.Core.List.{List, [], _∷_}
 use mathlib.Core.Bool.{Bool, false, cond}
+use mathlib.Core.Option.{Option, none, some}
 use lib.ListN.{length, drop}
 use lib.Dec.{ltb, eqb}
 use Rattle.numbers.specs.Numbers.{between}
@@ -106,8 +107,8 @@ numbers = many (field (bytes " ")) 32
 abbrev pub mkTask : ℕ → ℕ × List ℕ → TaskLine
 mkTask p r = record { period = p; cycles = r .0; energies = r .1 }
 
-abbrev pub mkScript : ℕ → Clock × List TaskLine → Script
-mkScript g r = record { slack = g; clock = r .0; tasks = r .1 }
+abbrev pub mkScript : ℕ × Option ℕ → Clock × List TaskLine → Script
+mkScript h r = record { slack = h .0; idle = h .1; clock = r .0; tasks = r .1 }
 
 abbrev pub both : {A B : Type 0} → A → B → A × B
 both a b = (a, b)
@@ -136,7 +137,21 @@ readName c = mapped (λ _. c) (literal (chipName c))
 abbrev pub readChip : List ℕ → Res Chip
 readChip = either 120 (readName Xscale) (readName Ppc405lp)
 
--- what stands behind the slack's line, from its name on: a c begins the chip's
+-- the idle line from its name on, with the bracket that opens the line behind it, or none: an i begins it
+abbrev pub readIdleLine : List ℕ → Res (Option ℕ)
+readIdleLine = mapped some (upTo (field (bytes "idle ")) (bytes ")\n("))
+
+abbrev pub noIdleLine : List ℕ → Res (Option ℕ)
+noIdleLine t = got none 0
+
+abbrev pub readIdle : List ℕ → Res (Option ℕ)
+readIdle = either 105 readIdleLine noIdleLine
+
+-- the lines of the head
+abbrev pub readHead : List ℕ → Res (ℕ × Option ℕ)
+readHead = seq both (field (bytes "(slack ")) (λ _. skip (bytes ")\n(") readIdle)
+
+-- what stands behind the head, from its name on: a c begins the chip's line
 abbrev pub readChipLine : List ℕ → Res Clock
 readChipLine = mapped chip (skip (bytes "chip ") readChip)
 
@@ -148,8 +163,8 @@ readClock = either 99 readChipLine readRatesLine
 
 abbrev pub readScript : List ℕ → Res Script
 readScript =
-    seq mkScript (field (bytes "(slack "))
-    (λ _. seq both (skip (bytes ")\n(") readClock)
+    seq mkScript readHead
+    (λ _. seq both readClock
     (λ k. skip (bytes ")\n") (readTasks (energyCount k))))
 
 -- all of a text: nothing may follow

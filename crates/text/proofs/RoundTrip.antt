@@ -3,17 +3,18 @@
 use Prim.Native.Nat.{ℕ, zero, suc, _+_, _≤_, _<_}
 use mathlib.Core.Path.{_≡_, refl, sym, ap, _∙_}
 use mathlib.Core.List.{List, [], _∷_, _++_, append-assoc, append-nil}
+use mathlib.Core.Option.{Option, none, some}
 use native.Mathlib.Nat.{zero-add, add-zero, suc-mul}
 use native.Mathlib.Omega.{arith}
 use lib.ListN.{length, drop, drop-of-length-le}
 use lib.Seq.{drop-cons}
 use Rattle.numbers.specs.Numbers.{each, joined}
 use Rattle.numbers.proofs.Lists.{each-length, each-all}
-use Rattle.layout.specs.Words.{headKinds, extraKinds, headSize, extraSize, word, slack, rateCount, taskCountPlace, taskCount, taskSize, periodPlace, rate, energy}
-use Rattle.layout.proofs.Whole.{IsWhole, in-list, slack-in}
+use Rattle.layout.specs.Words.{headKinds, extraKinds, headSize, extraSize, word, slack, idle, rateCount, taskCountPlace, taskCount, taskSize, periodPlace, rate, energy}
+use Rattle.layout.proofs.Whole.{IsWhole, in-list, slack-in, idle-in}
 use Rattle.layout.specs.declared.Layout.the-variants.{Ordinary}
-use Rattle.text.specs.Text.{rates, Word, TaskLineOk, ScriptOk, headWords, extraWords, taskWords, words}
-use Rattle.text.specs.Text.{listRates, lineOf, scriptOf}
+use Rattle.text.specs.Text.{rates, Word, IdleOk, TaskLineOk, ScriptOk, idleOf, headWords, extraWords, taskWords, words}
+use Rattle.text.specs.Text.{listRates, lineOf, shownIdle, scriptOf}
 
 -- Words that stand in a row of a list, and what follows them.
 module _ (s : List ℕ) (f : ℕ → ℕ) (p : ℕ) (stands : (j : ℕ) → f j ≡ word s (p + j)) where
@@ -25,6 +26,15 @@ module _ (s : List ℕ) (f : ℕ → ℕ) (p : ℕ) (stands : (j : ℕ) → f j 
       let rest : each f (suc i) n ++ drop (p + suc i + n) s ≡ drop (p + suc i) s = row (suc i) n (omega arith) in
       ap (λ (l : List ℕ). f i ∷ l) (ap (λ (k : ℕ). each f (suc i) n ++ drop k s) there ∙ rest ∙ ap (λ (k : ℕ). drop k s) here) ∙
       ap (λ (x : ℕ). x ∷ drop (suc (p + i)) s) (stands i) ∙ sym (drop-cons s (p + i) 0 (omega arith))
+
+-- H, shown where it is above 0, is the word that the list has; and a text can say a line whose word fits.
+shown-is : (h : ℕ) (fs : List ℕ) → idleOf (shownIdle h) (rates fs) ≡ h
+shown-is zero fs = refl
+shown-is (suc h) fs = refl
+
+idle-ok : (o : Option ℕ) (fs : List ℕ) → Word (idleOf o (rates fs)) → IdleOk o
+idle-ok none fs l = tt
+idle-ok (some h) fs l = omega arith
 
 module _ (s : List ℕ) (w : IsWhole Ordinary s) where
   abbrev m : ℕ
@@ -44,7 +54,7 @@ module _ (s : List ℕ) (w : IsWhole Ordinary s) where
   -- Those of the head, and those between a task's cycles and its energies, are the words that stand there.
   head-words : headWords (scriptOf s) ≡ each (word s) 0 (headSize Ordinary)
   unfolding scriptOf headKinds
-  head-words = refl
+  head-words = ap (λ (h : ℕ). slack s ∷ h ∷ []) (shown-is (idle s) (listRates s))
 
   extra-words : (t : ℕ) → extraWords (lineOf s t) ≡ each (λ k. word s (place t + 2 + k)) 0 (extraSize Ordinary)
   unfolding extraKinds
@@ -140,6 +150,7 @@ module _ (s : List ℕ) (w : IsWhole Ordinary s) where
       let t = each-length (lineOf s) 0 n in
       record {
         slack = omega (arith, slack-in Ordinary s w .1);
+        idle = idle-ok (shownIdle (idle s)) (listRates s) (omega (arith, shown-is (idle s) (listRates s), idle-in Ordinary s w));
         clock = record {
           least = omega (arith, w .rates-range .0);
           most = omega (arith, w .rates-range .1);

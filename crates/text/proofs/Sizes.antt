@@ -4,6 +4,7 @@ use Prim.Native.Nat.{ℕ, zero, suc, _*_, _/_, _%_, _+_, _≤_, _<_}
 use mathlib.Core.Path.{_≡_, refl, sym, ap, _∙_}
 use mathlib.Core.List.{List, [], _∷_, _++_}
 use mathlib.Core.Bool.{Bool, true, false, cond}
+use mathlib.Core.Option.{Option, none, some}
 use native.Mathlib.Bridge.{le-by-compare, IsLe}
 use native.Mathlib.Nat.{suc-mul}
 use native.Mathlib.Omega.{arith}
@@ -17,9 +18,9 @@ use Rattle.layout.proofs.Layouts.{words-few}
 use Rattle.chips.specs.declared.Chip.the-variants.{Xscale, Ppc405lp}
 use Rattle.chips.proofs.Tables.{count-range, rates-length, energies-length as energies-length-of}
 use Rattle.text.specs.Text.{TaskLine, Clock, rates, chip, Script, digits, decimal, spaced, energyText}
-use Rattle.text.specs.Text.{taskText, clockText, scriptText}
+use Rattle.text.specs.Text.{taskText, clockText, idleText, scriptText}
 use Rattle.text.proofs.Grammar.{energy-form}
-use Rattle.text.specs.Text.{ratesOf, energiesOf, taskWords, words, Word, ClockOk, energyCount, TaskLineOk}
+use Rattle.text.specs.Text.{ratesOf, energiesOf, taskWords, words, Word, IdleOk, ClockOk, energyCount, TaskLineOk}
 use Rattle.text.specs.Text.{ScriptOk, IsTextOf}
 
 -- ---- numbers
@@ -104,7 +105,11 @@ unfoldable widestLines : List TaskLine
 widestLines = replicate mostTasks widestLine
 
 abbrev widestScript : Script
-widestScript = record { slack = widestWord; clock = rates widestNumbers; tasks = widestLines }
+widestScript = record { slack = widestWord; idle = some widestWord; clock = rates widestNumbers; tasks = widestLines }
+
+idle-length : (o : Option ℕ) → IdleOk o → length (idleText o) ≤ length (idleText (some widestWord))
+idle-length none d = omega arith
+idle-length (some h) d = let w = word-widest h d in simp length-append (omega arith)
 
 -- A chip's line is no longer than the widest line of rates.
 clock-length : (k : Clock) → ClockOk k → length (clockText k) ≤ length (clockText (rates widestNumbers))
@@ -132,6 +137,7 @@ lines-length m h = joined-length taskText (TaskLineOk m) widestLine (task-length
 script-length : (s : Script) → ScriptOk s → length (scriptText s) ≤ length (scriptText widestScript)
 script-length s k =
     let g = word-widest (s .slack) (k .slack) in
+    let i = simp length-append at (idle-length (s .idle) (k .idle)) in
     let r = clock-length (s .clock) (k .clock) in
     let t = lines-length (energyCount (s .clock)) (energies-few (s .clock) (k .clock)) (s .tasks) (k .tasks .each)
     (k .tasks .most) in

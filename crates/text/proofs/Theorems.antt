@@ -4,6 +4,7 @@ use Prim.Native.Nat.{ℕ, suc, _^_, _≤_, _<_}
 use mathlib.Core.Path.{_≡_, refl, sym, _∙_}
 use mathlib.Core.List.{List, _++_}
 use mathlib.Core.Logic.{_↔_, _⊎_, inl, inr}
+use mathlib.Core.Option.{Option}
 use native.Mathlib.Omega.{arith}
 use lib.ListN.{length, take, drop}
 use Rattle.numbers.specs.Numbers.{All}
@@ -15,7 +16,7 @@ use Rattle.taskset.proofs.Checks.{accepts-next, passed}
 use Rattle.taskset.specs.declared.CopyAnswer.{CopyAnswer}
 use Rattle.taskset.specs.declared.CopyAnswer.the-variants.{Wrote}
 use Rattle.taskset.proofs.Copied.{SameCopied}
-use Rattle.text.specs.Text.{TaskLine, chip, Script, decimal, scriptText, IsTextOf, WellFormed, FirstBad, words, scriptOf}
+use Rattle.text.specs.Text.{TaskLine, Script, decimal, scriptText, IsTextOf, WellFormed, FirstBad, words, scriptOf}
 use Rattle.text.specs.Calls.{HasOver, readerChecks, ReaderGives, writerChecks, WriterGives}
 use Rattle.text.proofs.Reading.{Res, got, bad, readText}
 use Rattle.text.proofs.Numerals as numerals
@@ -26,7 +27,7 @@ use Rattle.text.proofs.Sizes.{text-length}
 use Rattle.text.proofs.Copies.{reads, is-read, is-refused, refuses, one-script, list-text, list-words}
 use Rattle.text.proofs.Copies.{reader-unique, writer-unique}
 use Rattle.text.proofs.Written.{read-back, read-again}
-use Rattle.text.proofs.Expanded.{lineAt, over-iff, LineIn, passes-over, list-passes}
+use Rattle.text.proofs.Expanded.{chipScript, lineAt, over-iff, LineIn, IdleIn, passes-over, list-passes}
 
 -- ---- numbers
 -- The digits of a number say it, read from the first on: for every number of 64 bits, and so for every one that is read
@@ -107,27 +108,26 @@ read-written-read = read-again
 
 -- Of a chip's text, refusal 9 goes by the cycles alone: the task at place t, which is number t + 1, has an energy over
 -- the largest exactly where its job has more cycles than the chip's most.
-pub over-by-cycles : (c : Chip) (g : ℕ) (ts : List TaskLine) (t : List ℕ)
-    → let s : Script = record { slack = g; clock = chip c; tasks = ts } in
+pub over-by-cycles : (c : Chip) (g : ℕ) (o : Option ℕ) (ts : List TaskLine) (t : List ℕ)
+    → let s : Script = chipScript c g o ts in
     IsTextOf s t → (k : ℕ) → k < length ts → HasOver s (suc k) ↔ (mostCycles c < lineAt ts k .cycles)
-over-by-cycles c g ts t is k h = over-iff c g ts (is .script) k h
+over-by-cycles c g o ts t is k h = over-iff c g o ts (is .script) k h
 
--- A chip's text that the reader takes gives a list that passes checks 2 and 3, if its slack, its periods and its cycles
--- are in their ranges: of what the tables bring nothing is refused.
-pub chip-passes : (c : Chip) (g : ℕ) (ts : List TaskLine) (t d d′ : List ℕ) (n : ℕ) → let s : Script =
-    record { slack = g; clock = chip c; tasks = ts } in
-    IsTextOf s t → ReaderGives t d d′ (Wrote n) → (1 ≤ g) × (g ≤ 1000) → All LineIn ts → Accepts (wordChecks Ordinary (words s))
-chip-passes c g ts t d d′ n is gives slack-in lines-in =
-    list-passes c g ts (is .script) slack-in lines-in
-    (passes-over (record { slack = g; clock = chip c; tasks = ts }) t is (passed 9 (readerChecks t (length d)) refl (gives .0)))
+-- A chip's text that the reader takes gives a list that passes checks 2 and 3, if its slack, its idle line where it has
+-- one, its periods and its cycles are in their ranges: of what the tables bring nothing is refused.
+pub chip-passes : (c : Chip) (g : ℕ) (o : Option ℕ) (ts : List TaskLine) (t d d′ : List ℕ) (n : ℕ) → let s : Script = chipScript c g o ts in
+    IsTextOf s t → ReaderGives t d d′ (Wrote n) → (1 ≤ g) × (g ≤ 1000) → IdleIn o → All LineIn ts → Accepts (wordChecks Ordinary (words s))
+chip-passes c g o ts t d d′ n is gives slack-in idle-in lines-in =
+    list-passes c g o ts (is .script) slack-in idle-in lines-in
+    (passes-over (chipScript c g o ts) t is (passed 9 (readerChecks t (length d)) refl (gives .0)))
 
 -- And so the writer takes it, wherever the buffer has room for its text; what it writes then reads back as that list
 -- (words-then-read).
-pub chip-written : (c : Chip) (g : ℕ) (ts : List TaskLine) (t d d′ : List ℕ) (n : ℕ)
-    → let s : Script = record { slack = g; clock = chip c; tasks = ts } in
-    IsTextOf s t → ReaderGives t d d′ (Wrote n) → (1 ≤ g) × (g ≤ 1000) → All LineIn ts
+pub chip-written : (c : Chip) (g : ℕ) (o : Option ℕ) (ts : List TaskLine) (t d d′ : List ℕ) (n : ℕ)
+    → let s : Script = chipScript c g o ts in
+    IsTextOf s t → ReaderGives t d d′ (Wrote n) → (1 ≤ g) × (g ≤ 1000) → IdleIn o → All LineIn ts
     → (lent : ℕ) → length (scriptText (scriptOf (words s))) ≤ lent → Accepts (writerChecks (words s) lent)
-chip-written c g ts t d d′ n is gives slack-in lines-in lent room =
-    let ws : List ℕ = words (record { slack = g; clock = chip c; tasks = ts }) in
+chip-written c g o ts t d d′ n is gives slack-in idle-in lines-in lent room =
+    let ws : List ℕ = words (chipScript c g o ts) in
     accepts-next (wordChecks Ordinary ws) (roomCheck (length (scriptText (scriptOf ws))) lent)
-    (chip-passes c g ts t d d′ n is gives slack-in lines-in) (λ k h. omega (arith, h .0))
+    (chip-passes c g o ts t d d′ n is gives slack-in idle-in lines-in) (λ k h. omega (arith, h .0))

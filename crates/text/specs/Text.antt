@@ -1,4 +1,4 @@
--- The bracketed text (document 01, 'The bracketed text'; document 02, note 2): the one text of a script, which texts
+-- The bracketed text (document 01, 'The bracketed text'; document 02, notes 2 and 4): the one text of a script, which texts
 -- are well formed, where another departs, and the words that a script says. A script is what stands in a text, form by
 -- form; it is not yet a task set: "Ranges are not judged by the reader."
 use Prim.Native.Nat.{ℕ, zero, suc, _+_, _/_, _%_, _^_, _≤_, _<_}
@@ -8,17 +8,19 @@ use Prim.Native.String.{String}
 use mathlib.Core.Path.{_≡_}
 use mathlib.Core.List.{List, [], _∷_, _++_}
 use mathlib.Core.Bool.{cond}
+use mathlib.Core.Option.{Option, none, some}
 use lib.ListN.{length, take}
 use lib.Dec.{ltb}
 use Rattle.numbers.specs.Numbers.{All, each, joined}
-use Rattle.layout.specs.Words.{slack, rateCount, taskCount, rate, period, cycles, energy}
+use Rattle.layout.specs.Words.{slack, idle, rateCount, taskCount, rate, period, cycles, energy}
 use Rattle.layout.specs.declared.Layout.the-variants.{Ordinary}
-use Rattle.chips.specs.Chips.{chipRates, chipEnergies}
+use Rattle.chips.specs.Chips.{chipRates, chipEnergies, chipIdle}
 use Rattle.chips.specs.declared.Chip.{Chip}
 use Rattle.chips.specs.declared.Chip.the-variants.{Xscale, Ppc405lp}
 
 -- A task's line, and a whole text: "The order is slack, rates, then 1 to 32 tasks", where "a line `(chip xscale)` or
--- `(chip ppc405lp)` replaces the rates line". A task's line under a chip has no energies.
+-- `(chip ppc405lp)` replaces the rates line" and "A line `(idle H)` may follow the slack line". A task's line under a
+-- chip has no energies.
 pub record TaskLine : Type 0 where
   pub period : ℕ
   pub cycles : ℕ
@@ -30,6 +32,7 @@ pub data Clock : Type 0 where
 
 pub record Script : Type 0 where
   pub slack : ℕ
+  pub idle : Option ℕ
   pub clock : Clock
   pub tasks : List TaskLine
 
@@ -73,10 +76,16 @@ abbrev pub clockText : Clock → List ℕ
 clockText (rates fs) = bytes "rates" ++ joined spaced fs
 clockText (chip c) = bytes "chip " ++ chipName c
 
+-- "A line `(idle H)` may follow the slack line": with the bracket that opens the line behind it, as the slack's line
+-- has its own, since the letter behind a bracket tells the lines apart.
+abbrev pub idleText : Option ℕ → List ℕ
+idleText none = []
+idleText (some h) = bytes "idle " ++ (decimal h ++ bytes ")\n(")
+
 abbrev pub scriptText : Script → List ℕ
 scriptText s =
-    bytes "(slack " ++ (decimal (s .slack) ++ (bytes ")\n(" ++ (clockText (s .clock) ++
-    (bytes ")\n" ++ joined taskText (s .tasks)))))
+    bytes "(slack " ++ (decimal (s .slack) ++ (bytes ")\n(" ++ (idleText (s .idle) ++ (clockText (s .clock) ++
+    (bytes ")\n" ++ joined taskText (s .tasks))))))
 
 -- WELL-FORMED TEXTS.
 
@@ -89,6 +98,11 @@ pub record Between {A : Type 0} (P : A → Type 0) (low high : ℕ) (xs : List A
   pub least : low ≤ length xs
   pub most : length xs ≤ high
   pub each : All P xs
+
+-- "Ranges are not judged by the reader": H may be any number, or absent.
+abbrev pub IdleOk : Option ℕ → Type 0
+IdleOk none = Unit {0}
+IdleOk (some h) = Word h
 
 -- "Rates number 2 to 8, and each task has as many energies as there are rates": under a chip, none.
 abbrev pub ClockOk : Clock → Type 0
@@ -106,6 +120,7 @@ pub record TaskLineOk (m : ℕ) (t : TaskLine) : Type 0 where
 
 pub record ScriptOk (s : Script) : Type 0 where
   pub slack : Word (s .slack)
+  pub idle : IdleOk (s .idle)
   pub clock : ClockOk (s .clock)
   pub tasks : Between (TaskLineOk (energyCount (s .clock))) 1 32 (s .tasks)
 
@@ -128,8 +143,16 @@ pub record FirstBad (Form : List ℕ → Type 0) (t : List ℕ) (o : ℕ) : Type
 -- THE WORDS OF A SCRIPT: "the slack G ..; the rate count M ..; M rates ..; the task count N ..; then for each task the
 -- period p .., the cycles c .., and M energies": the words of the ordinary list's head, and of what it has between a
 -- task's cycles and its energies, stand by themselves.
+
+-- H is "0 if the line is absent. Chips bring H of their own unless the line is given".
+abbrev pub idleOf : Option ℕ → Clock → ℕ
+idleOf (some h) k = h
+idleOf none (rates fs) = 0
+idleOf none (chip c) = chipIdle c
+
+-- "the set list gains H as a word after the slack"
 abbrev pub headWords : Script → List ℕ
-headWords s = s .slack ∷ []
+headWords s = s .slack ∷ idleOf (s .idle) (s .clock) ∷ []
 
 abbrev pub extraWords : TaskLine → List ℕ
 extraWords t = []
@@ -164,9 +187,15 @@ lineOf s t = record {
   energies = each (energy Ordinary s t) 1 (rateCount Ordinary s);
 }
 
+-- "The writer writes the line only if H is above 0."
+abbrev pub shownIdle : ℕ → Option ℕ
+shownIdle zero = none
+shownIdle (suc h) = some (suc h)
+
 unfoldable pub scriptOf : List ℕ → Script
 scriptOf s = record {
   slack = slack s;
+  idle = shownIdle (idle s);
   clock = rates (listRates s);
   tasks = each (lineOf s) 0 (taskCount Ordinary s);
 }
