@@ -118,11 +118,14 @@ module _ {layout : Layout} {s : List ℕ} {m n : ℕ} (o : OfCounts layout m n s
 
   pub covered : n ≤ t → CountsAfter (idleCheck layout s ∷ []) layout s (Whole m n)
   covered h = (
-    (covered-passes layout s (λ u r l a b.
-        ⊎-elim
-        (λ (x : Below layout s u r). absurd (tasks .none u (omega arith) (omega (arith, o .numbered)) (r, a, omega (arith, o .counted), x)))
-        (λ (x : idle s * jobTime layout s u r ≤ energy layout s u r). x)
-        (lt-or-le (energy layout s u r) (idle s * jobTime layout s u r))), tt),
+    (
+      covered-passes layout s (λ u r l a b.
+          ⊎-elim
+          (λ (x : Below layout s u r). absurd (tasks .none u (omega arith) (omega (arith, o .numbered)) (r, a, omega (arith, o .counted), x)))
+          (λ (x : idle s * jobTime layout s u r ≤ energy layout s u r). x)
+          (lt-or-le (energy layout s u r) (idle s * jobTime layout s u r))),
+      tt,
+    ),
     o .counted,
     o .numbered,
   )

@@ -200,14 +200,14 @@ fn below_task(s: &[u32], layout: Layout, m: usize, n: usize) -> usize
     requires { ⌜ OfCounts layout m n (now s) ⌝ }
     ensures { λ r. ⌜ Found (HasBelow layout m (now (s .entry))) 0 n r ⌝ }
 {
-    let mut t = 0;
-    while t < n {
-        if below_rate(s, layout, m, t) <= m {
-            return t;
+    let mut task = 0;
+    while task < n {
+        if below_rate(s, layout, m, task) <= m {
+            return task;
         }
-        t += 1;
+        task += 1;
     }
-    t
+    task
 }
 
 // Check 10, of a list with m rates and n tasks that passes check 2.
@@ -215,10 +215,10 @@ fn check_idle(s: &[u32], layout: Layout, m: usize, n: usize) -> Shape
     requires { ⌜ OfCounts layout m n (now s) ⌝ }
     ensures { λ r. ⌜ CountsAfter (idleCheck layout (now (s .entry)) ∷ []) layout (now (s .entry)) r ⌝ }
 {
-    let t = below_task(s, layout, m, n);
-    if t < n {
-        let r = below_rate(s, layout, m, t);
-        return Shape::Refused(Refusal::BelowIdle(layout::energy_place(layout, m, t, r)));
+    let task = below_task(s, layout, m, n);
+    if task < n {
+        let r = below_rate(s, layout, m, task);
+        return Shape::Refused(Refusal::BelowIdle(layout::energy_place(layout, m, task, r)));
     }
     Shape::Whole { rates: m, tasks: n }
 }

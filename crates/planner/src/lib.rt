@@ -90,12 +90,12 @@ pub fn plan_checked(
     };
     let c = choice::choose(&loads, &energies, q, plan, work);
     let idle = checks::idle_of(set) as u64;
-    let energy = c.energy + idle * hyper;
+    let total = c.energy + idle * hyper;
     PlannerAnswer::Planned {
         unit: c.unit,
         load: c.load,
         hyper,
-        energy,
+        energy: total,
     }
 }
 

@@ -34,7 +34,7 @@ module _ (layout : Layout) (s : List ℕ) where
       ⊎-elim
       (λ (h : energy layout s t r < idle s * jobTime layout s t r).
       absurd (no-energy-fault layout s pass (energyPlace layout (rateCount layout s) t r)
-      (record { task = t; is-task = l; rate = r; from-1 = a; to-m = b; place = refl; below = h })))
+      (record { task = t; is-task = l; rate = r; from-1 = a; to-m = b; place = refl; below = omega arith })))
       (λ (h : idle s * jobTime layout s t r ≤ energy layout s t r). h)
       (lt-or-le (energy layout s t r) (idle s * jobTime layout s t r))
 
@@ -56,8 +56,13 @@ module _ (layout : Layout) (s : List ℕ) where
       (λ (l : t ≤ u).
       ⊎-elim
       (λ (m : t < u).
-      absurd (omega (arith, mul-le-mul-right (taskSize layout (rateCount layout s)) m, mul-comm (suc t) (taskSize layout (rateCount layout s)),
-      mul-suc (taskSize layout (rateCount layout s)) t, mul-comm (taskSize layout (rateCount layout s)) t)))
+      absurd (omega (
+        arith,
+        mul-le-mul-right (taskSize layout (rateCount layout s)) m,
+        mul-comm (suc t) (taskSize layout (rateCount layout s)),
+        mul-suc (taskSize layout (rateCount layout s)) t,
+        mul-comm (taskSize layout (rateCount layout s)) t,
+      )))
       (λ (m : u ≤ t).
       let same : u ≡ t = omega arith in
       let place : u * taskSize layout (rateCount layout s) ≡ t * taskSize layout (rateCount layout s) = ap (λ (x : ℕ). x * taskSize layout (rateCount layout s)) same in

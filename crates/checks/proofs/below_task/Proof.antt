@@ -9,10 +9,10 @@ use Rattle.checks.proofs.below_task.Statement.{statement}
 use Rattle.checks.proofs.below_task.Tie as tie
 
 abbrev Inv-loop : tie.InvT-loop
-Inv-loop s layout m n t₀ t = (t ≤ n) × ((k : ℕ) → 0 ≤ k → k < t → HasBelow layout m s k → ⊥)
+Inv-loop s layout m n task₀ t = (t ≤ n) × ((k : ℕ) → 0 ≤ k → k < t → HasBelow layout m s k → ⊥)
 
 abbrev μ-loop : tie.MeasureT-loop
-μ-loop s layout m n t₀ t = n - t
+μ-loop s layout m n task₀ t = n - t
 
 loop-holds : tie.Need-loop-holds Inv-loop μ-loop
 loop-holds c = (omega arith, (λ k a b. absurd (omega arith)))
@@ -30,8 +30,8 @@ found c =
     found-here (omega arith) (q .loop .inv .1) (omega arith)
     (x .result, x .ensures .from, c .if1 .taken, x .ensures .hit (omega arith))
 
-add-t : tie.Need-add-t Inv-loop μ-loop
-add-t c = search needs
+add-task : tie.Need-add-task Inv-loop μ-loop
+add-task c = search needs
 
 loop-less : tie.Need-loop-less Inv-loop μ-loop
 loop-less c = omega arith
@@ -46,4 +46,4 @@ returns-2 : tie.Need-returns-2 Inv-loop μ-loop
 returns-2 c = let q = c .before in found-end (omega arith) (q .loop .inv .1) (omega arith)
 
 pub below-task-spec : {M : Type 1} → statement M
-below-task-spec = tie.close (tie.spec Inv-loop μ-loop loop-holds below-rate-requires found add-t loop-less passed returns-2)
+below-task-spec = tie.close (tie.spec Inv-loop μ-loop loop-holds below-rate-requires found add-task loop-less passed returns-2)

@@ -16,7 +16,7 @@ below-rate-requires c κs =
 energy-place-requires : tie.Need-energy-place-requires
 energy-place-requires c κs =
     let f = c .before .before in
-    below-places (f .before .before .pre) (f .below-task .ensures) (c .below-rate .ensures) (c .before .if1 .taken)
+    omega (arith, below-places (f .before .before .pre) (f .below-task .ensures) (c .below-rate .ensures) (c .before .if1 .taken))
 
 returns : tie.Need-returns
 returns c =

@@ -74,11 +74,11 @@ fits c =
 cast-idle : tie.Need-cast-idle
 cast-idle c = search needs
 
-mul-energy : tie.Need-mul-energy
-mul-energy c = omega (arith, fits c)
+mul-total : tie.Need-mul-total
+mul-total c = omega (arith, fits c)
 
-add-energy : tie.Need-add-energy
-add-energy c = omega (arith, fits (c .before))
+add-total : tie.Need-add-total
+add-total c = omega (arith, fits (c .before))
 
 same-length : tie.Need-same-length
 same-length c = chosen (c .before .before) .choose .ensures .plan-size
@@ -106,8 +106,8 @@ plan-checked-spec =
     choose-requires
     idle-of-requires
     cast-idle
-    mul-energy
-    add-energy
+    mul-total
+    add-total
     same-length
     same-length-2
     chosen-plan)
