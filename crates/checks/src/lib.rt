@@ -5,7 +5,7 @@ ghost use mathlib.Core.List.{[], _∷_};
 ghost use Prim.Native.Nat.{_*_, _<_, _≤_};
 ghost use lib.ListN.{length};
 ghost use Rattle.numbers.specs.Search.{Found};
-ghost use Rattle.layout.specs.Words.{ratePlace, taskCountPlace, tasksPlace, mostRates, slack, rate, period, cycles, energy, OutOfRange};
+ghost use Rattle.layout.specs.Words.{idlePlace, ratePlace, taskCountPlace, tasksPlace, mostRates, slack, idle, rate, period, cycles, energy, OutOfRange};
 ghost use Rattle.taskset.specs.Quantities.{jobTime};
 ghost use Rattle.taskset.specs.Refusals.{_▹_, wordChecks, hyperCheck};
 ghost use Rattle.taskset.specs.Calls.{CountsAfter, SetAfter};
@@ -209,6 +209,14 @@ pub fn slack_of(s: &[u32]) -> u32
     ensures { λ r. ⌜ r ≡ slack (now (s .entry)) ⌝ }
 {
     s[layout::SLACK_PLACE]
+}
+
+// The idle energy.
+pub fn idle_of(s: &[u32]) -> u32
+    requires { ⌜ idlePlace < length (now s) ⌝ }
+    ensures { λ r. ⌜ r ≡ idle (now (s .entry)) ⌝ }
+{
+    s[layout::IDLE_PLACE]
 }
 
 // The period of the task at place t of a set.
