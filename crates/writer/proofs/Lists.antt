@@ -1,22 +1,24 @@
 -- The words of a list that passes check 2, the lines that they make, and the whole text.
 -- Assumes nothing.
-use Prim.Native.Nat.{ℕ, _+_, _-_, _≤_, _<_}
-use mathlib.Core.Path.{_≡_, refl, ap, _∙_}
-use mathlib.Core.List.{List, _++_, append-assoc}
+use Prim.Native.Nat.{ℕ, zero, suc, _+_, _-_, _≤_, _<_}
+use mathlib.Core.Path.{_≡_, refl, sym, ap, _∙_}
+use mathlib.Core.List.{List, [], _++_, append-assoc}
+use mathlib.Core.Option.{Option, none, some}
 use native.Mathlib.Nat.{zero-add}
 use native.Mathlib.Omega.{arith}
 use lib.ListN.{length, getD, take, drop, length-append}
 use Rattle.numbers.specs.Numbers.{each, joined}
 use Rattle.numbers.proofs.Lists.{each-length, each-at}
-use Rattle.layout.specs.Words.{slackPlace, headSize, mostRates, mostTasks, word, rateCount, taskCount, ratePlace, taskCountPlace, taskSize, energyPlace, rate, energy}
+use Rattle.layout.specs.Words.{slackPlace, idlePlace, headSize, mostRates, mostTasks, word, idle, rateCount, taskCount, ratePlace, taskCountPlace, taskSize, energyPlace, rate, energy}
 use Rattle.layout.specs.declared.Layout.the-variants.{Ordinary}
+use Rattle.layout.proofs.Layouts.{idle-in-head}
 use Rattle.layout.proofs.Whole.{in-list}
-use Rattle.text.specs.Text.{bytes, decimal, spaced, taskText, scriptText, listRates, lineOf, scriptOf}
+use Rattle.text.specs.Text.{bytes, decimal, spaced, taskText, idleText, clockText, scriptText, listRates, lineOf, shownIdle, scriptOf}
 use Rattle.text.proofs.Grammar.{energy-form}
 use Rattle.text.proofs.Sizes.{text-length}
 use Rattle.text.proofs.RoundTrip.{script-of-list}
 use Rattle.checks.specs.Steps.{OfTask}
-use Rattle.writer.specs.Lines.{WithRates, WithTasks, slackText, ratesText}
+use Rattle.writer.specs.Lines.{WithRates, WithTasks, slackText, idleLine, ratesText}
 use Rattle.writer.proofs.Rows.{one-more, one-room, part}
 
 -- ---- the words of a list that passes check 2
@@ -29,6 +31,9 @@ module _ {w : List ℕ} {m : ℕ} (has : WithRates w m) where
 
   pub slack-inside : slackPlace < length w
   slack-inside = omega (arith, has .whole .size)
+
+  pub idle-inside : idlePlace < length w
+  idle-inside = omega (arith, has .whole .size, idle-in-head Ordinary)
 
   pub rates-are : (a e : ℕ) → a ≡ ratePlace Ordinary 1 → e ≡ taskCountPlace Ordinary m → take (e - a) (drop a w) ≡ listRates w
   rates-are a e x y =
@@ -85,19 +90,49 @@ module _ {w : List ℕ} {m n : ℕ} (has : WithTasks w m n) where
     pub lines-room : length (joined taskText (take t (scriptOf w .tasks))) + length (taskText (lineOf w t)) ≤ length (joined taskText (scriptOf w .tasks))
     lines-room = rw line-is at (one-room taskText (scriptOf w .tasks) t (lineOf w t) (omega (arith, tasks-count)))
 
+-- ---- the idle line
+-- A list without idle energy has none; another has it, with what was taken from the list.
+pub idle-none : (h : ℕ) (w : List ℕ) → h ≡ idle w → h ≡ 0 → idleLine (scriptOf w .idle) ≡ []
+unfolding scriptOf idleLine
+idle-none h w is e = ap (λ (k : ℕ). idleLine (shownIdle k)) (sym is ∙ e)
+
+pub idle-some : (h : ℕ) (w : List ℕ) → h ≡ idle w → 0 < h
+    → bytes "(idle " ++ (decimal h ++ bytes ")\n") ≡ idleLine (scriptOf w .idle)
+unfolding scriptOf idleLine
+idle-some zero w is above = absurd (omega arith)
+idle-some (suc h) w is above = ap (λ (k : ℕ). idleLine (shownIdle k)) is
+
 -- ---- the whole text
+-- The bracket of the line behind the idle line, which a script's text has at its end, before it.
+turned : (o : Option ℕ) (u : List ℕ) → bytes "(" ++ (idleText o ++ u) ≡ idleLine o ++ (bytes "(" ++ u)
+unfolding idleLine
+turned none u = refl
+turned (some h) u = simp append-assoc
+
 pub cut : (w : List ℕ) → let s = scriptOf w in
-    scriptText s ≡ (slackText (s .slack) ++ ratesText (listRates w)) ++ joined taskText (s .tasks)
+    scriptText s ≡ ((slackText (s .slack) ++ idleLine (s .idle)) ++ ratesText (listRates w)) ++ joined taskText (s .tasks)
 unfolding scriptOf slackText ratesText
-cut w = simp append-assoc
+cut w =
+    let s = scriptOf w in
+    ap (λ (l : List ℕ). bytes "(slack " ++ (decimal (s .slack) ++ (bytes ")\n" ++ l)))
+    (turned (s .idle) (clockText (s .clock) ++ (bytes ")\n" ++ joined taskText (s .tasks))))
+    ∙ simp append-assoc
 
 pub cut-length : (w : List ℕ) → let s = scriptOf w in
-    length (scriptText s) ≡ length (slackText (s .slack)) + length (ratesText (listRates w)) + length (joined taskText (s .tasks))
+    length (scriptText s) ≡ length (slackText (s .slack)) + length (idleLine (s .idle)) + length (ratesText (listRates w)) +
+    length (joined taskText (s .tasks))
 cut-length w =
     let slack = slackText (scriptOf w .slack) in
+    let idle = idleLine (scriptOf w .idle) in
     let rates = ratesText (listRates w) in
     let tasks = joined taskText (scriptOf w .tasks) in
-    omega (arith, ap length (cut w), length-append (slack ++ rates) tasks, length-append slack rates)
+    omega (
+      arith,
+      ap length (cut w),
+      length-append ((slack ++ idle) ++ rates) tasks,
+      length-append (slack ++ idle) rates,
+      length-append slack idle,
+    )
 
 pub text-short : {w : List ℕ} {m : ℕ} → WithRates w m → length (scriptText (scriptOf w)) < 5000
 text-short {w} has = text-length (scriptOf w) (scriptText (scriptOf w)) (record { script = script-of-list w (has .whole); text = refl })

@@ -2,7 +2,8 @@
 -- contract names none of it.
 use Prim.Native.Nat.{ℕ}
 use mathlib.Core.Path.{_≡_}
-use mathlib.Core.List.{List, _++_}
+use mathlib.Core.List.{List, [], _++_}
+use mathlib.Core.Option.{Option, none, some}
 use Rattle.numbers.specs.Numbers.{joined}
 use Rattle.layout.specs.Words.{rateCount, taskCount}
 use Rattle.layout.specs.declared.Layout.the-variants.{Ordinary}
@@ -19,10 +20,14 @@ pub record WithTasks (w : List ℕ) (m n : ℕ) : Type 0 where
   pub list : WithRates w m
   pub tasks : n ≡ taskCount Ordinary w
 
--- The first two lines of a list's text, each from its own bracket to its own end. (`scriptText` has the bracket of the
--- second at the end of the string before it, as the reader takes it.)
+-- The lines of a list's text before its tasks, each from its own bracket to its own end. (`scriptText` has the bracket
+-- of a line at the end of the string before it, as the reader takes it.)
 unfoldable pub slackText : ℕ → List ℕ
 slackText slack = bytes "(slack " ++ (decimal slack ++ bytes ")\n")
+
+unfoldable pub idleLine : Option ℕ → List ℕ
+idleLine none = []
+idleLine (some idle) = bytes "(idle " ++ (decimal idle ++ bytes ")\n")
 
 unfoldable pub ratesText : List ℕ → List ℕ
 ratesText rates = bytes "(rates" ++ (joined spaced rates ++ bytes ")\n")

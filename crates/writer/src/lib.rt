@@ -6,17 +6,20 @@ ghost use mathlib.Core.Path.{_≡_};
 ghost use Prim.Native.Nat.{_+_, _^_, _≤_, _<_};
 ghost use lib.ListN.{length};
 ghost use Rattle.numbers.specs.Numbers.{joined};
-ghost use Rattle.layout.specs.Words.{slackPlace};
+ghost use Rattle.layout.specs.Words.{slackPlace, idlePlace};
 ghost use Rattle.text.specs.Text.{spaced, taskText, scriptText, listRates, lineOf, scriptOf};
 ghost use Rattle.text.specs.Calls.{WriterGives};
 ghost use Rattle.printer.specs.Puts.{Put, Added};
 ghost use Rattle.layout.specs.declared.Layout.the-variants.{Ordinary};
 ghost use Rattle.checks.specs.Steps.{OfTask};
-ghost use Rattle.writer.specs.Lines.{WithRates, WithTasks, slackText, ratesText};
+ghost use Rattle.writer.specs.Lines.{WithRates, WithTasks, slackText, idleLine, ratesText};
 use layout::Layout;
 use taskset::CopyAnswer;
 use taskset::Refusal;
 use taskset::Shape;
+
+// The least idle energy that has a line of its own.
+const LEAST_SHOWN: u64 = 1;
 
 // The words of a list that passes check 2: its rates, and of the task at place t its period, its cycles and its
 // energies.
@@ -97,6 +100,31 @@ fn count_slack(w: &[u32]) -> usize
     let slack = checks::slack_of(w) as u64;
     let a = printer::count_field(0, b"(slack ", slack);
     printer::count_bytes(a, b")\n")
+}
+
+// The idle line, where there is one.
+fn put_idle(buf: &mut [u8], w: &[u32]) -> usize
+    requires { ⌜ (idlePlace < length (now w)) × (length (idleLine (scriptOf (now w) .idle)) ≤ length (now buf)) ⌝ }
+    ensures { λ r. ⌜ Put (idleLine (scriptOf (now (w .entry)) .idle)) (now (buf .entry)) (now (buf .exit)) r ⌝ }
+{
+    let idle = checks::idle_of(w) as u64;
+    if LEAST_SHOWN <= idle {
+        let a = printer::add_field(buf, 0, b"(idle ", idle);
+        return printer::add_bytes(buf, a, b")\n");
+    }
+    0
+}
+
+fn count_idle(w: &[u32]) -> usize
+    requires { ⌜ (idlePlace < length (now w)) × (length (idleLine (scriptOf (now w) .idle)) < 2 ^ 64) ⌝ }
+    ensures { λ r. ⌜ r ≡ length (idleLine (scriptOf (now (w .entry)) .idle)) ⌝ }
+{
+    let idle = checks::idle_of(w) as u64;
+    if LEAST_SHOWN <= idle {
+        let a = printer::count_field(0, b"(idle ", idle);
+        return printer::count_bytes(a, b")\n");
+    }
+    0
 }
 
 // The rates' line.
@@ -182,8 +210,9 @@ fn put_text(buf: &mut [u8], w: &[u32], m: usize, n: usize) -> usize
     ensures { λ r. ⌜ Put (scriptText (scriptOf (now (w .entry)))) (now (buf .entry)) (now (buf .exit)) r ⌝ }
 {
     let a = put_slack(buf, w);
-    let b = a + put_rates(&mut buf[a..], w, m);
-    b + put_tasks(&mut buf[b..], w, m, n)
+    let b = a + put_idle(&mut buf[a..], w);
+    let c = b + put_rates(&mut buf[b..], w, m);
+    c + put_tasks(&mut buf[c..], w, m, n)
 }
 
 fn count_text(w: &[u32], m: usize, n: usize) -> usize
@@ -191,8 +220,9 @@ fn count_text(w: &[u32], m: usize, n: usize) -> usize
     ensures { λ r. ⌜ r ≡ length (scriptText (scriptOf (now (w .entry)))) ⌝ }
 {
     let a = count_slack(w);
-    let b = a + count_rates(w, m);
-    b + count_tasks(w, m, n)
+    let b = a + count_idle(w);
+    let c = b + count_rates(w, m);
+    c + count_tasks(w, m, n)
 }
 
 // The text of a set of words that passes checks 2 and 3; how many bytes, or a refusal that leaves the buffer as it was.
