@@ -53,8 +53,8 @@ extern "C" {
  *     #error "this caller makes lists with the idle energy behind the slack"
  *     #endif
  *
- * A 0 inserted behind the first word makes a list of version 1 one of version 2: what it is answered is as before, but
- * for the places that a refusal names, which are one higher. */
+ * A 0 inserted behind the first word makes a list of version 1 one of version 2. It is then answered as it was, but
+ * that every place behind the slack's is one higher in a refusal. */
 #define SEEDSPELL_LIST_VERSION 2
 
 /* The refusals' numbers; behind each its cause, and its second number. Of several causes the first in a call's own
