@@ -26,6 +26,8 @@ over that of the plan made with H: least, mean and most.
 
 import sys
 
+sys.dont_write_bytecode = True
+
 import measure as m
 import optimum as o
 import reference as r

@@ -9,7 +9,7 @@ more: the plan of the least sum is the same, and so is what is said of it here.
 
 import subprocess
 import time
-from bisect import bisect_right
+from bisect import bisect_right, insort
 from fractions import Fraction
 
 
@@ -94,17 +94,20 @@ class Relaxed:
     """Tasks that may be split between rates: cheapest options first, then the cheapest steps of the hulls
     until the load is as low as asked for."""
 
-    def __init__(self, options):
-        hulls = [hull(row) for row in options]
-        self.load = sum(corners[0][0] for corners in hulls)
-        self.energy = sum(corners[0][1] for corners in hulls)
-        self.steps = sorted((slope(a, b), a[0] - b[0]) for corners in hulls
-                            for a, b in zip(corners, corners[1:]))
+    def __init__(self, load=0, energy=0, steps=()):
+        self.load, self.energy = load, energy   # of the cheapest options
+        self.steps = steps                      # energy for each tick saved, and how many ticks; cheapest first
         # What the first steps save in ticks, and cost.
         self.saved, self.cost = [0], [0]
-        for price, ticks in self.steps:
+        for price, ticks in steps:
             self.saved.append(self.saved[-1] + ticks)
             self.cost.append(self.cost[-1] + int(price * ticks))
+
+    def with_task(self, row):
+        corners, steps = hull(row), list(self.steps)
+        for a, b in zip(corners, corners[1:]):
+            insort(steps, (slope(a, b), a[0] - b[0]))
+        return Relaxed(self.load + corners[0][0], self.energy + corners[0][1], steps)
 
     def least(self, room):
         """The least energy within so many ticks, exact; None where there is none."""
@@ -118,7 +121,10 @@ class Relaxed:
 
 def relaxed(options, L):
     """The least energy where a task may be split between rates. Exact."""
-    return Relaxed(options).least(L)
+    tasks = Relaxed()
+    for row in options:
+        tasks = tasks.with_task(row)
+    return tasks.least(L)
 
 
 def possible(options, L):
@@ -170,16 +176,21 @@ def search(options, L):
     the relaxed bound of the tasks to come does not pass a plan that is known.
     """
     rows = sorted((undominated(row) for row in options), key=lambda row: row[-1][1] - row[0][1])
-    known = rounded_plan(rows, L)
+    # The task of the widest range decides most: one plan for each of its options.
+    known = [rounded_plan([[option]] + rows[1:], L) for option in rows[0]]
+    known = min((energy for energy in known if energy is not None), default=None)
     if known is None:
         return None
+    to_come = [Relaxed()]               # behind the last task, behind the one before it, and so on
+    for row in reversed(rows[1:]):
+        to_come.append(to_come[-1].with_task(row))
     sums_so_far = [(0, 0)]
-    for done, row in enumerate(rows, 1):
-        to_come = Relaxed(rows[done:])
+    for row in rows:
+        behind = to_come.pop()
         grown = []
         for load, energy in sums_so_far:
             for more_load, more_energy in row:
-                bound = to_come.least(L - load - more_load)
+                bound = behind.least(L - load - more_load)
                 if bound is not None and energy + more_energy + bound <= known:
                     grown.append((load + more_load, energy + more_energy))
         sums_so_far = undominated(grown)
