@@ -146,9 +146,9 @@ uint64_t seedspell_plan(const uint32_t *set, size_t set_len, uint32_t *plan, siz
  * set, set_len          receives the set, at least 9 + 7 x N words: SEEDSPELL_GENERATED_WORDS are enough for every N
  * results, results_len  receives the results, at least 32 bytes
  *
- * Returns 0 and leaves in the first 9 + 7 x N words of set a set of five rates and N tasks, which passes checks 2, 3
- * and 4, has an idle energy of 0, so that no energy is below it, and a hyper-period that divides 400, but may have no
- * plan; and in the first 32 bytes of results
+ * Returns 0 and leaves in the first 9 + 7 x N words of set a set of five rates and N tasks, with an idle energy of 0,
+ * which passes checks 2, 3, 10 and 4 and whose hyper-period divides 400, but may have no plan; and in the first 32
+ * bytes of results
  *   length, 0, 0, 0                             the set's length, 9 + 7 x N;
  * or refuses: 2 with 0 for N outside 1 to 32, 6 with 9 + 7 x N for the set list, and then 6 with 32 for the results, in
  * this order. On a refusal nothing is changed. */
