@@ -26,7 +26,7 @@ of their lowest power would be rounded to 0. What is ours there:
   to 10, takes 10 a tick at the lowest rate: powers are the same for all sets.
 - A job that would cost over 1,000,000 is split into as many equal jobs as are
   needed, and as divide the hyper-period. Utilisation and energy over the
-  hyper-period stay, and the document counts nothing else.
+  hyper-period stay, but for rounding, and the document counts nothing else.
 - A job's energy is the power times the job time in whole ticks, as document 02 has
   it for chips, rounded to the nearest. The least power is 3.3 microjoules a tick,
   so no energy is below the idle energy of its ticks: refusal 10 does not occur.
