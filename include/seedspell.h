@@ -21,11 +21,19 @@
  * a list count from 0, as C counts: in a table of the M rates of a set, rate number r stands at entry r - 1, and entry
  * M is past its end. In a plan, the rate number of task number k stands at entry k - 1.
  *
- * A SET is 3 + M + N x (2 + M) words: the slack in thousandths, 1 to 1,000; the number of rates M, 2 to 8; the M rates
- * in cycles a tick, each 1 to 1,000,000 and above the one before it; the number of tasks N, 1 to 32; then for each task
- * its period in ticks, 1 to 10,000,000, the cycles of one job, 1 to 4,000,000,000, and M energies in microjoules per
- * job, at rate numbers 1, 2, .. M, each 1 to 1,000,000. The hyper-period, the least common multiple of the periods, is
- * at most 10,000,000.
+ * A SET is 4 + M + N x (2 + M) words, at most 332: the slack in thousandths, 1 to 1,000; the idle energy H in
+ * microjoules per tick, 0 to 1,000, which is drawn in each tick in which no job runs; the number of rates M, 2 to 8;
+ * the M rates in cycles a tick, each 1 to 1,000,000 and above the one before it; the number of tasks N, 1 to 32; then
+ * for each task its period in ticks, 1 to 10,000,000, the cycles of one job, 1 to 4,000,000,000, and M energies in
+ * microjoules per job, at rate numbers 1, 2, .. M, each 1 to 1,000,000. The hyper-period, the least common multiple of
+ * the periods, is at most 10,000,000. The planner asks besides that no energy is below H x the job time, which is
+ * cycles / rate rounded up to whole ticks: an energy is all that is drawn while the job runs, and not only what is
+ * drawn above H.
+ *
+ * For example 100 0 3 2 4 8 2 10 12 4 9 20 15 20 7 15 30 has slack 100, nothing drawn while no job runs, the 3 rates 2,
+ * 4 and 8, and 2 tasks: one of period 10 and 12 cycles with energies 4, 9 and 20, one of period 15 and 20 cycles with
+ * energies 7, 15 and 30. And 100 10 2 1 9 1 100 90 910 200 has an idle energy of 10, the rates 1 and 9, and one task of
+ * period 100 and 90 cycles, whose job takes 90 ticks and 910 microjoules, or 10 ticks and 200.
  */
 #ifndef SEEDSPELL_H
 #define SEEDSPELL_H
@@ -36,6 +44,18 @@
 #ifdef __cplusplus
 extern "C" {
 #endif
+
+/* The version of the layout of a set's list. 2 is the one above. 1 had no idle energy: there the number of rates stood
+ * straight behind the slack. A list of one layout means something else in the other, and need not be refused, so a
+ * caller that makes its lists for this one does well not to compile with another:
+ *
+ *     #if SEEDSPELL_LIST_VERSION != 2
+ *     #error "this caller makes lists with the idle energy behind the slack"
+ *     #endif
+ *
+ * A 0 inserted behind the first word makes a list of version 1 one of version 2. It is then answered as it was, but
+ * that every place behind the slack's is one higher in a refusal. */
+#define SEEDSPELL_LIST_VERSION 2
 
 /* The refusals' numbers; behind each its cause, and its second number. Of several causes the first in a call's own
  * order is the one returned. No call from C returns 1 or 9: these are of texts, which the program reads. */
@@ -55,6 +75,8 @@ extern "C" {
                                                      not 1 to M, or its length if it is short, or N if it is long */
 #define SEEDSPELL_REFUSED_CHIP_ENERGY_TOO_HIGH 9  /* a text names a chip, and an energy worked out by the chip's tables
                                                      passes 1,000,000; the number of the first task that has one */
+#define SEEDSPELL_REFUSED_ENERGY_BELOW_IDLE 10    /* an energy below H x the job time at its rate; the place of the
+                                                     first, also where no plan would use it. By the planner alone */
 
 /* Of what a call returned, a uint64_t: the refusal's number, 0 where there is none; and its second number. */
 #ifdef __cplusplus
@@ -69,7 +91,7 @@ extern "C" {
 #define SEEDSPELL_RESULT_BYTES 32
 
 /* The most words of a generated set, one of 32 tasks. */
-#define SEEDSPELL_GENERATED_WORDS 232
+#define SEEDSPELL_GENERATED_WORDS 233
 
 /* The walk: every tick from 0 to the hyper-period, all tasks released at 0, the earliest deadline first and of equal
  * deadlines the lower task number.
@@ -89,26 +111,27 @@ extern "C" {
 uint64_t seedspell_walk(const uint32_t *set, size_t set_len, const uint32_t *plan, size_t plan_len,
                         uint8_t *results, size_t results_len);
 
-/* The planner: a rate for each task, so that every deadline is kept for ever, at an energy over the hyper-period that
- * is within the slack of the least possible.
+/* The planner: a rate for each task, so that every deadline is kept for ever, at an energy over the hyper-period, of
+ * jobs and of waiting together, that is within the slack of the least possible.
  *
  * set, set_len          the set
  * plan, plan_len        receives the plan, at least N words: 32 are enough for every set
  * work, work_len        working words, at least W = (N + 1) x (4,000 x N / slack rounded down, + 1): 10 to 4,224,033,
  *                       the most for 32 tasks and slack 1. What they hold before the call makes no difference. To ask
- *                       for W, lend one word: a set that passes checks 2, 3 and 4 is then refused with 5 and W
+ *                       for W, lend one word: a set that passes checks 2, 3, 10 and 4 is then refused with 5 and W
  * results, results_len  receives the results, at least 32 bytes
  *
  * Returns 0 and leaves in the first N words of plan a rate number, 1 to M, for each task; 0 in the first W working
  * words; and in the first 32 bytes of results
  *   unit, load, L, energy                       the unit of energy that the plan was chosen with, a power of two; the
  *                                               plan's load, at most L; the hyper-period L; the plan's energy over
- *                                               the hyper-period in microjoules. The plan keeps every deadline for
- *                                               ever, and (1,000 + slack) x the energy of any other that does is at
- *                                               least 1,000 x this one;
- * or refuses: 2, 3, 4, 5 with W, 6 with N for the plan list, 6 with 32 for the results, and then 7, in this order. 7 is
- * returned if and only if none of the others applies and no plan keeps every deadline for ever. On a refusal nothing is
- * changed.
+ *                                               the hyper-period in microjoules: that of its jobs, as the set gives
+ *                                               it, plus H x (L - load), which is drawn in the ticks in which no job
+ *                                               runs. The plan keeps every deadline for ever, and (1,000 + slack) x
+ *                                               the energy of any other that does is at least 1,000 x this one;
+ * or refuses: 2, 3, 10, 4, 5 with W, 6 with N for the plan list, 6 with 32 for the results, and then 7, in this order.
+ * 7 is returned if and only if none of the others applies and no plan keeps every deadline for ever. On a refusal
+ * nothing is changed.
  *
  * Whoever turns a rate number into a clock setting uses table entry number - 1, since rate numbers count from 1 and C's
  * tables from 0: a table of M settings has entries 0 to M - 1. */
@@ -120,13 +143,14 @@ uint64_t seedspell_plan(const uint32_t *set, size_t set_len, uint32_t *plan, siz
  *
  * seed                  any word
  * n                     the number of tasks N, 1 to 32
- * set, set_len          receives the set, at least 8 + 7 x N words: SEEDSPELL_GENERATED_WORDS are enough for every N
+ * set, set_len          receives the set, at least 9 + 7 x N words: SEEDSPELL_GENERATED_WORDS are enough for every N
  * results, results_len  receives the results, at least 32 bytes
  *
- * Returns 0 and leaves in the first 8 + 7 x N words of set a set of five rates and N tasks, which passes checks 2, 3
- * and 4 and whose hyper-period divides 400, but may have no plan; and in the first 32 bytes of results
- *   length, 0, 0, 0                             the set's length, 8 + 7 x N;
- * or refuses: 2 with 0 for N outside 1 to 32, 6 with 8 + 7 x N for the set list, and then 6 with 32 for the results, in
+ * Returns 0 and leaves in the first 9 + 7 x N words of set a set of five rates and N tasks, with an idle energy of 0,
+ * which passes checks 2, 3, 10 and 4 and whose hyper-period divides 400, but may have no plan; and in the first 32
+ * bytes of results
+ *   length, 0, 0, 0                             the set's length, 9 + 7 x N;
+ * or refuses: 2 with 0 for N outside 1 to 32, 6 with 9 + 7 x N for the set list, and then 6 with 32 for the results, in
  * this order. On a refusal nothing is changed. */
 uint64_t seedspell_generate(uint32_t seed, uint32_t n, uint32_t *set, size_t set_len,
                             uint8_t *results, size_t results_len);

@@ -166,10 +166,10 @@ static int met_pairs(uint32_t tasks)
 
     generate_sets(tasks);
     for (int s = 0; s < SEEDS; s++) {
-        const uint32_t *task = sets[s].word + 3 + sets[s].word[1];
+        const uint32_t *task = sets[s].word + 4 + sets[s].word[2];
         uint32_t running = 1;
 
-        for (uint32_t t = 0; t < tasks; t++, task += 2 + sets[s].word[1]) {
+        for (uint32_t t = 0; t < tasks; t++, task += 2 + sets[s].word[2]) {
             pairs[count++] = (struct pair){running, *task};
             running = running / (uint32_t)(plain_remainders(running, *task) >> 8) * *task;
         }
@@ -180,16 +180,16 @@ static int met_pairs(uint32_t tasks)
 /* ---- The sets that are made here. */
 
 static const struct list example = {
-    {100, 3, 2, 4, 8, 2, 10, 12, 4, 9, 20, 15, 20, 7, 15, 30}, 16,
+    {100, 0, 3, 2, 4, 8, 2, 10, 12, 4, 9, 20, 15, 20, 7, 15, 30}, 17,
 };
 
 /* A set of two rates with these periods. */
 static void make_set(struct list *list, const uint32_t *period, uint32_t tasks)
 {
-    static const uint32_t head[] = {100, 2, 1, 2};
+    static const uint32_t head[] = {100, 0, 2, 1, 2};
     uint32_t *at = list->word;
 
-    for (int i = 0; i < 4; i++)
+    for (int i = 0; i < 5; i++)
         *at++ = head[i];
     *at++ = tasks;
     for (uint32_t t = 0; t < tasks; t++) {
@@ -373,7 +373,7 @@ static void measure_checks(const char *name, int count, int repetitions)
         for (int w = 0; w < 3; w++)
             keep_best(&best[w], time_checks(ways[w], count, count == 1 ? 50 : 1));
     printf("%-14s %5d %3" PRIu32 " %9.1f %9.1f %9.1f %6.2f %6.2f\n", name, count,
-           sets[0].word[2 + sets[0].word[1]], best[0], best[1], best[2], best[0] / best[1],
+           sets[0].word[3 + sets[0].word[2]], best[0], best[1], best[2], best[0] / best[1],
            best[0] / best[2]);
     fflush(stdout);
 }

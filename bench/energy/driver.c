@@ -16,7 +16,7 @@
 #include "../measure.h"
 
 #define MOST_TASKS 32
-#define MOST_WORDS (3 + 8 + MOST_TASKS * (2 + 8))
+#define MOST_WORDS (4 + 8 + MOST_TASKS * (2 + 8))
 #define MOST_WORK (33 * 128001)         /* W of 32 tasks at slack 1 */
 
 static uint32_t set[MOST_WORDS], plan[MOST_TASKS], work[MOST_WORK];
@@ -50,7 +50,7 @@ static void answer(size_t count, int repetitions)
     }
     printf("%" PRIu64 " %" PRIu64 " %" PRIu64 " %" PRIu64 " %.0f", value(0), value(1), value(2),
            value(3), best);
-    for (uint32_t t = 0; t < set[2 + set[1]]; t++)
+    for (uint32_t t = 0; t < set[3 + set[2]]; t++)
         printf(" %" PRIu32, plan[t]);
     printf("\n");
 }

@@ -58,17 +58,22 @@ class Case:
         self.energy[slack], self.micros[slack] = energy, nanos / 1000
 
 
-def plan_all(driver, cases, slack):
-    """All sets go to one run of the driver."""
-    lists = [[slack] + case.words[1:] for case in cases]
+def answers_of(driver, lists, repetitions):
+    """What the driver says of each set: all go to one run of it."""
     lines = [' '.join(map(str, [len(words), *words])) for words in lists]
-    done = subprocess.run([driver, str(REPETITIONS)], input='\n'.join(lines) + '\n',
+    done = subprocess.run([driver, str(repetitions)], input='\n'.join(lines) + '\n',
                           stdout=subprocess.PIPE, text=True, check=True)
     answers = done.stdout.split('\n')[:-1]
-    assert len(answers) == len(cases)
-    for case, answer in zip(cases, answers):
-        assert not answer.startswith('refused'), (case.words, answer)
-        case.take(slack, list(map(int, answer.split())))
+    assert len(answers) == len(lists)
+    for words, answer in zip(lists, answers):
+        assert not answer.startswith('refused'), (words, answer)
+    return [list(map(int, answer.split())) for answer in answers]
+
+
+def plan_all(driver, cases, slack):
+    lists = [[slack] + case.words[1:] for case in cases]
+    for case, answer in zip(cases, answers_of(driver, lists, REPETITIONS)):
+        case.take(slack, answer)
 
 
 def mean_and_most(values):
@@ -118,6 +123,16 @@ def start_time(folder):
     return 1000 * min(o.optimum([[(1, 1), (2, 2)]], 2, folder, LIMIT, 1)[1] for _ in range(20))
 
 
+def cells_of(seed, sets, make):
+    """Of each type and number of tasks so many sets, drawn by a generator of their own: more sets go on from
+    the same first ones."""
+    cells = {}
+    for number, (kind, N) in enumerate((kind, N) for kind in w.TYPES for N in COUNTS):
+        draw = Draw(100 * seed + number)
+        cells[kind, N] = [make(draw, kind, N) for _ in range(sets)]
+    return cells
+
+
 def main(arguments):
     if not 2 <= len(arguments) <= 4:
         print('use: measure.py DRIVER FOLDER [SETS [SEED]]', file=sys.stderr)
@@ -126,13 +141,10 @@ def main(arguments):
     sets, seed = (list(map(int, arguments[2:])) + [256, 1][len(arguments) - 2:])
     print('seed %d, %d sets a cell, glpsol at most %d seconds a set, best of %d; planner best of %d' % (
         seed, sets, LIMIT, RUNS, REPETITIONS))
-    cells = {}
-    for number, (kind, N) in enumerate((kind, N) for kind in w.TYPES for N in COUNTS):
-        # A generator for each cell: more sets go on from the same first ones.
-        draw = Draw(100 * seed + number)
-        cells[kind, N] = [Case(w.some_set(draw, kind, N), folder) for _ in range(sets)]
+    cells = cells_of(seed, sets, lambda *choice: Case(w.some_set(*choice), folder))
+    for cases in cells.values():
         for slack in SLACKS:
-            plan_all(driver, cells[kind, N], slack)
+            plan_all(driver, cases, slack)
     print_plans(cells)
     print()
     print_optima(cells)

@@ -38,7 +38,7 @@ typedef uint64_t planner(const uint32_t *, size_t, uint32_t *, size_t, uint32_t 
 
 #define MOST_TASKS 32
 #define MOST_RATES 8
-#define MOST_WORDS (3 + MOST_RATES + MOST_TASKS * (2 + MOST_RATES))
+#define MOST_WORDS (4 + MOST_RATES + MOST_TASKS * (2 + MOST_RATES))
 #define MOST_WORK (33 * 128001)         /* W of 32 tasks at slack 1 */
 #define SPARE 8                         /* words lent beyond those needed */
 #define MOST_SETS 64
@@ -67,6 +67,7 @@ static uint32_t *head(struct list *list, uint32_t slack, uint32_t rates, uint32_
     uint32_t *at = list->set;
 
     *at++ = slack;
+    *at++ = 0;                          /* the idle energy */
     *at++ = rates;
     for (uint32_t r = 0; r < rates; r++)
         *at++ = first + r * step;
@@ -98,6 +99,23 @@ static void random_set(struct list *list, uint32_t tasks, uint32_t rates, uint32
         at += rates;
     }
     list->len = (size_t)(at - list->set);
+}
+
+/* Gives a random set an idle energy, which every job then draws too: so the
+   choice is among the same energies as before, but for those that would pass
+   1,000,000. */
+static void add_idle(struct list *list, uint32_t idle)
+{
+    uint32_t *set = list->set, rates = set[2], *task = set + 4 + rates;
+
+    set[1] = idle;
+    for (uint32_t t = 0; t < set[3 + rates]; t++, task += 2 + rates)
+        for (uint32_t r = 1; r <= rates; r++) {
+            uint32_t rate = set[2 + r];
+            task[1 + r] += idle * ((task[1] + rate - 1) / rate);
+            if (task[1 + r] > 1000000)
+                task[1 + r] = 1000000;
+        }
 }
 
 /* The widest table. One task of 2^10 jobs has almost all of the energy, the
@@ -195,7 +213,7 @@ static int agree(const char *name, uint32_t tasks, uint32_t rates, size_t needed
 /* Sets 0 to count - 1, all with these numbers of tasks and rates and this slack. */
 static int measure(const char *name, int count, int repetitions)
 {
-    uint32_t slack = sets[0].set[0], rates = sets[0].set[1], tasks = sets[0].set[2 + rates];
+    uint32_t slack = sets[0].set[0], rates = sets[0].set[2], tasks = sets[0].set[3 + rates];
     size_t needed = work_needed(tasks, slack);
     double archive_time = 0, plain_time = 0, steps = 4000.0 * tasks * tasks * rates / slack;
 
@@ -230,6 +248,15 @@ static int random_sets(const char *name, uint32_t tasks, uint32_t rates, uint32_
     return measure(name, count, repetitions);
 }
 
+static int idle_sets(uint32_t slack, int count, int repetitions)
+{
+    for (int s = 0; s < count; s++) {
+        random_set(&sets[s], 32, 8, slack);
+        add_idle(&sets[s], 20);
+    }
+    return measure("idle", count, repetitions);
+}
+
 /* The cases that are made here. */
 static int own_cases(int repetitions)
 {
@@ -239,6 +266,9 @@ static int own_cases(int repetitions)
 
     for (int i = 0; i < 4; i++)
         if (!random_sets("random", 32, 8, slacks[i], slacks[i] < 10 ? 16 : 64, repetitions))
+            return 0;
+    for (int i = 0; i < 4; i++)
+        if (!idle_sets(slacks[i], slacks[i] < 10 ? 16 : 64, repetitions))
             return 0;
     for (int i = 0; i < 4; i++) {
         limit_set(&sets[0], 32, 8, slacks[i]);

@@ -6,7 +6,8 @@ PROGRAM is one that run.sh builds from records.c, such as
 target/bench/planner/records-plain or records-archive. The sets have small
 slacks, for which the stored records' 16,384 working words are too few, so that
 tables are wide. As many words are lent as needed, now and then one fewer. Four
-sets are made so that a cost passes 32 bits.
+sets are made so that a cost passes 32 bits. Half of the random ones have an idle
+energy, mostly one that their energies allow.
 """
 
 import subprocess
@@ -32,10 +33,32 @@ def some_set(draw):
     words[0] = draw.one_of([1, 1, 1, 2, 5, 20, 50])
     if draw.between(1, 8) == 1:
         # The fastest rate costs next to nothing, the others as much as there is.
-        M, N = words[1], words[2 + words[1]]
+        M, N = words[2], words[3 + words[2]]
         for task in range(1, N + 1):
             at = period_of(M, task) + 2
             words[at:at + M] = [1_000_000 - draw.between(0, 9) for _ in range(M - 1)] + [1]
+    return with_idle(draw, words) if draw.between(0, 1) else words
+
+
+def with_idle(draw, words):
+    """An idle energy: the most that the energies allow, one more, or a small one that every job
+    then draws too, so far as an energy can be that large."""
+    words = list(words)
+    M, N = words[2], words[3 + words[2]]
+    energies = []                       # place, and the ticks of such a job
+    for task in range(1, N + 1):
+        at = period_of(M, task) + 2
+        energies += [(at + k, -(-words[at - 1] // words[3 + k])) for k in range(M)]
+    most = min(1_000, min(words[at] // ticks for at, ticks in energies))
+    how = draw.between(1, 4)
+    if how == 1:
+        words[1] = most
+    elif how == 2:
+        words[1] = min(1_000, most + 1)
+    else:
+        words[1] = draw.between(1, 20)
+        for at, ticks in energies:
+            words[at] = min(1_000_000, words[at] + words[1] * ticks)
     return words
 
 
@@ -61,10 +84,10 @@ def main(arguments):
     questions, wanted = [], []
     sets = list(wide_costs()) + [some_set(draw) for _ in range(count)]
     for number, words in enumerate(sets, 1):
-        N, W = words[2 + words[1]], needed(words)
+        N, W = words[3 + words[2]], needed(words)
         J = N - (draw.between(1, 30) == 1)
         A = W - (draw.between(1, 30) == 1)
-        few = words[1] ** N <= FEW_PLANS
+        few = words[2] ** N <= FEW_PLANS
         answer = r.plan(words, J, A, 'all' if few else 'table')
         if few and (answer[0] == 'planned' or answer[1] == 7):
             assert r.objection(words, answer, 500) is None, words

@@ -13,7 +13,7 @@ uint64_t seedspell_generate(uint32_t seed, uint32_t n, uint32_t *set, size_t set
                             uint8_t *results, size_t results_len)
 {
     static const uint32_t period[] = {10, 20, 25, 40, 50, 100, 200, 400};
-    size_t needed = 8 + 7 * (size_t)n;
+    size_t needed = 9 + 7 * (size_t)n;
 
     if (n < 1 || n > 32)
         return (uint64_t)SEEDSPELL_REFUSED_BAD_SET_WORD << 32;
@@ -22,6 +22,7 @@ uint64_t seedspell_generate(uint32_t seed, uint32_t n, uint32_t *set, size_t set
     if (results_len < SEEDSPELL_RESULT_BYTES)
         return (uint64_t)SEEDSPELL_REFUSED_RECEIVING_LIST_SHORT << 32 | SEEDSPELL_RESULT_BYTES;
     *set++ = 100;
+    *set++ = 0;
     *set++ = 5;
     for (uint32_t j = 1; j <= 5; j++)
         *set++ = 100 * j;

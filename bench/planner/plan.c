@@ -1,9 +1,11 @@
 /* The planner in plain C, as the measure for the archive's planner: the same
    checks in the same order (../checks.h), the same table, the same way back.
 
-   Options stand by task and rate number, task t (from 0) at rate number r
-   (from 1) at t * 16 + r. Loads are cut at L + 1, which stands for 'none', so
-   that the sum of two words of the table fits 32 bits.
+   Energies here are what jobs draw above the idle energy: a plan that fits draws
+   this, and the idle energy of every tick of the hyper-period. Options stand by
+   task and rate number, task t (from 0) at rate number r (from 1) at t * 16 + r.
+   Loads are cut at L + 1, which stands for 'none', so that the sum of two words
+   of the table fits 32 bits.
 
    PLANNER is the name of the call. Built a second time under the archive's
    name, this file takes the archive's place where only the harness is tried. */
@@ -23,27 +25,37 @@
 #define RESULT_BYTES 32
 
 struct problem {
-    uint32_t slack, rates, tasks;
+    uint32_t slack, idle, rates, tasks;
     uint32_t span;                      /* the hyper-period L */
     uint32_t load[OPTIONS];             /* cut at L + 1 */
-    uint64_t energy[OPTIONS];
+    uint64_t energy[OPTIONS];           /* above the idle energy */
     size_t cost[OPTIONS];               /* the energy in units, rounded up */
 };
 
 uint64_t PLANNER(const uint32_t *set, size_t set_len, uint32_t *plan, size_t plan_len,
                  uint32_t *work, size_t work_len, uint8_t *results, size_t results_len);
 
+/* Checks 2, 3, 10 and 4 in order; the hyper-period where they pass. */
+static uint64_t check(const uint32_t *set, size_t set_len, uint32_t *span)
+{
+    uint64_t refused;
+
+    if ((refused = check_words(set, set_len)) != 0 || (refused = check_rates(set)) != 0
+        || (refused = check_energies(set)) != 0)
+        return refused;
+    return check_span(set, common_divisor, span);
+}
+
 static void fill_options(struct problem *p, const uint32_t *set)
 {
-    const uint32_t *task = set + 3 + p->rates;
+    const uint32_t *task = set + 4 + p->rates;
 
     for (uint32_t t = 0; t < p->tasks; t++, task += 2 + p->rates) {
         uint64_t jobs = p->span / task[0];
         for (uint32_t r = 1; r <= p->rates; r++) {
-            uint64_t rate = set[1 + r];
-            uint64_t load = jobs * ((task[1] + rate - 1) / rate);
+            uint64_t time = job_time(task[1], set[2 + r]), load = jobs * time;
             p->load[t * STRIDE + r] = load > p->span ? p->span + 1 : (uint32_t)load;
-            p->energy[t * STRIDE + r] = jobs * task[1 + r];
+            p->energy[t * STRIDE + r] = jobs * (task[1 + r] - p->idle * time);
         }
     }
 }
@@ -107,15 +119,16 @@ uint64_t PLANNER(const uint32_t *set, size_t set_len, uint32_t *plan, size_t pla
                  uint32_t *work, size_t work_len, uint8_t *results, size_t results_len)
 {
     struct problem p;
-    uint64_t refused, fastest_load = 0, fastest_energy = 0, load = 0, energy = 0;
+    uint64_t refused, fastest_load = 0, fastest_energy = 0, load = 0, energy;
     uint32_t power = 0;
     size_t needed, columns, k;
 
-    if ((refused = check_set(set, set_len, common_divisor, &p.span)) != 0)
+    if ((refused = check(set, set_len, &p.span)) != 0)
         return refused;
     p.slack = set[0];
-    p.rates = set[1];
-    p.tasks = set[2 + p.rates];
+    p.idle = set[1];
+    p.rates = set[2];
+    p.tasks = set[3 + p.rates];
     needed = (size_t)(p.tasks + 1) * (4000 * p.tasks / p.slack + 1);
     if (work_len < needed)
         return refusal(5, needed);
@@ -153,6 +166,7 @@ uint64_t PLANNER(const uint32_t *set, size_t set_len, uint32_t *plan, size_t pla
         power--;
     }
     way_back(&p, work, columns, k, plan);
+    energy = (uint64_t)p.idle * p.span;
     for (uint32_t t = 0; t < p.tasks; t++) {
         load += p.load[t * STRIDE + plan[t]];
         energy += p.energy[t * STRIDE + plan[t]];

@@ -61,7 +61,7 @@ static int kept(uint32_t tasks, size_t needed, size_t plan_len, size_t work_len)
     size_t result_bytes = tasks == 0 ? 0 : SEEDSPELL_RESULT_BYTES;
 
     for (uint32_t t = 0; t < tasks; t++)
-        if (plan[t] < 1 || plan[t] > set[1])
+        if (plan[t] < 1 || plan[t] > set[2])
             return 0;
     for (size_t i = 0; i < needed; i++)
         if (work[i] != 0)
@@ -122,7 +122,7 @@ static int answer(char *record)
     code = seedspell_plan(set, count, plan, plan_len, work, work_len, results,
                           SEEDSPELL_RESULT_BYTES);
     if (code == 0) {
-        tasks = set[2 + set[1]];
+        tasks = set[3 + set[2]];
         needed = (size_t)(tasks + 1) * (4000 * tasks / set[0] + 1);
     }
     if (short_code != (code == 0 || code >> 32 == SEEDSPELL_REFUSED_NO_PLAN_FITS ? NO_RESULTS : code)) {

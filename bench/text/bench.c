@@ -2,8 +2,8 @@
    same texts and sets, the same run, in turn, the best of many repetitions.
    Before that both are held to equal answers, in what they return and in every
    word and byte lent, on the document's example, the longest text, cut, damaged
-   and random texts, texts that name a chip among them, and on cut, damaged and
-   random lists; where they differ the run ends with 1.
+   and random texts, texts that name a chip or an idle energy among them, and on
+   cut, damaged and random lists; where they differ the run ends with 1.
 
    One line a case: name, bytes of a text (the mean where there are several),
    nanoseconds a call of each, and the archive's time over the plain one's.
@@ -28,7 +28,7 @@ writer bench_write, plain_write;
 
 #define MOST_TASKS 32
 #define MOST_RATES 8
-#define MOST_WORDS (3 + MOST_RATES + MOST_TASKS * (2 + MOST_RATES))
+#define MOST_WORDS (4 + MOST_RATES + MOST_TASKS * (2 + MOST_RATES))
 #define MOST_BYTES 5000
 #define SPARE 8                         /* words and bytes lent beyond those needed */
 #define MOST_SETS 64
@@ -56,7 +56,7 @@ static uint64_t compared;
 /* ---- The sets and texts. */
 
 static const struct list example_set = {
-    {100, 3, 2, 4, 8, 2, 10, 12, 4, 9, 20, 15, 20, 7, 15, 30}, 16,
+    {100, 0, 3, 2, 4, 8, 2, 10, 12, 4, 9, 20, 15, 20, 7, 15, 30}, 17,
 };
 
 static const char example_text[] =
@@ -91,6 +91,7 @@ static void random_set(struct list *list, uint32_t tasks, uint32_t rates)
     uint32_t *at = list->word;
 
     *at++ = some_number(1000);
+    *at++ = between(0, 1) ? some_number(1000) : 0;
     *at++ = rates;
     for (uint32_t r = 0; r < rates; r++)
         at[r] = some_number(1000000 - MOST_RATES);
@@ -115,6 +116,7 @@ static void longest_set(struct list *list)
     uint32_t *at = list->word;
 
     *at++ = 1000;
+    *at++ = 1000;
     *at++ = MOST_RATES;
     for (uint32_t r = 1; r <= MOST_RATES; r++)
         *at++ = 1000000 - MOST_RATES + r;
@@ -134,7 +136,7 @@ static void longest_text(struct text *text)
     static const char ten[] = " 4294967295";
     char *at = (char *)text->byte;
 
-    at += sprintf(at, "(slack%s)\n(rates", ten);
+    at += sprintf(at, "(slack%s)\n(idle%s)\n(rates", ten, ten);
     for (int r = 0; r < MOST_RATES; r++)
         at += sprintf(at, "%s", ten);
     at += sprintf(at, ")\n");
@@ -147,12 +149,17 @@ static void longest_text(struct text *text)
     text->len = (size_t)(at - (char *)text->byte);
 }
 
-/* A text that names a chip, with so many tasks, each of at most so many cycles. */
-static void chip_text(struct text *text, const char *chip, uint32_t tasks, uint32_t most_cycles)
+/* A text that names a chip, with so many tasks, each of at most so many cycles;
+   its idle energy is given where `idle` is not NULL. */
+static void chip_text(struct text *text, const char *chip, const uint32_t *idle, uint32_t tasks,
+                      uint32_t most_cycles)
 {
     char *at = (char *)text->byte;
 
-    at += sprintf(at, "(slack %" PRIu32 ")\n(chip %s)\n", some_number(1000), chip);
+    at += sprintf(at, "(slack %" PRIu32 ")\n", some_number(1000));
+    if (idle != NULL)
+        at += sprintf(at, "(idle %" PRIu32 ")\n", *idle);
+    at += sprintf(at, "(chip %s)\n", chip);
     for (uint32_t t = 0; t < tasks; t++) {
         uint32_t period = some_number(10000000);
 
@@ -227,7 +234,7 @@ static uint64_t same_write(const struct list *list, size_t room, struct text *re
    with a byte more, and with fewer words lent than needed. */
 static void compare_texts(const struct text *text)
 {
-    static const uint8_t other[] = "0159 ()\n\racprtx:/\x80\xff";
+    static const uint8_t other[] = "0159 ()\n\raciprtx:/\x80\xff";
     static struct text damaged;
     uint64_t words = same_read(text, MOST_WORDS);
 
@@ -329,12 +336,37 @@ static void compare_chips(void)
         one_job(&text, chips[c].name, 0);
         compare_texts(&text);
         for (int i = 0; i < 10; i++) {
-            chip_text(&text, chips[c].name, i % 5 == 0 ? MOST_TASKS : between(1, 6),
+            uint32_t idle = i < 4 ? 0 : some_number(1000), *given = i % 2 == 0 ? NULL : &idle;
+
+            chip_text(&text, chips[c].name, given, i % 5 == 0 ? MOST_TASKS : between(1, 6),
                       chips[c].most_cycles);
             compare_chip(&text);
-            chip_text(&text, chips[c].name, i % 5 == 0 ? MOST_TASKS : between(1, 6), UINT32_MAX);
+            chip_text(&text, chips[c].name, given, i % 5 == 0 ? MOST_TASKS : between(1, 6),
+                      UINT32_MAX);
             compare_texts(&text);       /* now and then a task is too dear */
         }
+    }
+}
+
+/* The idle line where it may stand, twice, and where it may not. */
+static void compare_idle(void)
+{
+    static const char *const text[] = {
+        "(slack 1)\n(idle 0)\n(rates 1 2)\n(task (period 1) (cycles 1) (energy 1 2))\n",
+        "(slack 1)\n(idle 4294967295)\n(rates 1 2)\n(task (period 1) (cycles 1) (energy 1 2))\n",
+        "(slack 1)\n(idle 7)\n(idle 7)\n(rates 1 2)\n(task (period 1) (cycles 1) (energy 1 2))\n",
+        "(slack 1)\n(rates 1 2)\n(idle 7)\n(task (period 1) (cycles 1) (energy 1 2))\n",
+        "(slack 1)\n(chip xscale)\n(idle 7)\n(task (period 1) (cycles 1))\n",
+        "(slack 1)\n(rates 1 2)\n(task (period 1) (cycles 1) (energy 1 2))\n(idle 7)\n",
+        "(idle 7)\n(slack 1)\n(rates 1 2)\n(task (period 1) (cycles 1) (energy 1 2))\n",
+        "(slack 1)\n(idle)\n(rates 1 2)\n(task (period 1) (cycles 1) (energy 1 2))\n",
+    };
+    static struct text copy;
+
+    for (size_t i = 0; i < sizeof text / sizeof *text; i++) {
+        copy.len = strlen(text[i]);
+        memcpy(copy.byte, text[i], copy.len);
+        compare_texts(&copy);
     }
 }
 
@@ -361,6 +393,7 @@ static void compare(const struct text *longest)
         compare_round(&list);
     }
     compare_chips();
+    compare_idle();
     printf("%" PRIu64 " calls answered alike\n", compared);
 }
 
@@ -430,7 +463,7 @@ static void measure_chip(size_t chip, uint32_t tasks, int calls, int repetitions
     char name[32];
 
     for (int s = 0; s < MOST_SETS; s++)
-        chip_text(&texts[s], chips[chip].name, tasks, chips[chip].most_cycles);
+        chip_text(&texts[s], chips[chip].name, NULL, tasks, chips[chip].most_cycles);
     sprintf(name, "read-%s-%" PRIu32, chips[chip].name, tasks);
     measure(name, 1, MOST_SETS, calls, repetitions);
 }

@@ -18,19 +18,20 @@
 
 #define MOST_TASKS 32
 #define MOST_RATES 8
-#define MOST_WORDS (3 + MOST_RATES + MOST_TASKS * (2 + MOST_RATES))
+#define MOST_WORDS (4 + MOST_RATES + MOST_TASKS * (2 + MOST_RATES))
 #define MOST_ENERGY 1000000
 
-/* Rates in cycles a tick, which is a millisecond, and the power in mW at each. */
+/* Rates in cycles a tick, which is a millisecond, and the power in mW at each and
+   while no job runs. */
 struct chip {
-    uint32_t rates, rate[MOST_RATES], power[MOST_RATES];
+    uint32_t rates, rate[MOST_RATES], power[MOST_RATES], idle;
 };
 
 static const struct chip xscale = {
-    5, {150000, 400000, 600000, 800000, 1000000}, {80, 170, 400, 900, 1600},
+    5, {150000, 400000, 600000, 800000, 1000000}, {80, 170, 400, 900, 1600}, 40,
 };
 static const struct chip ppc405lp = {
-    4, {33000, 100000, 266000, 333000}, {19, 72, 600, 750},
+    4, {33000, 100000, 266000, 333000}, {19, 72, 600, 750}, 12,
 };
 
 uint64_t READER(const uint8_t *text, size_t text_len, uint32_t *words, size_t words_len);
@@ -132,8 +133,16 @@ static inline int next_is(const struct reader *r, char byte)
     return r->at < r->end && *r->at == (uint8_t)byte;
 }
 
-/* The line behind the slack's, from its name on: a c begins the chip's, and an x
-   the one chip's name. */
+/* The idle line, from its name on, with the bracket of the line behind it, where
+   an i says that there is one. */
+static inline int idle_line(struct reader *r, uint32_t *word, int *is_given)
+{
+    *is_given = next_is(r, 'i');
+    return !*is_given || (LITERAL(r, "idle ") && number(r, word) && LITERAL(r, ")\n("));
+}
+
+/* The line of the rates or the chip, from its name on: a c begins the chip's, and
+   an x the one chip's name. */
 static inline int clock_line(struct reader *r, uint32_t *words, uint32_t *rates,
                              const struct chip **chip)
 {
@@ -165,13 +174,17 @@ static int script(struct reader *r, uint32_t *words, size_t *count, uint32_t *de
 {
     uint32_t rates, tasks = 0, *at;
     const struct chip *chip;
+    int is_given;
 
     *dear = 0;
     if (!LITERAL(r, "(slack ") || !number(r, &words[0]) || !LITERAL(r, ")\n(")
-        || !clock_line(r, words + 2, &rates, &chip) || !LITERAL(r, ")\n"))
+        || !idle_line(r, &words[1], &is_given) || !clock_line(r, words + 3, &rates, &chip)
+        || !LITERAL(r, ")\n"))
         return 0;
-    words[1] = rates;
-    at = words + 3 + rates;
+    if (!is_given)
+        words[1] = chip != NULL ? chip->idle : 0;
+    words[2] = rates;
+    at = words + 4 + rates;
     while (tasks < 1 || (tasks < MOST_TASKS && next_is(r, '('))) {
         int over = 0;
 
@@ -182,7 +195,7 @@ static int script(struct reader *r, uint32_t *words, size_t *count, uint32_t *de
         if (over && *dear == 0)
             *dear = tasks;
     }
-    words[2 + rates] = tasks;
+    words[3 + rates] = tasks;
     *count = (size_t)(at - words);
     return r->at == r->end;
 }
@@ -209,7 +222,7 @@ uint64_t READER(const uint8_t *text, size_t text_len, uint32_t *words, size_t wo
    that is missing; the list's length where it is whole. Sets `is_whole`. */
 static size_t first_bad(const uint32_t *set, size_t len, int *is_whole)
 {
-    size_t at = 2, rates, tasks;
+    size_t at = 3, rates, tasks;
 
 #define WORD(low, high) \
     if (at >= len || set[at] - (low) > (uint32_t)(high) - (low)) \
@@ -219,14 +232,16 @@ static size_t first_bad(const uint32_t *set, size_t len, int *is_whole)
     *is_whole = 0;
     if (len < 1 || set[0] - 1 > 999)
         return 0;
-    if (len < 2 || set[1] - 2 > 6)
+    if (len < 2 || set[1] > 1000)
         return 1;
-    rates = set[1];
+    if (len < 3 || set[2] - 2 > 6)
+        return 2;
+    rates = set[2];
     for (size_t r = 0; r < rates; r++) {
         WORD(1, 1000000);
     }
     WORD(1, 32);
-    tasks = set[2 + rates];
+    tasks = set[3 + rates];
     for (size_t t = 0; t < tasks; t++) {
         WORD(1, 10000000);
         WORD(1, 4000000000u);
@@ -242,7 +257,7 @@ static size_t first_bad(const uint32_t *set, size_t len, int *is_whole)
 /* Check 3: the place of the first rate not above the one before it, or 0. */
 static size_t first_fall(const uint32_t *set)
 {
-    for (size_t at = 3; at < 2 + (size_t)set[1]; at++)
+    for (size_t at = 4; at < 3 + (size_t)set[2]; at++)
         if (set[at] <= set[at - 1])
             return at;
     return 0;
@@ -257,13 +272,15 @@ static inline unsigned digits(uint32_t v)
 
 static size_t bytes_needed(const uint32_t *set, size_t len)
 {
-    size_t rates = set[1], tasks = set[2 + rates];
+    size_t rates = set[2], tasks = set[3 + rates];
     /* the fixed bytes of the lines, and a space before each rate and energy */
     size_t bytes = 17 + rates + tasks * (36 + rates);
 
+    if (set[1] != 0)
+        bytes += 8 + digits(set[1]);
     for (size_t at = 0; at < len; at++)
         bytes += digits(set[at]);
-    return bytes - digits(set[1]) - digits(set[2 + rates]);
+    return bytes - digits(set[1]) - digits(set[2]) - digits(set[3 + rates]);
 }
 
 static inline uint8_t *put(uint8_t *at, const char *form, size_t len)
@@ -307,14 +324,18 @@ uint64_t WRITER(const uint32_t *set, size_t set_len, uint8_t *text, size_t text_
         return refusal(3, place);
     if ((needed = bytes_needed(set, set_len)) > text_len)
         return refusal(6, needed);
-    rates = set[1];
-    tasks = set[2 + rates];
+    rates = set[2];
+    tasks = set[3 + rates];
     at = PUT(at, "(slack ");
     at = put_number(at, set[0]);
+    if (set[1] != 0) {
+        at = PUT(at, ")\n(idle ");
+        at = put_number(at, set[1]);
+    }
     at = PUT(at, ")\n(rates");
-    at = put_spaced(at, set + 2, rates);
+    at = put_spaced(at, set + 3, rates);
     at = PUT(at, ")\n");
-    task = set + 3 + rates;
+    task = set + 4 + rates;
     for (size_t t = 0; t < tasks; t++, task += 2 + rates) {
         at = PUT(at, "(task (period ");
         at = put_number(at, task[0]);

@@ -119,6 +119,7 @@ static void make_list(struct list *list, const struct tasks *t)
     uint32_t *at = list->set;
 
     *at++ = 100;
+    *at++ = 0;
     *at++ = RATES;
     for (uint32_t j = 0; j < RATES; j++)
         *at++ = rate[j];
@@ -147,8 +148,8 @@ static uint64_t eight_bytes(const uint8_t *bytes)
 /* Periods and job times of a set under a plan. */
 static void make_tasks(struct tasks *t, const struct list *list, uint32_t span)
 {
-    uint32_t rates = list->set[1];
-    const uint32_t *rate = list->set + 2, *task = rate + rates + 1;
+    uint32_t rates = list->set[2];
+    const uint32_t *rate = list->set + 3, *task = rate + rates + 1;
 
     t->count = (uint32_t)list->plan_len;
     t->span = span;

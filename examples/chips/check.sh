@@ -20,12 +20,21 @@ list_of() {
         BEGIN {
             megahertz["xscale"] = "150 400 600 800 1000"
             milliwatts["xscale"] = "80 170 400 900 1600"
+            own["xscale"] = 40
             megahertz["ppc405lp"] = "33 100 266 333"
             milliwatts["ppc405lp"] = "19 72 600 750"
+            own["ppc405lp"] = 12
+            idle = -1
         }
         { gsub(/[()]/, "") }
         $1 == "slack" { slack = $2 }
-        $1 == "chip" { rates = split(megahertz[$2], mhz); split(milliwatts[$2], mw) }
+        $1 == "idle" { idle = $2 }
+        $1 == "chip" {
+            rates = split(megahertz[$2], mhz)
+            split(milliwatts[$2], mw)
+            if (idle < 0)
+                idle = own[$2]
+        }
         $1 == "task" {
             tasks++
             lines = lines $3 " " $5
@@ -34,17 +43,18 @@ list_of() {
             lines = lines "\n"
         }
         END {
-            printf "%s\n%d", slack, rates
+            printf "%s %s\n%d", slack, idle, rates
             for (r = 1; r <= rates; r++)
                 printf " %d", mhz[r] * 1000
             printf "\n%d\n%s", tasks, lines
         }' "$1"
 }
 
-# text_of LIST: the list as a text with its rates and energies.
+# text_of LIST: the list as a text with its idle energy, rates and energies.
 text_of() {
     awk '
         NR == 1 { print "(slack " $1 ")" }
+        NR == 1 && $2 > 0 { print "(idle " $2 ")" }
         NR == 2 { sub(/^[0-9]+/, ""); print "(rates" $0 ")" }
         NR > 3 {
             front = "(task (period " $1 ") (cycles " $2 ") (energy"
@@ -74,6 +84,15 @@ for chip in xscale ppc405lp; do
     text_of "$list" >"$out/$chip-given.text"
     ./plan "$out/$chip-given.text" | diff "$cases/$chip.out" - >&2 ||
         fail "$chip.text with its rates and energies has another plan"
+    # An idle line overrides the chip's own energy, and an idle line of 0 is as none where there are rates.
+    sed '1a (idle 0)' "examples/chips/$chip.text" >"$out/$chip-none.text"
+    list_of "$out/$chip-none.text" >"$out/$chip-none.list"
+    text_of "$out/$chip-none.list" >"$out/$chip-none-given.text"
+    sed '1a (idle 0)' "$out/$chip-none-given.text" >"$out/$chip-zero-given.text"
+    for text in none none-given zero-given; do
+        ./plan "$out/$chip-$text.text" | diff "$cases/$chip-idle-0.out" - >&2 ||
+            fail "$chip.text with an idle energy of 0 has another plan as $chip-$text.text"
+    done
     target/examples/sheet 1000 <"$list" >"$out/$chip.sheet" || fail "the sheet of $chip.text ends with $?"
     lines_of "$out/$chip.sheet" | diff "$cases/$chip.out" - >&2 || fail "the sheet of $chip.text has another plan"
 done

@@ -15,7 +15,7 @@ short_of_memory() (
     ulimit -v 12000
     "$program" 1000 <"$cases/$1.in"
 )
-no_numbers() { echo "100 3 two" | "$program" 1000; }
+no_numbers() { echo "100 0 three" | "$program" 1000; }
 no_tick() { "$program" 0 <"$cases/s.in"; }
 for name in s refused-7; do
     gives_up "$name on a full disk" "the sheet cannot be written" full "$name"

@@ -10,8 +10,8 @@
    be written: then standard error says which.
 
    All arithmetic is in whole numbers. What is rounded is rounded up, so that no rounding makes a page promise too much.
-   Energies are those of the jobs, as the set gives them: what is drawn while no job runs is in no word of a set, and so
-   it is not counted. */
+   The energy is that of the jobs, as the set gives it, and what the set's idle energy comes to in the ticks in which no
+   job runs; the page has both apart, and says so where the set counts nothing for waiting. */
 
 #include <ctype.h>
 #include <inttypes.h>
@@ -20,8 +20,12 @@
 
 #include "../../include/seedspell.h"
 
+#if SEEDSPELL_LIST_VERSION != 2
+#error "the sheet builder reads lists with the idle energy behind the slack"
+#endif
+
 #define MOST_TASKS 32
-#define MOST_WORDS (3 + 8 + MOST_TASKS * (2 + 8))       /* of a set with 8 rates and 32 tasks */
+#define MOST_WORDS (4 + 8 + MOST_TASKS * (2 + 8))       /* of a set with 8 rates and 32 tasks */
 #define DAY UINT64_C(86400000000)                       /* in microseconds */
 #define LONGEST_TICK 1000000000
 
@@ -30,14 +34,25 @@ static uint32_t set[MOST_WORDS + 1];
 static size_t set_len;
 static uint32_t plan[MOST_TASKS];
 
-static uint32_t rates(void)
+static uint32_t idle_energy(void)
 {
     return set[1];
 }
 
+static uint32_t rates(void)
+{
+    return set[2];
+}
+
 static uint32_t tasks(void)
 {
-    return set[2 + rates()];
+    return set[3 + rates()];
+}
+
+/* The words of task number k: its period, its cycles, and its energy at rate number r at place 1 + r. */
+static const uint32_t *task(size_t k)
+{
+    return set + 4 + rates() + (k - 1) * (2 + rates());
 }
 
 static _Noreturn void give_up(const char *why)
@@ -130,14 +145,16 @@ static void print_place(size_t at)
     if (at == 0) {
         printf("the slack");
     } else if (at == 1) {
+        printf("the idle energy");
+    } else if (at == 2) {
         printf("the number of rates");
-    } else if (at < 2 + (size_t)rates()) {
-        printf("rate number %zu", at - 1);
-    } else if (at == 2 + (size_t)rates()) {
+    } else if (at < 3 + (size_t)rates()) {
+        printf("rate number %zu", at - 2);
+    } else if (at == 3 + (size_t)rates()) {
         printf("the number of tasks");
     } else {
-        k = (at - 3 - rates()) / (2 + rates()) + 1;
-        of_task = (at - 3 - rates()) % (2 + rates());
+        k = (at - 4 - rates()) / (2 + rates()) + 1;
+        of_task = (at - 4 - rates()) % (2 + rates());
         if (k > tasks())
             printf("a word after those of the last task");
         else if (of_task == 0)
@@ -157,12 +174,14 @@ static const char *range_of(size_t at)
     if (at == 0)
         return "1 to 1000 thousandths";
     if (at == 1)
+        return "0 to 1000 microjoules a tick";
+    if (at == 2)
         return "2 to 8";
-    if (at < 2 + (size_t)rates())
+    if (at < 3 + (size_t)rates())
         return "1 to 1000000 cycles a tick";
-    if (at == 2 + (size_t)rates())
+    if (at == 3 + (size_t)rates())
         return "1 to 32";
-    of_task = (at - 3 - rates()) % (2 + rates());
+    of_task = (at - 4 - rates()) % (2 + rates());
     if (of_task == 0)
         return "1 to 10000000 ticks";
     return of_task == 1 ? "1 to 4000000000 cycles" : "1 to 1000000 microjoules";
@@ -170,7 +189,7 @@ static const char *range_of(size_t at)
 
 static int is_left_over(size_t at)
 {
-    return at >= 2 && at > 2 + (size_t)rates() && (at - 3 - rates()) / (2 + rates()) >= tasks();
+    return at >= 3 && at > 3 + (size_t)rates() && (at - 4 - rates()) / (2 + rates()) >= tasks();
 }
 
 static void explain_word(size_t at)
@@ -187,6 +206,27 @@ static void explain_word(size_t at)
         print_place(at);
         printf(", holds %" PRIu32 ".\nTo mend: give %s.\n", set[at], range_of(at));
     }
+}
+
+/* The ticks that a job of task number k takes at rate number r. */
+static uint64_t job_time(size_t k, size_t r)
+{
+    uint64_t cycles = task(k)[1], rate = set[2 + r];
+
+    return (cycles + rate - 1) / rate;
+}
+
+/* An energy below what waiting would draw; all words are in their ranges here. */
+static void explain_energy(size_t at)
+{
+    size_t k = (at - 4 - rates()) / (2 + rates()) + 1, r = (at - 4 - rates()) % (2 + rates()) - 1;
+    uint64_t time = job_time(k, r);
+
+    printf("Place %zu, ", at);
+    print_place(at);
+    printf(", holds %" PRIu32 ". Such a job takes %" PRIu64 " ticks, and waiting draws %" PRIu64 " in these, %" PRIu32
+           " a tick.\n", set[at], time, idle_energy() * time, idle_energy());
+    printf("To mend: give all that the job draws, also what waiting would draw; or a lower idle energy.\n");
 }
 
 static void explain(uint32_t number, uint32_t second)
@@ -207,6 +247,9 @@ static void explain(uint32_t number, uint32_t second)
         print_place(second);
         printf(", holds %" PRIu32 ": with it the least common multiple of the periods passes 10000000 ticks.\n", set[second]);
         printf("To mend: choose periods that are multiples of one another, or nearly so.\n");
+        break;
+    case SEEDSPELL_REFUSED_ENERGY_BELOW_IDLE:
+        explain_energy(second);
         break;
     case SEEDSPELL_REFUSED_NO_PLAN_FITS:
         printf("With every task at rate number %" PRIu32 ", the highest, the jobs still take more ticks than there are.\n", rates());
@@ -253,15 +296,25 @@ static uint32_t clock_setting(const uint32_t *settings, uint32_t rate_number)
 
 static void print_boot_table(void)
 {
-    const uint32_t *settings = set + 2;                 /* the set's own rates: M entries, 0 to M - 1 */
+    const uint32_t *settings = set + 3;                 /* the set's own rates: M entries, 0 to M - 1 */
 
     printf("BOOT TABLE\ntask  rate  clock setting (cycles a tick)\n");
     for (uint32_t k = 1; k <= tasks(); k++)
         printf("%4" PRIu32 "  %4" PRIu32 "  %" PRIu32 "\n", k, plan[k - 1], clock_setting(settings, plan[k - 1]));
 }
 
-/* A job takes a tick at least and 1,000,000 microjoules at most, and a day has at most 8.64e10 ticks: so a day's energy
-   is at most 8.64e16 microjoules. */
+/* The energy of the plan's jobs over the hyper-period. */
+static uint64_t jobs_energy(uint64_t span)
+{
+    uint64_t energy = 0;
+
+    for (uint32_t k = 1; k <= tasks(); k++)
+        energy += span / task(k)[0] * task(k)[1 + plan[k - 1]];
+    return energy;
+}
+
+/* A job takes a tick at least and 1,000,000 microjoules at most, a tick without one takes less, and a day has at most
+   8.64e10 ticks: so a day's energy is at most 8.64e16 microjoules. */
 static void print_battery_page(const uint64_t *planned, const uint64_t *walked, uint64_t tick)
 {
     uint64_t unit = planned[0], load = planned[1], span = planned[2], energy = planned[3];
@@ -274,10 +327,14 @@ static void print_battery_page(const uint64_t *planned, const uint64_t *walked, 
            walked[3]);
     printf("load          %" PRIu64 ".%02" PRIu64 " %% of the hyper-period\n", per_cent / 100, per_cent % 100);
     printf("unit          %" PRIu64 " uJ\n", unit);
-    printf("energy        %" PRIu64 " uJ a hyper-period, of the jobs alone\n", energy);
+    printf("jobs          %" PRIu64 " uJ a hyper-period\n", jobs_energy(span));
+    printf("waiting       %" PRIu64 " uJ a hyper-period, %" PRIu32 " uJ an idle tick\n", idle_energy() * (span - load),
+           idle_energy());
+    printf("energy        %" PRIu64 " uJ a hyper-period, jobs and waiting together\n", energy);
     printf("              %" PRIu64 ".%06" PRIu64 " J a day\n", per_day / 1000000, per_day % 1000000);
     printf("              within %" PRIu32 ".%" PRIu32 " %% of the least\n", set[0] / 10, set[0] % 10);
-    printf("not counted   waiting: what is drawn while no job runs\n");
+    if (idle_energy() == 0)
+        printf("not counted   what waiting draws: the set has 0 for it\n");
 }
 
 /* Ends the run, once all that was printed has reached standard output: until here it may only have been collected. */
@@ -313,6 +370,9 @@ int main(int argc, char **argv)
     read_results(results, walked);
     if (returned != 0 || walked[0] != 1 || walked[1] != planned[1] || walked[1] + walked[2] != planned[2])
         give_up("the walk does not bear out the plan: host and archive do not belong together");
+    /* And the energy is that of the jobs, by the set's own words, and of the ticks that the walk found idle. */
+    if (planned[3] != jobs_energy(planned[2]) + idle_energy() * walked[2])
+        give_up("the energy is not that of jobs and waiting: host and archive do not belong together");
 
     print_boot_table();
     print_battery_page(planned, walked, tick);
