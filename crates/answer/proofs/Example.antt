@@ -11,7 +11,7 @@ use Rattle.selection.specs.Plan.{Fitting}
 use Rattle.layout.specs.Words.{headKinds, extraKinds, taskCount}
 use Rattle.layout.specs.declared.Layout.the-variants.{Ordinary}
 use Rattle.taskset.specs.Quantities.{hyperPeriod, problem, walkTasks, workNeeded}
-use Rattle.taskset.specs.Refusals.{Accepts, _▹_, wordChecks, hyperCheck, workCheck, roomCheck, noneCheck, readyChecks, plannerChecks}
+use Rattle.taskset.specs.Refusals.{Accepts, _▹_, wordChecks, idleCheck, energyChecks, hyperCheck, workCheck, roomCheck, noneCheck, readyChecks, plannerChecks}
 use Rattle.taskset.specs.Calls.{walkValues, outcomeValues, Selected, PlannerGives}
 use Rattle.taskset.specs.declared.PlannerAnswer.the-variants.{Planned}
 use Rattle.taskset.specs.declared.WalkAnswer.the-variants.{Kept}
@@ -39,12 +39,15 @@ module _ (s P out lent words words′ : List ℕ) (unit load hyper energy busy i
       let before = plannerChecks s (length lent) (length words) in
       let a = gives .0 in
       let two = wordChecks Ordinary s in
-      let set = two ▹ hyperCheck Ordinary s in
+      let ten = energyChecks Ordinary s in
+      let set = ten ▹ hyperCheck Ordinary s in
       let five = set ▹ workCheck (workNeeded s) workLent in
       accepts-next (readyChecks s planLent workLent) (noneCheck (Fitting (problem s)))
       (accepts-next five (roomCheck (taskCount Ordinary s) planLent)
       (accepts-next set (workCheck (workNeeded s) workLent)
-      (accepts-next two (hyperCheck Ordinary s) (passed 2 before refl a, (passed 3 before refl a, tt)) (passed 4 before refl a))
+      (accepts-next ten (hyperCheck Ordinary s)
+      (accepts-next two (idleCheck Ordinary s) (passed 2 before refl a, (passed 3 before refl a, tt)) (passed 10 before refl a))
+      (passed 4 before refl a))
       (λ k h. omega (arith, h .0)))
       (λ k h. omega (arith, h .0)))
       (passed 7 before refl a)
@@ -79,10 +82,10 @@ example-printed =
     (subst (λ (w : List ℕ). PrintsPlan w (2 ∷ 1 ∷ []) printed 1 29 30 41 29 1 1) (sym example-words) plan)
 
 -- A text with a chip prints its four lines too; and where an energy is over the largest, the one line of refusal 9.
-chip-plan : PrintsPlan chip-set (2 ∷ 2 ∷ []) chip-printed 128 20 40 1440 20 20 0
+chip-plan : PrintsPlan chip-set (2 ∷ 2 ∷ []) chip-printed 128 20 40 1680 20 20 0
 unfolding chip-set headKinds extraKinds
 chip-plan =
-    prints chip-set (2 ∷ 2 ∷ []) chip-printed (replicate 2 0) (replicate 51 0) (replicate 51 0) 128 20 40 1440 20 20 0
+    prints chip-set (2 ∷ 2 ∷ []) chip-printed (replicate 2 0) (replicate 51 0) (replicate 51 0) 128 20 40 1680 20 20 0
     (cases .planned-chip (replicate 2 0) (replicate 51 0) refl refl)
     (omega arith) (omega arith) refl (cases .walk-chip .1) chip-lines
 
@@ -90,12 +93,12 @@ pub chip-example-printed : Prints ppc405lp chip-printed
 unfolding chip-set
 chip-example-printed =
     let s = underChip 500 Ppc405lp 40 1000000 20 500000 in
-    planned s (2 ∷ 2 ∷ []) 128 20 40 1440 20 20 0
+    planned s (2 ∷ 2 ∷ []) 128 20 40 1680 20 20 0
     (record {
       accepts = takes s ppc405lp setLent (chips .ppc405lp-text) ppc405lp-within (words-length s (chips .ppc405lp-text .script));
       text = chips .ppc405lp-text;
     })
-    (subst (λ (w : List ℕ). PrintsPlan w (2 ∷ 2 ∷ []) chip-printed 128 20 40 1440 20 20 0)
+    (subst (λ (w : List ℕ). PrintsPlan w (2 ∷ 2 ∷ []) chip-printed 128 20 40 1680 20 20 0)
     (sym (chips .ppc405lp-words)) chip-plan)
 
 pub over-printed : Prints (scriptText tooMuch) (bytes "(refused 9 2)\n")

@@ -22,7 +22,7 @@ use Rattle.taskset.proofs.Checks.{accepts-but-last, accepts-next, refuses-uniqu
 use Rattle.taskset.proofs.Sets.{IsSet}
 use Rattle.layout.specs.declared.Layout.the-variants.{Ordinary}
 use Rattle.taskset.proofs.Unique.{planner-single, selected-unique, short-single, single-next, refusal-unique}
-use Rattle.taskset.proofs.DemandThree.{plan-given, walk-decides, refused-7-iff, ready-set, ready-not-7}
+use Rattle.taskset.proofs.DemandThree.{plan-given, walk-decides, refused-7-iff, ready-set, ready-covered, ready-not-7}
 use Rattle.taskset.proofs.Copied.{SameCopied, count-is, copied-one}
 use Rattle.text.specs.Text.{Script, WellFormed, FirstBad, words}
 use Rattle.text.proofs.Sizes.{text-length}
@@ -33,8 +33,11 @@ use Rattle.answer.specs.Answer.{workLent, planLent, setLent, PrintsPlan,
 
 -- ---- of a set that the planner takes
 module _ (s : List ℕ) (accepts : Accepts (plannerChecks s planLent workLent)) where
+  ready : Accepts (readyChecks s planLent workLent)
+  ready = accepts-but-last (readyChecks s planLent workLent) (noneCheck (Fitting (problem s))) accepts
+
   pub is-set : IsSet Ordinary s
-  is-set = ready-set s planLent workLent (accepts-but-last (readyChecks s planLent workLent) (noneCheck (Fitting (problem s))) accepts)
+  is-set = ready-set s planLent workLent ready
 
   pub tasks-few : taskCount Ordinary s ≤ mostTasks
   tasks-few = is-set .whole .tasks-range .1
@@ -48,7 +51,7 @@ module _ (s : List ℕ) (accepts : Accepts (plannerChecks s planLent workLent)) 
 
     -- Demand 3.
     pub promise : PlanPromise s P energy
-    promise = plan-given s is-set P unit load hyper energy selected
+    promise = plan-given s is-set (ready-covered s planLent workLent ready) P unit load hyper energy selected
 
     -- After a plan the walk is kept: there is no other line.
     pub walk-kept : IsKept (walk (walkTasks Ordinary s P) (hyperPeriod Ordinary s))

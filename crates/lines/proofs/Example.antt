@@ -16,9 +16,9 @@ printed-lines = refl
 
 -- The lines of a text with the chip ppc405lp (document 02, note 2), and of its refusal 9.
 unfoldable pub chip-printed : List ℕ
-chip-printed = bytes "(plan (unit 128) (load 20 40) (energy 1440))\n(rate 1 2)\n(rate 2 2)\n(walk (busy 20) (idle 20) (preempted 0))\n"
+chip-printed = bytes "(plan (unit 128) (load 20 40) (energy 1680))\n(rate 1 2)\n(rate 2 2)\n(walk (busy 20) (idle 20) (preempted 0))\n"
 
-pub chip-lines : chip-printed ≡ planLine 128 20 40 1440 ++ (rateLines 1 (2 ∷ 2 ∷ []) ++ walkLine 20 20 0)
+pub chip-lines : chip-printed ≡ planLine 128 20 40 1680 ++ (rateLines 1 (2 ∷ 2 ∷ []) ++ walkLine 20 20 0)
 unfolding chip-printed planLine rateLine walkLine decimal digits
 chip-lines = refl
 
