@@ -1,9 +1,9 @@
 -- The table in code is the definition's, and every chip's entry is inside it.
 -- Assumes nothing.
+use Prim.Native.Nat.{ℕ}
 use mathlib.Core.Path.{ap}
 use native.Mathlib.Omega.{arith}
 use lib.ListN.{getD}
-use Prim.Native.Nat.{ℕ}
 use Rattle.chips.specs.Chips.{idleFigures}
 use Rattle.chips.proofs.Rising.{idle-inside}
 use borrow.Author.Needs.{needs}

@@ -89,13 +89,13 @@ head-read : tie.Need-returns-3
 head-read c =
     let x = c .before .before .before in
     let e = sym (x .idle-line .ensures) ∙ ap ofIdle (c .before .idle .given .1) in
-    sym (rw (behind (x .before .before), e))
+    sym (behind (x .before .before) ∙ ap (mapRes (both _)) e)
 
 no-idle : tie.Need-returns-4
 no-idle c =
     let x = c .before .before .before in
     let e = sym (x .idle-line .ensures) ∙ ap ofIdle (c .before .o .given .1) in
-    sym (rw (behind (x .before .before), e))
+    sym (behind (x .before .before) ∙ ap (mapRes (both _)) e)
 
 pub head-lines-spec : {M : Type 1} → statement M
 head-lines-spec =

@@ -1,8 +1,8 @@
 -- The first letter tells whether the line stands there.
 -- Assumes nothing.
 use mathlib.Core.Path.{_≡_, sym, ap, _∙_}
-use denote.Ref.{now}
 use mathlib.Core.Option.{some}
+use denote.Ref.{now}
 use borrow.Author.Tests.{not-true, not-false}
 use Rattle.text.specs.Text.{bytes}
 use Rattle.text.proofs.Reading.{got, bad, ext, mapRes, literal, field, readIdleLine, noIdleLine, readIdle, readAt}
