@@ -86,10 +86,10 @@ SENTENCES = {
     'A slack of 0: refusal 2, place 0':
         'slack-of-0 slack-of-0-w p-slack-of-0 t-slack-of-0-8192 a-slack-of-0',
     'Empty list: refusal 2, place 0': 'empty-list empty-list-w p-empty-list t-empty-list-8192',
-    'Rates 4 4: refusal 3, place 3':
+    'Rates 4 4: refusal 3, place 3, which is 4 since note 4':
         'rates-4-4 rates-4-4-w p-rates-4-4 t-rates-4-4-8192 a-rates-4-4',
     'Empty text: refusal 1, offset 0': 'r-empty a-empty',
-    'Two rates, periods 9,999,999 and 10,000,000: refusal 4, place 9':
+    'Two rates, periods 9,999,999 and 10,000,000: refusal 4, place 9, which is 10 since note 4':
         'periods-9999999-10000000 periods-9999999-10000000-w p-periods-9999999-10000000 '
         'a-periods-9999999-10000000',
     'One period of 10,000,000 passes':
@@ -127,27 +127,27 @@ SENTENCES = {
     'Note 1: 2 with place 0 for N outside 1 to 32':
         'g-count-0-lent-400 g-length-01 g-length-32 g-count-33-lent-400 '
         'g-count-4294967295-lent-400',
-    'Note 1: then 6': 'g-length-01-short g-length-32-short g-count-0-lent-0 g-count-33-lent-238',
+    'Note 1: then 6': 'g-length-01-short g-length-32-short g-count-0-lent-0 g-count-33-lent-239',
 
     'Note 2: A line (chip xscale) or (chip ppc405lp) replaces the rates line':
-        'r-chip-worked-01-lent-22 r-chip-worked-02-lent-19 r-chip-name-11 r-chip-name-13 '
+        'r-chip-worked-01-lent-23 r-chip-worked-02-lent-20 r-chip-name-11 r-chip-name-13 '
         'r-chip-xscale-then-rates r-chip-xscale-after-rates r-chip-ppc405lp-then-rates '
         'r-chip-ppc405lp-after-rates r-chip-xscale-twice r-chip-ppc405lp-twice',
     'Note 2: task lines then omit the energy form':
         'r-chip-xscale-energies-at-1 r-chip-ppc405lp-energies-at-1 r-chip-xscale-energies-at-32 '
         'r-chip-none-bare r-chip-none-bare-at-2 r-chip-xscale-rates-given-bare',
     'Note 2: One tick is a millisecond, so rates are MHz x 1,000':
-        'r-chip-worked-01-lent-22 r-chip-worked-02-lent-19 a-chip-printed-03 a-chip-printed-04 '
+        'r-chip-worked-01-lent-23 r-chip-worked-02-lent-20 a-chip-printed-03 a-chip-printed-04 '
         'a-chip-printed-05 a-chip-printed-07',
     'Note 2: an energy is power in mW times the job time':
-        'r-chip-worked-01-lent-22 r-chip-worked-02-lent-19 r-chip-worked-05-lent-22 '
-        'r-chip-worked-06-lent-19',
+        'r-chip-worked-01-lent-23 r-chip-worked-02-lent-20 r-chip-worked-05-lent-23 '
+        'r-chip-worked-06-lent-20',
     'Note 2: xscale 150, 400, 600, 800, 1000 MHz at 80, 170, 400, 900, 1600 mW':
-        'r-chip-worked-03-lent-22 r-chip-xscale-cycles-1',
+        'r-chip-worked-03-lent-23 r-chip-xscale-cycles-1',
     'Note 2: ppc405lp 33, 100, 266, 333 MHz at 19, 72, 600, 750 mW':
-        'r-chip-worked-04-lent-19 r-chip-ppc405lp-cycles-1',
+        'r-chip-worked-04-lent-20 r-chip-ppc405lp-cycles-1',
     'Note 2: Reading gives the ordinary list, expanded':
-        'r-chip-worked-01-lent-22 a-chip-printed-01 a-chip-printed-01-given a-chip-printed-02 '
+        'r-chip-worked-01-lent-23 a-chip-printed-01 a-chip-printed-01-given a-chip-printed-02 '
         'a-chip-printed-02-given r-chip-list-7-of-chip p-chip-list-7 c-chip-list-7',
     'Note 2: the writer writes that list in the old form': 't-chip-list-1 t-chip-list-2 t-chip-list-7',
     'Note 2: The round trip is about lists and holds for these too':
@@ -163,7 +163,7 @@ SENTENCES = {
         'r-chip-ppc405lp-of-32-dear-31-32 r-chip-ppc405lp-of-32-dear-9-10-and-on',
     'Note 2: after 1, before 6':
         'r-chip-xscale-1-before-9-line-end r-chip-ppc405lp-1-before-9-cut r-chip-xscale-9-lent-0 '
-        'r-chip-xscale-9-lent-21 r-chip-xscale-6-lent-21 r-chip-xscale-6-lent-22 '
+        'r-chip-xscale-9-lent-22 r-chip-xscale-6-lent-22 r-chip-xscale-6-lent-23 '
         'a-chip-xscale-slack-0-and-9 a-chip-ppc405lp-9-before-4',
 
     'Note 3: The hyper-period is as it was for every list':
