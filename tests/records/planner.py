@@ -28,7 +28,9 @@ def judged_plan(name, words, plan_len, work_len):
     if answer[0] == 'planned' or answer[1] > 3:
         # Checks 2 and 3 are passed, and 10 comes before all that follows.
         below = [place for place, idle in waiting(words) if words[place] < idle]
-        assert (answer == refused(10, below[0])) if below else answer[1] != 10, name
+        if below:
+            assert answer == refused(10, below[0]), name
+        assert below or answer[:2] != ('refused', 10), name
     if answer == refused(7, 0) or answer[0] == 'planned':
         if few:
             assert r.plan(words, plan_len, work_len, 'table') == answer, name
