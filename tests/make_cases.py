@@ -4,9 +4,9 @@ program's call and the load generator, and their answers.
     python3 tests/make_cases.py           writes crates/cases/stdin and stdout
     python3 tests/make_cases.py --check   writes nothing and compares with both
 
-Each call has a module of records/, chips.py there has those of processors by name,
-for all calls, and shared.py has what they share. The order of the records is that of
-the groups in make, below.
+Each call has a module of records/; chips.py there has those of processors by name and
+idle.py those of the idle energy, for all calls, and shared.py has what they share. The
+order of the records is that of the groups in make, below.
 
 One record a line, one space between items, each line ended by byte 10:
 
@@ -36,7 +36,9 @@ An answer is a line too, the record's name and then what the reference says:
 Most answers come from the reference alone. Where a case is worked by hand or
 stands in the scope document, the answer is written beside it as well, and the
 reference must agree with it. A planner answer of a set with few plans is made
-in both of the reference's ways and judged by looking at every plan. Of every
+in both of the reference's ways and judged by looking at every plan; energies below
+that of an idle processor are looked for once more, and a set with an idle energy is
+planned without it too, with energies that are less by it. Of every
 text a reader of the usual kind must say the same as the reference, which goes
 by the definition: which bytes begin some well-formed text. Words that were read
 or written are put into a text once more, in another way; those of a chip are worked
@@ -56,11 +58,11 @@ from pathlib import Path
 
 sys.dont_write_bytecode = True
 
-from records import checks, chips, generator, planner, program, reader, walk, writer
+from records import checks, chips, generator, idle, planner, program, reader, walk, writer
 from records.shared import answers, names, questions
 
 FOLDER = Path(__file__).resolve().parent.parent / 'crates' / 'cases'
-MOST_BYTES = 3_000_000          # of all records
+MOST_BYTES = 3_400_000          # of all records
 
 
 # --------------------------------------------------------------- the sentences
@@ -86,10 +88,10 @@ SENTENCES = {
     'A slack of 0: refusal 2, place 0':
         'slack-of-0 slack-of-0-w p-slack-of-0 t-slack-of-0-8192 a-slack-of-0',
     'Empty list: refusal 2, place 0': 'empty-list empty-list-w p-empty-list t-empty-list-8192',
-    'Rates 4 4: refusal 3, place 3':
+    'Rates 4 4: refusal 3, place 3, which is 4 since note 4':
         'rates-4-4 rates-4-4-w p-rates-4-4 t-rates-4-4-8192 a-rates-4-4',
     'Empty text: refusal 1, offset 0': 'r-empty a-empty',
-    'Two rates, periods 9,999,999 and 10,000,000: refusal 4, place 9':
+    'Two rates, periods 9,999,999 and 10,000,000: refusal 4, place 9, which is 10 since note 4':
         'periods-9999999-10000000 periods-9999999-10000000-w p-periods-9999999-10000000 '
         'a-periods-9999999-10000000',
     'One period of 10,000,000 passes':
@@ -127,27 +129,27 @@ SENTENCES = {
     'Note 1: 2 with place 0 for N outside 1 to 32':
         'g-count-0-lent-400 g-length-01 g-length-32 g-count-33-lent-400 '
         'g-count-4294967295-lent-400',
-    'Note 1: then 6': 'g-length-01-short g-length-32-short g-count-0-lent-0 g-count-33-lent-238',
+    'Note 1: then 6': 'g-length-01-short g-length-32-short g-count-0-lent-0 g-count-33-lent-239',
 
     'Note 2: A line (chip xscale) or (chip ppc405lp) replaces the rates line':
-        'r-chip-worked-01-lent-22 r-chip-worked-02-lent-19 r-chip-name-11 r-chip-name-13 '
+        'r-chip-worked-01-lent-23 r-chip-worked-02-lent-20 r-chip-name-11 r-chip-name-13 '
         'r-chip-xscale-then-rates r-chip-xscale-after-rates r-chip-ppc405lp-then-rates '
         'r-chip-ppc405lp-after-rates r-chip-xscale-twice r-chip-ppc405lp-twice',
     'Note 2: task lines then omit the energy form':
         'r-chip-xscale-energies-at-1 r-chip-ppc405lp-energies-at-1 r-chip-xscale-energies-at-32 '
         'r-chip-none-bare r-chip-none-bare-at-2 r-chip-xscale-rates-given-bare',
     'Note 2: One tick is a millisecond, so rates are MHz x 1,000':
-        'r-chip-worked-01-lent-22 r-chip-worked-02-lent-19 a-chip-printed-03 a-chip-printed-04 '
+        'r-chip-worked-01-lent-23 r-chip-worked-02-lent-20 a-chip-printed-03 a-chip-printed-04 '
         'a-chip-printed-05 a-chip-printed-07',
     'Note 2: an energy is power in mW times the job time':
-        'r-chip-worked-01-lent-22 r-chip-worked-02-lent-19 r-chip-worked-05-lent-22 '
-        'r-chip-worked-06-lent-19',
+        'r-chip-worked-01-lent-23 r-chip-worked-02-lent-20 r-chip-worked-05-lent-23 '
+        'r-chip-worked-06-lent-20',
     'Note 2: xscale 150, 400, 600, 800, 1000 MHz at 80, 170, 400, 900, 1600 mW':
-        'r-chip-worked-03-lent-22 r-chip-xscale-cycles-1',
+        'r-chip-worked-03-lent-23 r-chip-xscale-cycles-1',
     'Note 2: ppc405lp 33, 100, 266, 333 MHz at 19, 72, 600, 750 mW':
-        'r-chip-worked-04-lent-19 r-chip-ppc405lp-cycles-1',
+        'r-chip-worked-04-lent-20 r-chip-ppc405lp-cycles-1',
     'Note 2: Reading gives the ordinary list, expanded':
-        'r-chip-worked-01-lent-22 a-chip-printed-01 a-chip-printed-01-given a-chip-printed-02 '
+        'r-chip-worked-01-lent-23 a-chip-printed-01 a-chip-printed-01-given a-chip-printed-02 '
         'a-chip-printed-02-given r-chip-list-7-of-chip p-chip-list-7 c-chip-list-7',
     'Note 2: the writer writes that list in the old form': 't-chip-list-1 t-chip-list-2 t-chip-list-7',
     'Note 2: The round trip is about lists and holds for these too':
@@ -163,13 +165,59 @@ SENTENCES = {
         'r-chip-ppc405lp-of-32-dear-31-32 r-chip-ppc405lp-of-32-dear-9-10-and-on',
     'Note 2: after 1, before 6':
         'r-chip-xscale-1-before-9-line-end r-chip-ppc405lp-1-before-9-cut r-chip-xscale-9-lent-0 '
-        'r-chip-xscale-9-lent-21 r-chip-xscale-6-lent-21 r-chip-xscale-6-lent-22 '
+        'r-chip-xscale-9-lent-22 r-chip-xscale-6-lent-22 r-chip-xscale-6-lent-23 '
         'a-chip-xscale-slack-0-and-9 a-chip-ppc405lp-9-before-4',
 
     'Note 3: The hyper-period is as it was for every list':
         'pair-4194304-2 pair-6250000-32 pairs-by-twos pairs-by-twos-down pairs-by-threes',
     'Note 3: and the place given by refusal 4':
         'pair-8388607-8388608 pair-8388608-8388607 pairs-by-twos-and-3 pairs-by-threes-and-2',
+
+    'Note 4: A line (idle H) may follow the slack line':
+        'r-idle-1010 r-idle-rates-given r-idle-rates-absent r-idle-rates-twice '
+        'r-idle-rates-before-slack r-idle-rates-behind r-idle-xscale-behind r-idle-ppc405lp-behind '
+        'r-idle-rates-behind-a-task r-idle-rates-at-the-end a-idle-1010',
+    'Note 4: H in microjoules per tick, 0 to 1,000':
+        'least-idle-0 least-idle-1000 least-idle-1001 p-least-idle-1001-all t-least-idle-1001 '
+        'm-9-after-bad-idle r-idle-of-1001 a-idle-of-1001 a-idle-of-0 a-idle-of-1000 '
+        'r-idle-rates-number-09 r-idle-rates-number-10',
+    'Note 4: the set list gains H as a word after the slack':
+        'p-idle-s-0 document-set r-document odd-no-idle-word-09 every-word-at-its-most '
+        'r-idle-1010 p-idle-worked-01',
+    'Note 4: 0 if the line is absent':
+        'r-document r-idle-rates-absent r-idle-rates-0 a-idle-absent a-idle-of-0',
+    'Note 4: Chips bring H of their own unless the line is given: 12 for ppc405lp, 40 for xscale':
+        'r-chip-worked-01-lent-23 r-chip-worked-02-lent-20 r-idle-xscale-absent '
+        'r-idle-ppc405lp-absent r-idle-xscale-0 r-idle-ppc405lp-0 r-idle-xscale-given '
+        'r-idle-ppc405lp-own a-chip-printed-01 a-chip-printed-02 a-idle-xscale-absent '
+        'a-idle-xscale-40 a-idle-ppc405lp-absent a-idle-ppc405lp-12',
+    'Note 4: The writer writes the line only if H is above 0':
+        't-idle-0 t-document t-idle-1-of-3-rates-2 t-idle-1010 t-idle-1000-of-8-rates-32 '
+        't-chip-list-1 t-chip-list-2',
+    'Note 4: Units, rounding and selection now use the energy per job less H x job time':
+        'p-idle-worked-01 p-idle-worked-02 p-idle-worked-11 p-raised-s-h-2-slack-100 '
+        'p-raised-s-h-1000-slack-1000 p-left-33-slack-1000-h-64 p-left-0-fastest-1-slack-100 '
+        'p-left-0-slowest-1-slack-100 p-left-alike-100 p-given-alike-100',
+    "Note 4: The reported energy is the plan's task energies plus H x (L - load)":
+        'p-idle-worked-01 p-idle-worked-12 a-idle-1010 p-one-tick-of-l-h-1000 '
+        'p-full-2-4-h-1000 p-most-words-h-249-1000 a-chip-printed-01 a-chip-printed-02',
+    'Note 4: and the 1000 + slack comparison is made between such totals':
+        'p-idle-worked-01 p-by-h-05 p-by-h-10 ri0001',
+    "Note 4: Later places move up by one; document 01's example lists and the generator's hold 0":
+        'rates-4-4 p-rates-4-4 p-periods-9999999-10000000 p-document-set g-worked-0 g-length-32 '
+        'g-length-32-short',
+    'Note 4: 10, an energy below H x job time':
+        'p-ten-least-8 p-ten-least-9 p-ten-least-equal p-ten-pair-9 p-ten-h-1000-time-1000-energy-999999 '
+        'p-ten-h-1000-time-1000-energy-1000000 p-ten-unused-slow p-ten-unused-no-plan '
+        'a-ten a-ten-s a-idle-xscale-80 a-idle-xscale-81 a-idle-ppc405lp-19 a-idle-ppc405lp-20',
+    "Note 4: with the first such energy's place":
+        'p-ten-first-11-of-14 p-ten-first-9-of-19 p-ten-all p-idle-worked-18 p-ten-whole-331',
+    'Note 4: after 3, before 4':
+        'p-3-and-ten-none p-2-at-13-and-ten-none p-ten-and-4-none p-ten-and-7-all p-ten-and-5 '
+        'p-ten-and-6 p-not-ten-4 p-not-ten-7 p-not-ten-5 p-not-ten-6 a-idle-3-before-10 '
+        'a-idle-10-before-4 a-idle-10-before-5 a-idle-10-before-7 a-idle-xscale-9-before-10',
+    'Note 4: and never by walk or writer':
+        'w-ten-1010-1 w-ten-s-2-1 w-ten-and-4 t-ten-1010 t-ten-s t-ten-and-4 r-ten-s c-ten-s',
 }
 
 
@@ -195,7 +243,11 @@ def make():
                   chips.chip_worked, chips.chip_sizes, chips.chip_names, chips.chip_bytes,
                   chips.chip_lines, chips.chip_numbers, chips.chip_nine, chips.chip_programs,
                   chips.chip_lists, chips.random_chips, chips.random_chip_programs,
-                  chips.random_chip_lists):
+                  chips.random_chip_lists, idle.idle_worked, idle.idle_ten, idle.idle_order,
+                  idle.idle_others, idle.idle_nothing_left, idle.idle_units, idle.idle_limits,
+                  idle.idle_lines, idle.idle_bytes, idle.idle_numbers, idle.idle_written,
+                  idle.idle_programs, idle.random_idle_plans, idle.random_idle_programs,
+                  idle.random_idle_texts):
         group()
     for sentence, found in SENTENCES.items():
         assert names.issuperset(found.split()), sentence

@@ -2,8 +2,8 @@
 the load generator.
 
 It follows the words of the scope document, and of document 02 those of note 1 for
-the generator and of note 2 for chips, and is meant to be read beside them. It is
-slow on purpose.
+the generator, of note 2 for chips and of note 4 for the idle energy H, and is meant
+to be read beside them. It is slow on purpose.
 A refusal is ('refused', number, second number).
 Tasks and rates are numbered from 1, places in lists and texts from 0.
 """
@@ -18,12 +18,12 @@ LONGEST = 10_000_000            # the hyper-period is at most this
 LARGEST = 4_294_967_295         # the largest number of a text
 WORKING_WORDS = 16_384          # of the program
 BYTES_READ = 8_192              # by the program
-MOST_WORDS = 3 + 8 + 32 * 10    # of a set with 8 rates and 32 tasks
+MOST_WORDS = 4 + 8 + 32 * 10    # of a set with 8 rates and 32 tasks
 RESULT_BYTES = 32               # of a C call
 ENUMERATED = 20_000             # up to this many plans, all are looked at
 
 Task = namedtuple('Task', 'period cycles energies')
-TaskSet = namedtuple('TaskSet', 'slack rates tasks')
+TaskSet = namedtuple('TaskSet', 'slack idle rates tasks')
 
 
 def refused(number, second):
@@ -47,12 +47,13 @@ def ranges(words):
     so whoever asks has judged them by then.
     """
     yield 1, 1_000                      # the slack G
+    yield 0, 1_000                      # the idle energy H, 'a word after the slack'
     yield 2, 8                          # the rate count M
-    M = words[1]
+    M = words[2]
     for _ in range(M):
         yield 1, 1_000_000              # a rate
     yield 1, 32                         # the task count N
-    N = words[2 + M]
+    N = words[3 + M]
     for _ in range(N):
         yield 1, 10_000_000             # the period
         yield 1, 4_000_000_000          # the cycles
@@ -76,34 +77,45 @@ def check_2(words):
 
 def check_3(words):
     """A rate not above the one before it."""
-    M = words[1]
-    for place in range(3, 2 + M):
+    M = words[2]
+    for place in range(4, 3 + M):
         if not words[place] > words[place - 1]:
             return refused(3, place)
     return None
 
 
+def task_places(words):
+    """The place at which each task begins, with its period."""
+    M, N = words[2], words[3 + words[2]]
+    return [4 + M + task * (2 + M) for task in range(N)]
+
+
 def check_4(words):
     """Hyper-period over 10,000,000."""
-    M, N = words[1], words[2 + words[1]]
     running = 1
-    for task in range(N):
-        place = 3 + M + task * (2 + M)
+    for place in task_places(words):
         running = running * words[place] // gcd(running, words[place])
         if running > LONGEST:
             return refused(4, place)
     return None
 
 
+def check_10(words):
+    """'an energy below H x job time, with the first such energy's place'"""
+    s = decode(words)
+    for place, task in zip(task_places(words), s.tasks):
+        for number, (rate, energy) in enumerate(zip(s.rates, task.energies)):
+            if energy < s.idle * job_time(task, rate):
+                return refused(10, place + 2 + number)
+    return None
+
+
 def decode(words):
     """The set that a list stands for; the list passes check 2."""
-    M, N = words[1], words[2 + words[1]]
-    tasks = []
-    for task in range(N):
-        place = 3 + M + task * (2 + M)
-        tasks.append(Task(words[place], words[place + 1],
-                          list(words[place + 2:place + 2 + M])))
-    return TaskSet(words[0], list(words[2:2 + M]), tasks)
+    M = words[2]
+    tasks = [Task(words[place], words[place + 1], list(words[place + 2:place + 2 + M]))
+             for place in task_places(words)]
+    return TaskSet(words[0], words[1], list(words[3:3 + M]), tasks)
 
 
 def hyper_period(tasks):
@@ -140,6 +152,14 @@ def energy_table(s, L):
             for task in s.tasks]
 
 
+def reduced_table(s, L):
+    """The same of 'the energy per job less H x job time', by which units, rounding
+    and selection go."""
+    return [[None] + [L // task.period * (energy - s.idle * job_time(task, rate))
+                      for energy, rate in zip(task.energies, s.rates)]
+            for task in s.tasks]
+
+
 def rounded_table(energies, d):
     """'The task energy divided by d, rounded up.'"""
     return [[None] + [round_up(energy, d) for energy in row[1:]] for row in energies]
@@ -155,8 +175,11 @@ def load_of(words, rates):
 
 
 def energy_of(words, rates):
+    """'The reported energy is the plan's task energies plus H x (L - load)', of a
+    plan that fits."""
     s = decode(words)
-    return total(energy_table(s, hyper_period(s.tasks)), rates)
+    L = hyper_period(s.tasks)
+    return total(energy_table(s, L), rates) + s.idle * (L - load_of(words, rates))
 
 
 # ----------------------------------------------------------------- which plan
@@ -231,28 +254,29 @@ def words_needed(s):
 
 def plan(words, plan_len, work_len, way=None):
     """way is 'all' (every plan), 'table' (task by task) or None (by size)."""
-    answer = check_set(words)
-    if is_refused(answer):
+    # 10 is 'after 3, before 4'
+    answer = check_2(words) or check_3(words) or check_10(words) or check_4(words)
+    if answer:
         return answer
-    _, M, N, L = answer
     s = decode(words)
+    M, N, L = len(s.rates), len(s.tasks), hyper_period(s.tasks)
     if work_len < words_needed(s):
         return refused(5, words_needed(s))
     if plan_len < N:
         return refused(6, N)
 
-    loads, energies = load_table(s, L), energy_table(s, L)
+    loads, reduced = load_table(s, L), reduced_table(s, L)
     if way is None:
         way = 'all' if M ** N <= ENUMERATED else 'table'
     fitting = fitting_plans(loads, L) if way == 'all' else None
 
     # 'the smallest power of two not below the energy of the plan with every
-    # task at rate M' (that energy is never 0 here)
+    # task at rate M; 1 if that energy is 0'
     unit = 1
-    while unit < total(energies, [M] * N):
+    while unit < total(reduced, [M] * N):
         unit *= 2
     while True:
-        rounded = rounded_table(energies, unit)
+        rounded = rounded_table(reduced, unit)
         if way == 'all':
             chosen = choose_from_all(fitting, loads, rounded)
         else:
@@ -264,7 +288,7 @@ def plan(words, plan_len, work_len, way=None):
         if s.slack * k >= 2_000 * N or unit == 1:
             break
         unit //= 2
-    return ('planned', unit, total(loads, rates), L, total(energies, rates), rates)
+    return ('planned', unit, total(loads, rates), L, energy_of(words, rates), rates)
 
 
 def objection(words, answer, ticks):
@@ -274,11 +298,15 @@ def objection(words, answer, ticks):
     It goes through all plans, one after the other, and takes nothing from the
     ways above: a plan's sums are made anew from the words, and the chosen plan
     is the least of all that fit by rounded energy, load and rate numbers, at
-    the unit of the answer. Up to so many ticks in all, whether a plan fits is
-    seen by walking it.
+    the unit of the answer. Energies are rounded for that without what their jobs'
+    ticks would cost idle, and compared with the slack as they are reported. Up to
+    so many ticks in all, whether a plan fits is seen by walking it.
     """
     s = decode(words)
     M, N, L = len(s.rates), len(s.tasks), hyper_period(s.tasks)
+    if any(s.idle * round_up(task.cycles, rate) > energy for task in s.tasks
+           for rate, energy in zip(s.rates, task.energies)):
+        return 'an energy is below that of an idle processor'
     plans = list(product(range(1, M + 1), repeat=N))
     by_walking = len(plans) * L <= ticks
 
@@ -286,9 +314,15 @@ def objection(words, answer, ticks):
         return sum(L // task.period * round_up(task.cycles, s.rates[rate - 1])
                    for task, rate in zip(s.tasks, rates))
 
-    def energy(rates, d=1):
-        return sum(round_up(L // task.period * task.energies[rate - 1], d)
+    def rounded(rates, d):
+        return sum(round_up(L // task.period * (task.energies[rate - 1]
+                            - s.idle * round_up(task.cycles, s.rates[rate - 1])), d)
                    for task, rate in zip(s.tasks, rates))
+
+    def reported(rates):
+        busy = sum(L // task.period * task.energies[rate - 1]
+                   for task, rate in zip(s.tasks, rates))
+        return busy + s.idle * (L - load(rates))
 
     def fits(rates):
         if by_walking:
@@ -305,13 +339,13 @@ def objection(words, answer, ticks):
     _, unit, its_load, its_span, its_energy, rates = answer
     if its_span != L:
         return 'not the hyper-period'
-    if tuple(rates) not in plans or (its_load, its_energy) != (load(rates), energy(rates)):
+    if tuple(rates) not in plans or (its_load, its_energy) != (load(rates), reported(rates)):
         return 'not the sums of its plan'
     if L <= ticks and walk(words, rates)[:3] != ('kept', its_load, L - its_load):
         return 'the walk of its plan departs'
 
     # The units before it, from the first one on: each falls short.
-    fastest = energy([M] * N)
+    fastest = rounded([M] * N, 1)
     first = 1 if fastest <= 1 else 2 ** (fastest - 1).bit_length()
     units = [first]
     while units[-1] > 1:
@@ -319,15 +353,15 @@ def objection(words, answer, ticks):
     if unit not in units:
         return 'no unit to be tried'
     for d in units[:units.index(unit)]:
-        if s.slack * min(energy(rates, d) for _, rates in fitting) >= 2_000 * N:
+        if s.slack * min(rounded(rates, d) for _, rates in fitting) >= 2_000 * N:
             return 'a larger unit qualifies'
-    k, _, backwards = min((energy(rates, unit), load, rates[::-1])
+    k, _, backwards = min((rounded(rates, unit), load, rates[::-1])
                           for load, rates in fitting)
     if unit > 1 and s.slack * k < 2_000 * N:
         return 'the unit does not qualify'
     if tuple(rates) != backwards[::-1]:
         return 'another plan comes first'
-    least = min(energy(rates) for _, rates in fitting)
+    least = min(reported(rates) for _, rates in fitting)
     if 1_000 * its_energy > (1_000 + s.slack) * least:
         return 'more than the slack above the least energy'
     return None
@@ -450,8 +484,9 @@ def generate(seed, N, room):
     # 'Errors: 2 with place 0 for N outside 1 to 32, then 6.'
     if not 1 <= N <= MOST_GENERATED:
         return refused(2, 0)
-    # 'The set has slack 100 and five rates, 100 x j for rate j.'
-    words = [100, 5] + [100 * j for j in range(1, 6)] + [N]
+    # 'The set has slack 100 and five rates, 100 x j for rate j', and after the slack
+    # 'the generator's hold 0'.
+    words = [100, 0, 5] + [100 * j for j in range(1, 6)] + [N]
     draw = draws(seed)
     for _ in range(N):
         words += generated_task(draw)
@@ -509,6 +544,9 @@ CHIPS = {
     'xscale': [(150, 80), (400, 170), (600, 400), (800, 900), (1_000, 1_600)],
     'ppc405lp': [(33, 19), (100, 72), (266, 600), (333, 750)],
 }
+# 'Chips bring H of their own unless the line is given: 12 for ppc405lp, 40 for
+# xscale.'
+CHIP_IDLE = {'ppc405lp': 12, 'xscale': 40}
 MOST_ENERGY = 1_000_000         # of those worked out here
 
 
@@ -538,23 +576,28 @@ def check_9(tasks):
 # --------------------------------------------------------- the bracketed text
 
 NUMBER = 'number'
-SECOND_LINES = (*range(2, 9), *CHIPS)   # a text has so many rates, or a chip of that name
+# Of the lines before the tasks: whether there is an idle line, and then so many rates,
+# or a chip of that name.
+HEADS = tuple(product((False, True), (*range(2, 9), *CHIPS)))
 
 
 @lru_cache(maxsize=None)
-def shape(second, N):
-    """A well-formed text with that second line and N tasks: its bytes, and NUMBER
-    where a number stands. After a number there is always a byte."""
-    if second in CHIPS:
+def shape(head, N):
+    """A well-formed text with that head and N tasks: its bytes, and NUMBER where a
+    number stands. After a number there is always a byte."""
+    has_idle, clock = head
+    # 'A line (idle H) may follow the slack line'
+    idle = [b'(idle ', NUMBER, b')\n'] if has_idle else []
+    if clock in CHIPS:
         # 'A line (chip xscale) or (chip ppc405lp) replaces the rates line, and
         # task lines then omit the energy form.'
-        line = [b'(chip ', second.encode('ascii'), b')\n']
+        line = [b'(chip ', clock.encode('ascii'), b')\n']
         energies = []
     else:
-        row = [b' ', NUMBER] * second
+        row = [b' ', NUMBER] * clock
         line = [b'(rates'] + row + [b')\n']
         energies = [b' (energy'] + row + [b')']
-    items = [b'(slack ', NUMBER, b')\n'] + line
+    items = [b'(slack ', NUMBER, b')\n'] + idle + line
     for _ in range(N):
         items += [b'(task (period ', NUMBER, b') (cycles ', NUMBER, b')']
         items += energies + [b')\n']
@@ -564,38 +607,41 @@ def shape(second, N):
     return flat
 
 
-# A state is (second, N, place, value). It says: the bytes so far begin some text
-# with that second line and N tasks; the next byte belongs to that place of its
-# shape; value is the number begun there, or None. From every state some
-# well-formed text can be reached, so a beginning without a state begins no
-# well-formed text.
+# A state is (head, N, place, value). It says: the bytes so far begin some text with
+# that head and N tasks; the next byte belongs to that place of its shape; value is
+# the number begun there, or None. From every state some well-formed text can be
+# reached, so a beginning without a state begins no well-formed text.
 
-def first_states():
-    return {(second, N, 0, None) for second in SECOND_LINES for N in range(1, 33)}
+FIRST_STATES = frozenset((head, N, 0, None) for head in HEADS for N in range(1, 33))
 
 
 def next_states(state, byte):
-    second, N, place, value = state
-    items = shape(second, N)
+    head, N, place, value = state
+    items = shape(head, N)
     if place == len(items):
         return []               # the text of this shape has ended
     if items[place] != NUMBER:
-        return [(second, N, place + 1, None)] if byte == items[place] else []
+        return [(head, N, place + 1, None)] if byte == items[place] else []
     after = []
     if b'0'[0] <= byte <= b'9'[0]:
         digit = byte - b'0'[0]
         if value is None:
-            after.append((second, N, place, digit))
+            after.append((head, N, place, digit))
         elif value != 0 and value * 10 + digit <= LARGEST:
-            after.append((second, N, place, value * 10 + digit))
+            after.append((head, N, place, value * 10 + digit))
     if value is not None and byte == items[place + 1]:
-        after.append((second, N, place + 2, None))
+        after.append((head, N, place + 2, None))
     return after
 
 
+@lru_cache(maxsize=10_000)      # most texts begin alike
+def all_after(states, byte):
+    return frozenset(after for state in states for after in next_states(state, byte))
+
+
 def is_end(state):
-    second, N, place, _ = state
-    return place == len(shape(second, N))
+    head, N, place, _ = state
+    return place == len(shape(head, N))
 
 
 def numbers_of(line):
@@ -603,9 +649,9 @@ def numbers_of(line):
 
 
 def read_text(data, room):
-    states = first_states()
+    states = FIRST_STATES
     for offset, byte in enumerate(data):
-        states = {after for state in states for after in next_states(state, byte)}
+        states = all_after(states, byte)
         if not states:
             # 'the first byte such that no well-formed text begins with the
             # bytes up to and including it'
@@ -614,21 +660,24 @@ def read_text(data, room):
     if not ended:
         return refused(1, len(data))    # 'the text's length if it ends early'
 
-    [(second, _, _, _)] = ended         # a text has one shape
+    [((has_idle, clock), _, _, _)] = ended      # a text has one shape
     lines = data.split(b'\n')[:-1]
-    [slack] = numbers_of(lines[0])
-    tasks = [numbers_of(line) for line in lines[2:]]
-    if second in CHIPS:
+    [slack] = numbers_of(lines.pop(0))
+    # '0 if the line is absent', and of a chip its own
+    [idle] = numbers_of(lines.pop(0)) if has_idle else [CHIP_IDLE.get(clock, 0)]
+    line = lines.pop(0)         # of rates or of a chip
+    tasks = [numbers_of(task) for task in lines]
+    if clock in CHIPS:
         # 'Reading gives the ordinary list, expanded'
-        rates = chip_rates(second)
-        tasks = [chip_task(second, period, cycles) for period, cycles in tasks]
+        rates = chip_rates(clock)
+        tasks = [chip_task(clock, period, cycles) for period, cycles in tasks]
         answer = check_9(tasks)         # 'after 1, before 6'
         if answer:
             return answer
     else:
-        rates = numbers_of(lines[1])
+        rates = numbers_of(line)
         tasks = [Task(period, cycles, energies) for period, cycles, *energies in tasks]
-    words = [slack, len(rates), *rates, len(tasks)]
+    words = [slack, idle, len(rates), *rates, len(tasks)]
     for task in tasks:
         words += [task.period, task.cycles, *task.energies]
     if room < len(words):
@@ -641,8 +690,10 @@ def write_text(words, room):
     if answer:
         return answer
     s = decode(words)
-    lines = ['(slack %d)' % s.slack,
-             '(rates %s)' % ' '.join(map(str, s.rates))]
+    lines = ['(slack %d)' % s.slack]
+    if s.idle > 0:              # 'The writer writes the line only if H is above 0.'
+        lines.append('(idle %d)' % s.idle)
+    lines.append('(rates %s)' % ' '.join(map(str, s.rates)))
     for task in s.tasks:
         lines.append('(task (period %d) (cycles %d) (energy %s))'
                      % (task.period, task.cycles, ' '.join(map(str, task.energies))))

@@ -1,5 +1,6 @@
 """Tests of the reference: the cases of the scope document, the load generator of
-document 02's note 1, the chips of its note 2, and random sets.
+document 02's note 1, the chips of its note 2, the idle energy of its note 4, and
+random sets.
 
 Running it prints one line and ends with 0, or names the failing case and
 ends with 1.
@@ -24,7 +25,7 @@ PRINTED = (b'(plan (unit 1) (load 29 30) (energy 41))\n'
            b'(rate 1 2)\n'
            b'(rate 2 1)\n'
            b'(walk (busy 29) (idle 1) (preempted 1))\n')
-S = [100, 3, 2, 4, 8, 2, 10, 12, 4, 9, 20, 15, 20, 7, 15, 30]
+S = [100, 0, 3, 2, 4, 8, 2, 10, 12, 4, 9, 20, 15, 20, 7, 15, 30]
 S_1000 = [1000] + S[1:]
 PLENTY = 10 ** 9
 
@@ -45,8 +46,8 @@ def both_ways(name, words, want, plan_len=32, work_len=PLENTY):
         same('%s (%s)' % (name, way), r.plan(words, plan_len, work_len, way), want)
 
 
-def one_task(slack, period, cycles, energies=(1, 1), rates=(1, 2)):
-    return [slack, len(rates), *rates, 1, period, cycles, *energies]
+def one_task(slack, period, cycles, energies=(1, 1), rates=(1, 2), idle=0):
+    return [slack, idle, len(rates), *rates, 1, period, cycles, *energies]
 
 
 # ------------------------------------------------- 'Either side of an edge'
@@ -77,11 +78,11 @@ def edges():
     same('slack 0, walk', r.walk([0] + S[1:], []), refused(2, 0))
     same('slack 0, writer', r.write_text([0] + S[1:], 0), refused(2, 0))
     same('empty list', r.check_set([]), refused(2, 0))
-    same('rates 4 4', r.check_set(one_task(100, 30, 60, rates=(4, 4))), refused(3, 3))
+    same('rates 4 4', r.check_set(one_task(100, 30, 60, rates=(4, 4))), refused(3, 4))
     same('empty text', r.read_text(b'', 0), refused(1, 0))
 
-    two = [100, 2, 1, 2, 2, 9_999_999, 1, 1, 1, 10_000_000, 1, 1, 1]
-    same('periods 9,999,999 and 10,000,000', r.check_set(two), refused(4, 9))
+    two = [100, 0, 2, 1, 2, 2, 9_999_999, 1, 1, 1, 10_000_000, 1, 1, 1]
+    same('periods 9,999,999 and 10,000,000', r.check_set(two), refused(4, 10))
     same('the writer makes no check 4', r.write_text(two, 1000)[0], 'written')
     longest = one_task(100, 10_000_000, 1)
     same('period 10,000,000', r.check_set(longest), ('good', 2, 1, 10_000_000))
@@ -148,10 +149,10 @@ def errors():
          [33, 33])
 
     # Utilisation added as rounded fractions.
-    thirds = [100, 2, 1, 2, 3] + [3, 2, 1, 1] * 3
+    thirds = [100, 0, 2, 1, 2, 3] + [3, 2, 1, 1] * 3
     both_ways('three thirds', thirds, ('planned', 1, 3, 3, 3, [2, 2, 2]))
     same('three thirds, walk', r.walk(thirds, [2, 2, 2]), ('kept', 3, 0, 0))
-    mixed = [100, 2, 1, 2, 3, 2, 2, 1, 1, 3, 2, 1, 1, 6, 2, 1, 1]
+    mixed = [100, 0, 2, 1, 2, 3, 2, 2, 1, 1, 3, 2, 1, 1, 6, 2, 1, 1]
     both_ways('a half, a third and a sixth', mixed, ('planned', 1, 6, 6, 6, [2, 2, 2]))
     same('a half, a third and a sixth, walk', r.walk(mixed, [2, 2, 2])[:3], ('kept', 6, 0))
 
@@ -159,29 +160,29 @@ def errors():
     same('rate numbers before load', erring(S_1000, up, rates_first), (8, [2, 1]))
     same('load before rate numbers', r.plan(S_1000, 2, 27)[5], [1, 2])
     # Two equal tasks, of which one must run fast: the lower number for task 2.
-    twins = [100, 2, 1, 2, 2] + [3, 2, 1, 3] * 2
+    twins = [100, 0, 2, 1, 2, 2] + [3, 2, 1, 3] * 2
     both_ways('the lower rate number for task 2', twins, ('planned', 1, 3, 3, 4, [2, 1]))
 
     # A miss noticed only when the late job ends.
     same('a miss at once', r.walk(S, [1, 1]), ('missed', 15, 2))
     late = one_task(100, 3, 100)
     same('a miss at L', r.walk(late, [1]), ('missed', 3, 1))
-    several = [100, 2, 1, 2, 3] + [4, 4, 1, 1] + [2, 2, 1, 1] + [2, 2, 1, 1]
+    several = [100, 0, 2, 1, 2, 3] + [4, 4, 1, 1] + [2, 2, 1, 1] + [2, 2, 1, 1]
     same('task 3 misses first', r.walk(several, [1, 1, 1]), ('missed', 2, 3))
-    several = [100, 2, 1, 2, 3] + [2, 4, 1, 1] + [2, 4, 1, 1] + [2, 4, 1, 1]
+    several = [100, 0, 2, 1, 2, 3] + [2, 4, 1, 1] + [2, 4, 1, 1] + [2, 4, 1, 1]
     same('the lowest-numbered of several', r.walk(several, [1, 1, 1]), ('missed', 2, 1))
 
 
 # ------------------------------------------------------- 'The bracketed text'
 
 def the_text():
-    same('the example, read', r.read_text(EXAMPLE, 16), ('read', S))
-    same('the example, read into 15 words', r.read_text(EXAMPLE, 15), refused(6, 16))
+    same('the example, read', r.read_text(EXAMPLE, 17), ('read', S))
+    same('the example, read into 16 words', r.read_text(EXAMPLE, 16), refused(6, 17))
     same('the example, written', r.write_text(S, len(EXAMPLE)), ('written', EXAMPLE))
     same('the example, written into less', r.write_text(S, len(EXAMPLE) - 1),
          refused(6, len(EXAMPLE)))
     same('the example, printed', r.respond(EXAMPLE), PRINTED)
-    most = [1000, 8] + [10 ** 6 - 7 + i for i in range(8)] + [32]
+    most = [1000, 1000, 8] + [10 ** 6 - 7 + i for i in range(8)] + [32]
     most += ([10 ** 7, 4 * 10 ** 9] + [10 ** 6] * 8) * 32
     same('the most words', len(most), r.MOST_WORDS)
     text = r.write_text(most, 5000)[1]
@@ -211,7 +212,7 @@ def offsets():
     for length in range(len(EXAMPLE)):
         want = refused(1, length)
         if EXAMPLE[:length].count(b'\n') == 3 and EXAMPLE[:length].endswith(b'\n'):
-            want = ('read', S[:5] + [1] + S[6:11])
+            want = ('read', S[:6] + [1] + S[7:12])
         same('cut after %d bytes' % length, r.read_text(EXAMPLE[:length], 1000), want)
 
     rates_8 = b'(slack 1)\n(rates 1 2 3 4 5 6 7 8'
@@ -248,11 +249,11 @@ def offsets():
     at('no last line end', EXAMPLE[:-1], len(EXAMPLE) - 1)
 
     text, _ = replaced(b'slack 100', b'slack 4294967295')
-    same('the largest number', r.read_text(text, 16), ('read', [4294967295] + S[1:]))
+    same('the largest number', r.read_text(text, 17), ('read', [4294967295] + S[1:]))
     text, _ = replaced(b'slack 100', b'slack 0')
-    same('ranges are not judged', r.read_text(text, 16), ('read', [0] + S[1:]))
+    same('ranges are not judged', r.read_text(text, 17), ('read', [0] + S[1:]))
     at('1 before 6', b'(slack', 6)
-    same('6 and not 1', r.read_text(EXAMPLE, 0), refused(6, 16))
+    same('6 and not 1', r.read_text(EXAMPLE, 0), refused(6, 17))
 
 
 def answers():
@@ -260,9 +261,9 @@ def answers():
     same('program, refusal 1', r.respond(text), b'(refused 1 %d)\n' % at)
     same('program, empty text', r.respond(b''), b'(refused 1 0)\n')
     same('program, refusal 2', r.respond(replaced(b'100', b'0')[0]), b'(refused 2 0)\n')
-    same('program, refusal 3', r.respond(replaced(b'4 8', b'4 4')[0]), b'(refused 3 4)\n')
+    same('program, refusal 3', r.respond(replaced(b'4 8', b'4 4')[0]), b'(refused 3 5)\n')
     same('program, refusal 4',
-         r.respond(replaced(b'period 10', b'period 9999998')[0]), b'(refused 4 11)\n')
+         r.respond(replaced(b'period 10', b'period 9999998')[0]), b'(refused 4 12)\n')
     same('program, refusal 5', r.respond(replaced(b'100', b'1')[0]), b'(refused 5 24003)\n')
     same('program, refusal 7',
          r.respond(replaced(b'cycles 12', b'cycles 81')[0]), b'(refused 7 0)\n')
@@ -278,8 +279,8 @@ def answers():
     none = one_task(100, 30, 61)
     same('C plan', r.c_plan(S, 2, 243, 32), (0, [1, 29, 30, 41]))
     same('C plan, refusal 2', r.c_plan([], 0, 0, 0), code(2, 0))
-    same('C plan, refusal 3', r.c_plan(S[:4] + [4] + S[5:], 0, 0, 0), code(3, 4))
-    same('C plan, refusal 4', r.c_plan(S[:6] + [9999998] + S[7:], 0, 0, 0), code(4, 11))
+    same('C plan, refusal 3', r.c_plan(S[:5] + [4] + S[6:], 0, 0, 0), code(3, 5))
+    same('C plan, refusal 4', r.c_plan(S[:7] + [9999998] + S[8:], 0, 0, 0), code(4, 12))
     same('C plan, refusal 5', r.c_plan(S, 0, 242, 0), code(5, 243))
     same('C plan, refusal 6 for the plan', r.c_plan(S, 1, 243, 0), code(6, 2))
     same('C plan, refusal 6 for the results', r.c_plan(S, 2, 243, 31), code(6, 32))
@@ -298,43 +299,45 @@ def answers():
         same('refusal 8 of %r' % plan, r.walk(S, plan), refused(8, place))
 
     same('one word', r.check_set([100]), refused(2, 1))
-    same('M of 1', r.check_set([100, 1, 5]), refused(2, 1))
-    same('M of 9', r.check_set([100, 9]), refused(2, 1))
-    same('N of 0', r.check_set(S[:5] + [0]), refused(2, 5))
-    same('N of 33', r.check_set(S[:5] + [33] + S[6:]), refused(2, 5))
-    same('a word left over', r.check_set(S + [1]), refused(2, 16))
+    same('two words', r.check_set([100, 0]), refused(2, 2))
+    same('M of 1', r.check_set([100, 0, 1, 5]), refused(2, 2))
+    same('M of 9', r.check_set([100, 0, 9]), refused(2, 2))
+    same('N of 0', r.check_set(S[:6] + [0]), refused(2, 6))
+    same('N of 33', r.check_set(S[:6] + [33] + S[7:]), refused(2, 6))
+    same('a word left over', r.check_set(S + [1]), refused(2, 17))
     for length in range(len(S)):
         same('%d words of S' % length, r.check_set(S[:length]), refused(2, length))
-    for place, top in ((0, 1000), (2, 10 ** 6), (6, 10 ** 7), (7, 4 * 10 ** 9), (8, 10 ** 6)):
-        for word in (0, top + 1, 2 ** 32 - 1):
+    for place, top in ((0, 1000), (1, 1000), (3, 10 ** 6), (7, 10 ** 7), (8, 4 * 10 ** 9),
+                       (9, 10 ** 6)):
+        for word in (0, top + 1, 2 ** 32 - 1)[place == 1:]:     # the idle energy may be 0
             words = S[:place] + [word] + S[place + 1:]
             same('%d at place %d' % (word, place), r.check_set(words), refused(2, place))
         words = S[:place] + [top] + S[place + 1:]
         same('%d at place %d' % (top, place), r.check_2(words), None)
-    same('2 before 3', r.check_set([100, 2, 4, 4, 1, 30, 60, 1, 0]), refused(2, 8))
-    same('3 before 4', r.check_set([100, 2, 4, 4, 2, 9999999, 1, 1, 1, 10000000, 1, 1, 1]),
-         refused(3, 3))
-    same('the first falling rate', r.check_set(S[:2] + [8, 4, 2] + S[5:]), refused(3, 3))
+    same('2 before 3', r.check_set([100, 0, 2, 4, 4, 1, 30, 60, 1, 0]), refused(2, 9))
+    same('3 before 4', r.check_set([100, 0, 2, 4, 4, 2, 9999999, 1, 1, 1, 10000000, 1, 1, 1]),
+         refused(3, 4))
+    same('the first falling rate', r.check_set(S[:3] + [8, 4, 2] + S[6:]), refused(3, 4))
 
 
 def preemptions():
     # Task 1's job ends as task 2's turn comes: no preemption.
-    words = [100, 2, 1, 2, 2] + [4, 2, 1, 1] + [4, 2, 1, 1]
+    words = [100, 0, 2, 1, 2, 2] + [4, 2, 1, 1] + [4, 2, 1, 1]
     same('no preemption at an end', r.walk(words, [1, 1]), ('kept', 4, 0, 0))
     # A job that follows its own task's finished job, with no idle tick.
-    same('no preemption by the next job', r.walk([100, 2, 1, 2, 2] + [2, 2, 1, 1]
+    same('no preemption by the next job', r.walk([100, 0, 2, 1, 2, 2] + [2, 2, 1, 1]
          + [4, 2, 1, 1], [2, 2]), ('kept', 3, 1, 0))
     # A long job broken by three short ones, and a tie at 12 for the lower number.
-    words = [100, 2, 1, 2, 2] + [3, 1, 1, 1] + [12, 8, 1, 1]
+    words = [100, 0, 2, 1, 2, 2] + [3, 1, 1, 1] + [12, 8, 1, 1]
     same('three preemptions', r.walk(words, [1, 1]), ('kept', 12, 0, 3))
     # The long job first: a tie at 12 leaves it running.
-    words = [100, 2, 1, 2, 2] + [12, 8, 1, 1] + [3, 1, 1, 1]
+    words = [100, 0, 2, 1, 2, 2] + [12, 8, 1, 1] + [3, 1, 1, 1]
     same('two preemptions', r.walk(words, [1, 1]), ('kept', 12, 0, 2))
 
 
 # ------------------------------------------- document 02, note 1: the generator
 
-HEAD = [100, 5, 100, 200, 300, 400, 500]        # of every generated list, before N
+HEAD = [100, 0, 5, 100, 200, 300, 400, 500]        # of every generated list, before N
 TABLE = [10, 20, 25, 40, 50, 100, 200, 400]
 
 # Worked with a calculator. The states from seed 0 are 1013904223, 1196435762, 3519870697;
@@ -361,28 +364,28 @@ def generator_edges():
     for seed, N, tasks in WORKED:
         words = HEAD + [N] + tasks
         same('generator, seed %d' % seed, r.generate(seed, N, len(words)), ('generated', words))
-    for N, length in ((1, 15), (2, 22), (31, 225), (32, 232)):
+    for N, length in ((1, 16), (2, 23), (31, 226), (32, 233)):
         name = 'generator, %d tasks' % N
         words = r.generate(0, N, length)[1]
-        same(name, (len(words), words[:8]), (length, HEAD + [N]))
+        same(name, (len(words), words[:9]), (length, HEAD + [N]))
         same(name + ', a word more', r.generate(0, N, length + 1), ('generated', words))
         same(name + ', a word short', r.generate(0, N, length - 1), refused(6, length))
         same(name + ', none lent', r.generate(0, N, 0), refused(6, length))
     for N in (0, 33, 34, 256 + 1, 2 ** 31 + 1, 2 ** 32 - 1):
-        for room in (0, 14, 239, PLENTY):
+        for room in (0, 15, 240, PLENTY):
             same('generator, %d tasks, %d words' % (N, room), r.generate(7, N, room),
                  refused(2, 0))
 
     def code(number, second):
         return (number * 2 ** 32 + second, None)
 
-    same('C generator', r.c_generate(7, 1, 15, 32), (0, [15, 0, 0, 0]))
-    same('C generator, 32 tasks', r.c_generate(7, 32, 400, 40), (0, [232, 0, 0, 0]))
+    same('C generator', r.c_generate(7, 1, 16, 32), (0, [16, 0, 0, 0]))
+    same('C generator, 32 tasks', r.c_generate(7, 32, 400, 40), (0, [233, 0, 0, 0]))
     same('C generator, refusal 2', r.c_generate(7, 33, 400, 32), code(2, 0))
     same('C generator, 2 before 6', r.c_generate(7, 0, 0, 0), code(2, 0))
-    same('C generator, refusal 6 for the list', r.c_generate(7, 1, 14, 32), code(6, 15))
-    same('C generator, the list before the results', r.c_generate(7, 1, 14, 31), code(6, 15))
-    same('C generator, refusal 6 for the results', r.c_generate(7, 1, 15, 31), code(6, 32))
+    same('C generator, refusal 6 for the list', r.c_generate(7, 1, 15, 32), code(6, 16))
+    same('C generator, the list before the results', r.c_generate(7, 1, 15, 31), code(6, 16))
+    same('C generator, refusal 6 for the results', r.c_generate(7, 1, 16, 31), code(6, 32))
 
 
 # A generator in parts, and readings of the note that are wrong in one of them. Of
@@ -464,9 +467,9 @@ def generated_sets():
         kind, M, tasks, L = r.check_set(words)
         same(name, (kind, M, tasks, 400 % L), ('good', 5, N, 0))
         same(name + ', in parts', words, HEAD + [N] + in_parts(seed, N))
-        periods.update(words[8::7])
-        cycles += words[9::7]
-        least.update(words[10::7])
+        periods.update(words[9::7])
+        cycles += words[10::7]
+        least.update(words[11::7])
         spans.add(L)
     same('every period was seen', sorted(periods), TABLE)
     same('both ends of the cycles were seen', (min(cycles), max(cycles)), (1, 1_000))
@@ -476,8 +479,9 @@ def generated_sets():
 
 # ------------------------------------- document 02, note 2: processors by name
 
-XSCALE = [5, 150_000, 400_000, 600_000, 800_000, 1_000_000]
-PPC405LP = [4, 33_000, 100_000, 266_000, 333_000]
+# Of a chip's list what stands between slack and N: the chip's own H, and the rates.
+XSCALE = [40, 5, 150_000, 400_000, 600_000, 800_000, 1_000_000]
+PPC405LP = [12, 4, 33_000, 100_000, 266_000, 333_000]
 # The most cycles of a job without refusal 9. At xscale's 1,000 MHz 625 ticks take
 # 625 x 1,600 = 1,000,000, and the other rates less. At ppc405lp's 266 MHz 1,666 ticks take
 # 1,666 x 600 = 999,600, and one more takes 1,000,200, when at 333 MHz there is still room:
@@ -539,21 +543,23 @@ CHIP_WORKED = [
     ('ppc405lp', 9, [(7, 4_294_967_295)], refused(9, 1)),
 ]
 CHIP_PRINTED = [
-    # L is 20. At rate 2 the loads are 8 and 8 and the energies 1,360 and 1,360, the least of
-    # all. 1,360 / 64 is 21.25, so k is 44, and 100 x 44 is at least 4,000; with 128 k is 22.
+    # L is 20. Only rates 2 to 5 fit; at rate 2 the loads are 8 and 8, and of the energies, which
+    # are 1,360 and 1,360, 40 x 8 is left out: 1,040 and 1,040, the least of all. 1,040 / 32 is
+    # 32.5, so k is 66, and 100 x 66 is at least 4,000; with 64 k is 34. 2,720 + 40 x 4.
     # The second task runs in ticks 4 to 9, 14 and 15.
-    (TWO_ON_XSCALE, b'(plan (unit 64) (load 16 20) (energy 2720))\n(rate 1 2)\n(rate 2 2)\n'
+    (TWO_ON_XSCALE, b'(plan (unit 32) (load 16 20) (energy 2880))\n(rate 1 2)\n(rate 2 2)\n'
                     b'(walk (busy 16) (idle 4) (preempted 1))\n'),
     # L is 40. Loads are 31, 10, 4, 4 and 32, 10, 4, 4, so that rates 1 2 and 2 1 come to 41 and
-    # 42. 2 2 costs 1,440: 720 / 128 is 5.6, so k is 12, and 500 x 12 is at least 4,000.
-    (TWO_ON_PPC405LP, b'(plan (unit 128) (load 20 40) (energy 1440))\n(rate 1 2)\n(rate 2 2)\n'
+    # 42. At 2 2 energies of 720 and 720 less 12 x 10 are 600 and 600: 600 / 128 is 4.7, so k is 10,
+    # and 500 x 10 is at least 4,000; with 256 k is 6. 1,440 + 12 x 20.
+    (TWO_ON_PPC405LP, b'(plan (unit 128) (load 20 40) (energy 1680))\n(rate 1 2)\n(rate 2 2)\n'
                       b'(walk (busy 20) (idle 20) (preempted 0))\n'),
-    # One tick: only the highest rate fits, and then none does. 1,600 / 64 is 25.
+    # One tick: only the highest rate fits, and then none does. 1,560 / 64 is 24.4.
     (('xscale', 100, [(1, 1_000_000)]),
      b'(plan (unit 64) (load 1 1) (energy 1600))\n(rate 1 5)\n'
      b'(walk (busy 1) (idle 0) (preempted 0))\n'),
     (('xscale', 100, [(1, 1_000_001)]), b'(refused 7 0)\n'),
-    # 750 / 32 is 23.4. At 266,000 cycles 266 MHz will do, for 600, and 600 / 16 is 37.5.
+    # 738 / 32 is 23.1. At 266,000 cycles 266 MHz will do, for 600, and 588 / 16 is 36.8.
     (('ppc405lp', 100, [(1, 333_000)]),
      b'(plan (unit 32) (load 1 1) (energy 750))\n(rate 1 4)\n'
      b'(walk (busy 1) (idle 0) (preempted 0))\n'),
@@ -565,18 +571,20 @@ CHIP_PRINTED = [
     (('xscale', 100, [(1, 625_000_001)]), b'(refused 9 1)\n'),
     (('xscale', 0, [(0, 1), (0, 4_294_967_295)]), b'(refused 9 2)\n'),
     (('ppc405lp', 0, [(1, 1)]), b'(refused 2 0)\n'),
-    (('xscale', 100, [(1, 0)]), b'(refused 2 9)\n'),
-    (('ppc405lp', 100, [(1, 0)]), b'(refused 2 8)\n'),
-    (('xscale', 100, [(1, 1), (10_000_001, 0)]), b'(refused 2 15)\n'),
-    (('ppc405lp', 100, [(1, 1), (1, 0)]), b'(refused 2 14)\n'),
-    (('xscale', 100, [(9_999_999, 1), (10_000_000, 1)]), b'(refused 4 15)\n'),
-    (('ppc405lp', 100, [(9_999_999, 1), (10_000_000, 1)]), b'(refused 4 13)\n'),
+    (('xscale', 100, [(1, 0)]), b'(refused 2 10)\n'),
+    (('ppc405lp', 100, [(1, 0)]), b'(refused 2 9)\n'),
+    (('xscale', 100, [(1, 1), (10_000_001, 0)]), b'(refused 2 16)\n'),
+    (('ppc405lp', 100, [(1, 1), (1, 0)]), b'(refused 2 15)\n'),
+    (('xscale', 100, [(9_999_999, 1), (10_000_000, 1)]), b'(refused 4 16)\n'),
+    (('ppc405lp', 100, [(9_999_999, 1), (10_000_000, 1)]), b'(refused 4 14)\n'),
     (('xscale', 1, [(10, 1), (10, 1)]), b'(refused 5 24003)\n'),
 ]
 
 
-def chip_text(chip, slack, tasks, *_):
-    return ('(slack %d)\n(chip %s)\n' % (slack, chip) + ''.join(
+def chip_text(chip, slack, tasks, *_, idle=None):
+    """The text of a chip, with an idle line where a number for it is given."""
+    line = '' if idle is None else '(idle %d)\n' % idle
+    return ('(slack %d)\n%s(chip %s)\n' % (slack, line, chip) + ''.join(
         '(task (period %d) (cycles %d))\n' % task for task in tasks)).encode('ascii')
 
 
@@ -602,17 +610,41 @@ def chip_edges():
             answer = r.read_text(chip_text(chip, 5, [(6, most)] * N), PLENTY)
             M = len(r.CHIPS[chip])
             same('%s, %d tasks' % (chip, N), (answer[0], len(answer[1])),
-                 ('read', 3 + M + N * (2 + M)))
+                 ('read', 4 + M + N * (2 + M)))
         for number in range(1, 33):
             tasks = [(6, most)] * (number - 1) + [(6, most + 1)] * (33 - number)
             same('%s, 9 at task %d' % (chip, number), r.read_text(chip_text(chip, 5, tasks), 0),
                  refused(9, number))
     # Energies that are given are not judged by 9, also not those of a chip.
     words = [9, *XSCALE, 1, 700, 625_000_001, 333_360, 265_710, 416_800, 703_800, 1_001_600]
-    text = ('(slack 9)\n(rates 150000 400000 600000 800000 1000000)\n(task (period 700) '
+    text = ('(slack 9)\n(idle 40)\n(rates 150000 400000 600000 800000 1000000)\n(task (period 700) '
             '(cycles 625000001) (energy 333360 265710 416800 703800 1001600))\n').encode('ascii')
     same('energies that are given', r.read_text(text, PLENTY), ('read', words))
-    same('energies that are given, printed', r.respond(text), b'(refused 2 14)\n')
+    same('energies that are given, printed', r.respond(text), b'(refused 2 15)\n')
+    # A chip's own H, and one that is given in its place, 0 too.
+    for chip, slack, tasks, want in CHIP_WORKED:
+        for idle in GIVEN:
+            name = '%s, %r, idle %d' % (chip, tasks, idle)
+            text = chip_text(chip, slack, tasks, idle=idle)
+            if want[0] == 'refused':
+                same(name, r.read_text(text, 0), want)
+            else:
+                same(name, r.read_text(text, len(want)), ('read', [slack, idle] + want[2:]))
+                same(name + ', a word short', r.read_text(text, len(want) - 1),
+                     refused(6, len(want)))
+    # 80 x 10 microjoules of a job at 150 MHz are 80 x 10 of waiting, and 19 of one tick at 33 MHz
+    # are 19: the highest H under these chips, whatever the tasks. There is no plan with the first
+    # rate for the second of these tasks, and yet it is looked at.
+    for chip, most, place in (('xscale', 80, 11), ('ppc405lp', 19, 10)):
+        for idle, want in ((most, None), (most + 1, refused(10, place)),
+                           (1_000, refused(10, place)), (1_001, refused(2, 1))):
+            tasks = [(10, 1_500_000), (4, 1_600_000)] if chip == 'xscale' else [(3, 33_000)]
+            name = '%s, idle %d, printed' % (chip, idle)
+            printed = r.respond(chip_text(chip, 100, tasks, idle=idle))
+            if want:
+                same(name, printed, b'(refused %d %d)\n' % want[1:])
+            else:
+                same(name, printed[:6], b'(plan ')
 
 
 # An expansion in parts, and readings of the note that are wrong in one of them. A table has
@@ -626,7 +658,10 @@ CHIP_PARTS = {
     'energy': lambda mW, time, c, rate: mW * time,
     'over': lambda energies: max(energies) > 1_000_000,
     'which': lambda dear: dear[0] + 1,
+    'idle': {'xscale': 40, 'ppc405lp': 12},
+    'given': lambda own, given: own if given is None else given,
 }
+GIVEN = (0, 1, 11, 12, 13, 40, 41, 1_000, 1_001, 4_294_967_295)    # for H, in an idle line
 CHIP_MISREAD = {
     'powers one rate late': (
         'xscale', [(150, 170), (400, 400), (600, 900), (800, 1600), (1000, 80)]),
@@ -663,16 +698,25 @@ CHIP_MISREAD = {
     'the last such task': ('which', lambda dear: dear[-1] + 1),
     'tasks from 0': ('which', lambda dear: dear[0]),
     'how many such tasks': ('which', lambda dear: len(dear)),
-    'the place of its period': ('which', lambda dear: 3 + 5 + 7 * dear[0]),
+    'the place of its period': ('which', lambda dear: 4 + 5 + 7 * dear[0]),
+    'the other chip\'s H': ('idle', {'xscale': 12, 'ppc405lp': 40}),
+    'no H of a chip\'s own': ('idle', {'xscale': 0, 'ppc405lp': 0}),
+    'H of a second': ('idle', {'xscale': 40_000, 'ppc405lp': 12_000}),
+    'a chip\'s own H always': ('given', lambda own, given: own),
+    'H of 0 as if absent': ('given', lambda own, given: given or own),
+    'the larger H': ('given', lambda own, given: max(own, given or 0)),
+    'both H together': ('given', lambda own, given: own + (given or 0)),
+    'H of at most 1,000': ('given', lambda own, given: own if given is None else min(given, 1_000)),
 }
 
 
-def chip_in_parts(chip, slack, tasks, **other):
-    """What is read of a chip's text, with enough words lent: of the parts, or of another in
-    place of one."""
+def chip_in_parts(chip, slack, tasks, H=None, **other):
+    """What is read of a chip's text, with H in an idle line unless it is None, and with enough
+    words lent: of the parts, or of another in place of one."""
     part = {**CHIP_PARTS, **other}
     rates = [part['rate'](MHz) for MHz, _ in part[chip]]
-    words, dear = [slack, len(rates), *rates, len(tasks)], []
+    words = [slack, part['given'](part['idle'][chip], H), len(rates), *rates, len(tasks)]
+    dear = []
     for number, (period, cycles) in enumerate(tasks):
         energies = [part['energy'](mW, part['time'](cycles, rate), cycles, rate)
                     for rate, (_, mW) in zip(rates, part[chip])]
@@ -684,11 +728,14 @@ def chip_in_parts(chip, slack, tasks, **other):
 
 def chip_errors():
     """Each wrong reading departs from one of the worked figures."""
-    for chip, slack, tasks, want in CHIP_WORKED:
-        same('%s in parts, %r' % (chip, tasks), chip_in_parts(chip, slack, tasks), want)
+    worked = [(chip, slack, tasks, None, want) for chip, slack, tasks, want in CHIP_WORKED]
+    for chip, slack, tasks, want in (TWO_ON_XSCALE, TWO_ON_PPC405LP):
+        worked += [(chip, slack, tasks, H, [slack, H] + want[2:]) for H in GIVEN]
+    for chip, slack, tasks, H, want in worked:
+        same('%s in parts, %r, %r' % (chip, tasks, H), chip_in_parts(chip, slack, tasks, H), want)
     for name, (part, wrong) in CHIP_MISREAD.items():
-        seen = any(chip_in_parts(chip, slack, tasks, **{part: wrong}) != want
-                   for chip, slack, tasks, want in CHIP_WORKED)
+        seen = any(chip_in_parts(chip, slack, tasks, H, **{part: wrong}) != want
+                   for chip, slack, tasks, H, want in worked)
         same('chip misread: ' + name, seen, True)
 
 
@@ -756,7 +803,7 @@ def chip_offsets():
     at('a longer name', slack + b'(chip xscales)\n', 22)
     at('two names', slack + b'(chip xscale ppc405lp)\n', 22)
     goes_on('the slack line', slack, b'(')
-    goes_on('the second bracket', slack + b'(', b'cr')
+    goes_on('the second bracket', slack + b'(', b'cir')
     goes_on('the word chip', slack + b'(chip', b' ')
     goes_on('the space of a chip', slack + b'(chip ', b'px')
     goes_on('the cycles of rates', slack + rates + given[:27], b' ')
@@ -777,9 +824,10 @@ def chips_at_random():
             if g.randint(1, 12) == 1:
                 cycles = g.choice([0, most + 1, most + g.randint(1, 10 ** 6), 4_294_967_295])
             tasks.append((g.choice([1, 10, 50, 100, 200, 400, 800]), cycles))
-        slack = g.choice([300, 500, 1_000])
-        text, name = chip_text(chip, slack, tasks), 'chip %d, %s %r' % (number, chip, tasks)
-        want = chip_in_parts(chip, slack, tasks)
+        slack, H = g.choice([300, 500, 1_000]), g.choice([None, None, None, 0, 1, 19, 30, 80, 1_001])
+        text = chip_text(chip, slack, tasks, idle=H)
+        name = 'chip %d, %s %r, H %r' % (number, chip, tasks, H)
+        want = chip_in_parts(chip, slack, tasks, H)
         if want[0] == 'refused':
             same(name, r.read_text(text, g.choice([0, PLENTY])), want)
             same(name + ', printed', r.respond(text), b'(refused 9 %d)\n' % want[2])
@@ -788,10 +836,14 @@ def chips_at_random():
         same(name, r.read_text(text, len(want)), ('read', want))
         if number % 10 == 0:
             same(name + ', a word short', r.read_text(text, len(want) - 1), refused(6, len(want)))
+        if H == 1_001:
+            same(name + ', H of 1,001', r.check_set(want), refused(2, 1))
+            same(name + ', H of 1,001, printed', r.respond(text), b'(refused 2 1)\n')
+            continue
         none = [place for place, (_, cycles) in enumerate(tasks) if cycles == 0]
         if none:
             M = len(r.CHIPS[chip])
-            place = 3 + M + (2 + M) * none[0] + 1
+            place = 4 + M + (2 + M) * none[0] + 1
             same(name + ', cycles of 0', r.check_set(want), refused(2, place))
             same(name + ', cycles of 0, printed', r.respond(text), b'(refused 2 %d)\n' % place)
             seen.add((chip, 2))
@@ -800,6 +852,7 @@ def chips_at_random():
         same(name + ', written', kind, 'written')
         same(name + ', with rates and energies', (explicit.count(b'(rates '),
              explicit.count(b'(energy '), explicit.count(b'chip')), (1, len(tasks), 0))
+        same(name + ', with its idle line', explicit.count(b'(idle '), H != 0)
         same(name + ', read back', r.read_text(explicit, len(want)), ('read', want))
         if len(tasks) <= 3:
             printed = r.respond(text)
@@ -809,19 +862,319 @@ def chips_at_random():
          {(chip, kind) for chip in MOST_CYCLES for kind in (9, 2, True, False)})
 
 
+# ------------------------------------- document 02, note 4: idle current counts
+
+# Job times 90 and 10, so that 10 and 100 are left of the energies: the slow rate is taken, for 910
+# and ten idle ticks of 10. The fast one would be 200 and ninety.
+THOUSAND_TEN = one_task(100, 100, 90, (910, 200), (1, 9), idle=10)
+
+# Worked with a calculator: a list, and what the planner says of it where enough is lent.
+IDLE_WORKED = [
+    (THOUSAND_TEN, ('planned', 1, 90, 100, 1_010, [1])),
+    # Without idle energy the fast rate costs less: 200 / 8 is 25, and 100 x 25 is at least 2,000.
+    (one_task(100, 100, 90, (910, 200), (1, 9)), ('planned', 8, 10, 100, 200, [2])),
+    # Waiting costs 990 for 90 ticks, which the slow rate's energy does not reach.
+    (one_task(100, 100, 90, (910, 200), (1, 9), idle=11), refused(10, 8)),
+    # Just as much as waiting: nothing is left. Of 0 and 100 the k of every unit is 0, down to 1.
+    (one_task(100, 100, 90, (900, 200), (1, 9), idle=10), ('planned', 1, 90, 100, 1_000, [1])),
+    (one_task(100, 100, 90, (899, 200), (1, 9), idle=10), refused(10, 8)),
+    # Only the fastest rate has nothing left, and the first unit is 1 for it.
+    (one_task(100, 100, 90, (910, 100), (1, 9), idle=10), ('planned', 1, 10, 100, 1_000, [2])),
+    (one_task(100, 100, 90, (910, 99), (1, 9), idle=10), refused(10, 9)),
+    # Neither has, and the load decides; then 0 against 1, the load being less for the 1.
+    (one_task(100, 100, 90, (900, 100), (1, 9), idle=10), ('planned', 1, 10, 100, 1_000, [2])),
+    (one_task(100, 100, 90, (900, 101), (1, 9), idle=10), ('planned', 1, 90, 100, 1_000, [1])),
+    # 36, 18 and 12 microjoules for 12, 6 and 4 ticks.
+    (one_task(1, 12, 12, (36, 18, 12), (1, 2, 3), idle=3), ('planned', 1, 4, 12, 36, [3])),
+    # Document 01's 33 at every rate, with 10 ticks and 5: 33 are left, and the unit is 32.
+    (one_task(1000, 10, 10, (133, 83), idle=10), ('planned', 32, 5, 10, 133, [2])),
+    # A load of L: no tick is idle. 420 and 215 less 7 x 60 and 7 x 30.
+    (one_task(100, 30, 60, (420, 215), idle=7), ('planned', 1, 30, 30, 215, [2])),
+    (one_task(100, 30, 61, (427, 217), idle=7), refused(7, 0)),
+    (one_task(100, 30, 61, (427, 216), idle=7), refused(10, 9)),
+    # S with H of 1: waiting 6 ticks costs more than the 4 of its first energy.
+    ([100, 1] + S[2:], refused(10, 9)),
+    # S with H of 2 and with all energies more by that of their ticks, 6, 3, 2 and 10, 5, 3: the
+    # plans are those of S, and the energies those of S and 2 x 30.
+    ([100, 2, 3, 2, 4, 8, 2, 10, 12, 16, 15, 24, 15, 20, 27, 25, 36],
+     ('planned', 1, 29, 30, 101, [2, 1])),
+    ([1000, 2, 3, 2, 4, 8, 2, 10, 12, 16, 15, 24, 15, 20, 27, 25, 36],
+     ('planned', 8, 28, 30, 102, [1, 2])),
+    # Two tasks of 4 and 2 ticks, with waiting at 20 and 10. Tasks come before rates.
+    ([100, 5, 2, 1, 2, 2, 20, 4, 20, 9, 20, 4, 19, 10], refused(10, 9)),
+    ([100, 5, 2, 1, 2, 2, 20, 4, 20, 10, 20, 4, 20, 9], refused(10, 13)),
+    ([100, 5, 2, 1, 2, 2, 20, 4, 20, 10, 20, 4, 19, 9], refused(10, 12)),
+    # No plan has the first rate: its 4 ticks are more than the period.
+    (one_task(100, 3, 4, (19, 10), idle=5), refused(10, 8)),
+    (one_task(100, 3, 4, (20, 10), idle=5), ('planned', 1, 2, 3, 15, [2])),
+    # 3 before 10, and 10 before 4.
+    (one_task(100, 20, 4, (1, 1), (4, 4), idle=5), refused(3, 4)),
+    ([100, 5, 2, 1, 2, 2, 9_999_999, 4, 20, 10, 10_000_000, 4, 20, 9], refused(10, 13)),
+    ([100, 5, 2, 1, 2, 2, 9_999_999, 4, 20, 10, 10_000_000, 4, 20, 10], refused(4, 10)),
+    # H at its most, an energy at its most: 1,000 ticks. Nothing is left, and all costs 1,000 x L.
+    (one_task(100, 10_000_000, 1_000, (1_000_000, 1_000_000), (1, 1_000), idle=1_000),
+     ('planned', 1, 1_000, 10_000_000, 10_000_000_000, [1])),
+    (one_task(100, 10_000_000, 1_001, (1_000_000, 1_000_000), (1, 1_000), idle=1_000),
+     refused(10, 8)),
+    (one_task(100, 10, 10, idle=1_001), refused(2, 1)),
+    (one_task(100, 10, 10, (10, 5), idle=1), ('planned', 1, 5, 10, 10, [2])),
+    (one_task(100, 10, 10, (10, 4), idle=1), refused(10, 9)),
+]
+IDLE_TEXT = (b'(slack 100)\n'
+             b'(idle 10)\n'
+             b'(rates 1 9)\n'
+             b'(task (period 100) (cycles 90) (energy 910 200))\n')
+
+
+def idle_edges():
+    for words, want in IDLE_WORKED:
+        both_ways('idle %r' % (words,), words, want)
+        if want[0] == 'planned' or want == refused(7, 0):
+            same('idle %r, judged' % (words,), r.objection(words, want, 1_000), None)
+        else:
+            same('idle %r, nothing lent' % (words,), r.plan(words, 0, 0), want)
+            same('idle %r, C' % (words,), r.c_plan(words, 0, 0, 0),
+                 (want[1] * 2 ** 32 + want[2], None))
+        if want[:2] == ('refused', 10):
+            # To the checks of a set, the walk, the writer and the reader it is nothing.
+            N, plain = len(r.decode(words).tasks), [words[0], 0] + words[2:]
+            same('idle %r, checked' % (words,), r.check_set(words), r.check_set(plain))
+            if r.check_set(words)[0] == 'good' and r.check_set(words)[3] <= 1_000:
+                same('idle %r, walked' % (words,), r.walk(words, [2] * N), r.walk(plain, [2] * N))
+            text = r.write_text(words, PLENTY)[1]
+            same('idle %r, read back' % (words,), r.read_text(text, PLENTY), ('read', words))
+            same('idle %r, printed' % (words,), r.respond(text), b'(refused 10 %d)\n' % want[2])
+
+    same('1,010, read', r.read_text(IDLE_TEXT, 10), ('read', THOUSAND_TEN))
+    same('1,010, a word short', r.read_text(IDLE_TEXT, 9), refused(6, 10))
+    same('1,010, written', r.write_text(THOUSAND_TEN, len(IDLE_TEXT)), ('written', IDLE_TEXT))
+    same('1,010, a byte short', r.write_text(THOUSAND_TEN, len(IDLE_TEXT) - 1),
+         refused(6, len(IDLE_TEXT)))
+    same('1,010, printed', r.respond(IDLE_TEXT),
+         b'(plan (unit 1) (load 90 100) (energy 1010))\n(rate 1 1)\n'
+         b'(walk (busy 90) (idle 10) (preempted 0))\n')
+    # '0 if the line is absent', and the line that says so; only the first is written.
+    plain = THOUSAND_TEN[:1] + [0] + THOUSAND_TEN[2:]
+    absent, zero = IDLE_TEXT.replace(b'(idle 10)\n', b''), IDLE_TEXT.replace(b'10)\n(r', b'0)\n(r')
+    same('no idle line', r.read_text(absent, 10), ('read', plain))
+    same('an idle line of 0', r.read_text(zero, 10), ('read', plain))
+    same('an idle energy of 0, written', r.write_text(plain, PLENTY), ('written', absent))
+    for H in (1, 999, 1_000):
+        words = one_task(100, 2_000, 90, (90_000, 90_000), (1, 9), idle=H)
+        text = r.write_text(words, PLENTY)[1]
+        same('an idle energy of %d, written' % H, text.split(b'\n')[1], b'(idle %d)' % H)
+        same('an idle energy of %d, read back' % H, r.read_text(text, 10), ('read', words))
+    # H over 1,000 is for the planner to refuse.
+    for H in (1_001, 4_294_967_295):
+        text = IDLE_TEXT.replace(b'idle 10', b'idle %d' % H)
+        words = [100, H] + THOUSAND_TEN[2:]
+        same('an idle line of %d' % H, r.read_text(text, 10), ('read', words))
+        same('an idle line of %d, printed' % H, r.respond(text), b'(refused 2 1)\n')
+        same('an idle energy of %d, written' % H, r.write_text(words, PLENTY), refused(2, 1))
+        same('an idle energy of %d, walked' % H, r.walk(words, [1]), refused(2, 1))
+    # 2 before 10, 10 before 4, 5, 6 and 7.
+    low = [100, 5, 2, 1, 2, 2, 9_999_999, 4, 20, 10, 10_000_000, 4_000_000_000, 20, 9]
+    both_ways('10 before 4, 5, 6 and 7', low, refused(10, 12), 0, 0)
+    both_ways('3 before 10', low[:4] + [1] + low[5:], refused(3, 4), 0, 0)
+    both_ways('2 before 10', low[:13] + [0], refused(2, 13), 0, 0)
+    both_ways('2 before 10, at the end', low + [1], refused(2, 14), 0, 0)
+
+
+# A planner in parts, and readings of the note that are wrong in one of them. 'taken' is what is
+# left out of a job's energy, 'rounded' a task's energy less all that is taken of it, by the unit;
+# 'report' has the plan's task energies, these less what was taken, H, L and the load. 'below' and
+# 'asked' say which energies are too low, 'which' what is returned where these pairs of task and
+# rate, from 0, are, and 'order' which refusal comes first.
+IDLE_PARTS = {
+    'taken': lambda H, time: H * time,
+    'rounded': lambda energy, taken, d: -(-(energy - taken) // d),
+    'report': lambda given, left, H, L, load: given + H * (L - load),
+    'below': lambda energy, H, time: energy < H * time,
+    'asked': lambda rate, M, time, period: True,
+    'which': lambda low, M: 4 + M + low[0][0] * (2 + M) + 2 + low[0][1],
+    'order': (2, 3, 10, 4, 7),
+}
+IDLE_MISREAD = {
+    'nothing left out': ('taken', lambda H, time: 0),
+    'H once for a job': ('taken', lambda H, time: H),
+    'H for each tick but one': ('taken', lambda H, time: H * (time - 1)),
+    'H put in and not left out': ('taken', lambda H, time: -H * time),
+    'rounded before it is left out': (
+        'rounded', lambda energy, taken, d: -(-energy // d) - -(-taken // d)),
+    'rounded down': ('rounded', lambda energy, taken, d: (energy - taken) // d),
+    'what is left is at least 1': ('rounded', lambda energy, taken, d: -(-max(
+        energy - taken, 1) // d)),
+    'the jobs alone': ('report', lambda given, left, H, L, load: given),
+    'what is left': ('report', lambda given, left, H, L, load: left),
+    'what is left, and the idle ticks': (
+        'report', lambda given, left, H, L, load: left + H * (L - load)),
+    'idle for every tick': ('report', lambda given, left, H, L, load: given + H * L),
+    'idle for busy ticks': ('report', lambda given, left, H, L, load: given + H * load),
+    'idle for a tick more': ('report', lambda given, left, H, L, load: given + H * (L - load + 1)),
+    'one idle tick': ('report', lambda given, left, H, L, load: given + H),
+    'below at equality': ('below', lambda energy, H, time: energy <= H * time),
+    'below by more than 1': ('below', lambda energy, H, time: energy + 1 < H * time),
+    'below H': ('below', lambda energy, H, time: energy < H),
+    'below H for each tick but one': ('below', lambda energy, H, time: energy < H * (time - 1)),
+    'below by another tick': ('below', lambda energy, H, time: energy < H * (time + 1)),
+    'never below': ('below', lambda energy, H, time: False),
+    'the lowest rate alone': ('asked', lambda rate, M, time, period: rate == 0),
+    'the highest rate alone': ('asked', lambda rate, M, time, period: rate == M - 1),
+    'rates that fit the period': ('asked', lambda rate, M, time, period: time <= period),
+    'the last such energy': ('which', lambda low, M: 4 + M + low[-1][0] * (2 + M) + 2 + low[-1][1]),
+    'rates before tasks': ('which', lambda low, M: min(
+        (rate, 4 + M + task * (2 + M) + 2 + rate) for task, rate in low)[1]),
+    'a place too far': ('which', lambda low, M: 4 + M + low[0][0] * (2 + M) + 3 + low[0][1]),
+    'places before note 4': ('which', lambda low, M: 3 + M + low[0][0] * (2 + M) + 2 + low[0][1]),
+    'the place of the period': ('which', lambda low, M: 4 + M + low[0][0] * (2 + M)),
+    'the number of the task': ('which', lambda low, M: low[0][0] + 1),
+    'how many such energies': ('which', lambda low, M: len(low)),
+    '10 before 3': ('order', (2, 10, 3, 4, 7)),
+    '10 after 4': ('order', (2, 3, 4, 10, 7)),
+    '10 after 7': ('order', (2, 3, 4, 7, 10)),
+}
+
+
+def idle_in_parts(words, **other):
+    """What the planner says where enough is lent: of the parts, or of another in place of one."""
+    part = {**IDLE_PARTS, **other}
+    if r.check_2(words):
+        return r.check_2(words)
+    G, H, M = words[:3]
+    rates, N = words[3:3 + M], words[3 + M]
+    tasks = [words[at:at + 2 + M] for at in range(4 + M, len(words), 2 + M)]
+    times = [[-(-cycles // rate) for rate in rates] for _, cycles, *_ in tasks]
+    low = [(i, j) for i in range(N) for j in range(M)
+           if part['below'](tasks[i][2 + j], H, times[i][j])
+           and part['asked'](j, M, times[i][j], tasks[i][0])]
+    fast = r.check_4(words) is None and sum(
+        r.hyper_period(r.decode(words).tasks) // tasks[i][0] * times[i][-1] for i in range(N))
+    for check in part['order']:
+        if check == 3 and r.check_3(words):
+            return r.check_3(words)
+        if check == 4 and r.check_4(words):
+            return r.check_4(words)
+        if check == 7 and fast > r.hyper_period(r.decode(words).tasks):
+            return refused(7, 0)
+        if check == 10 and low:
+            return refused(10, part['which'](low, M))
+
+    L = r.hyper_period(r.decode(words).tasks)
+    jobs = [L // task[0] for task in tasks]
+
+    def sums(plan):
+        load = sum(jobs[i] * times[i][j] for i, j in enumerate(plan))
+        given = sum(jobs[i] * tasks[i][2 + j] for i, j in enumerate(plan))
+        taken = sum(jobs[i] * part['taken'](H, times[i][j]) for i, j in enumerate(plan))
+        return load, given, taken
+
+    def k(plan, d):
+        return sum(part['rounded'](jobs[i] * tasks[i][2 + j],
+                                   jobs[i] * part['taken'](H, times[i][j]), d)
+                   for i, j in enumerate(plan))
+
+    fitting = [plan for plan in product(range(M), repeat=N) if sums(plan)[0] <= L]
+    d = 2 ** 60                 # from far above: it is not used before the first unit is passed
+    while True:
+        best = min(fitting, key=lambda plan: (k(plan, d), sums(plan)[0], plan[::-1]))
+        if d == 1 or G * k(best, d) >= 2_000 * N:
+            break
+        d //= 2
+    load, given, taken = sums(best)
+    return ('planned', d, load, L, part['report'](given, given - taken, H, L, load),
+            [j + 1 for j in best])
+
+
+def idle_errors():
+    """Each wrong reading departs from one of the worked figures."""
+    for words, want in IDLE_WORKED:
+        same('idle in parts, %r' % (words,), idle_in_parts(words), want)
+    for name, (part, wrong) in IDLE_MISREAD.items():
+        seen = any(idle_in_parts(words, **{part: wrong}) != want for words, want in IDLE_WORKED)
+        same('idle misread: ' + name, seen, True)
+
+
+def idle_offsets():
+    """Where an idle line stands, and where texts with one depart; and which bytes go on."""
+    slack, idle, rates = b'(slack 1)\n', b'(idle 7)\n', b'(rates 1 2)\n'
+    given = b'(task (period 1) (cycles 1) (energy 1 1))\n'
+    bare = b'(task (period 1) (cycles 1))\n'
+
+    def at(name, text, offset):
+        same('idle text, ' + name, r.read_text(text, 1000), refused(1, offset))
+        same('idle text, %s, the usual way' % name, plain_reader(text), offset)
+
+    def goes_on(name, text, bytes_):
+        found = bytes(byte for byte in range(256) if r.all_after(states_after(text), byte))
+        same('idle text, after ' + name, found, bytes_)
+
+    for label, line, task in (('rates', rates, given), ('xscale', b'(chip xscale)\n', bare),
+                              ('ppc405lp', b'(chip ppc405lp)\n', bare)):
+        head, text = slack + idle + line, slack + idle + line + task
+        for length in range(len(text)):
+            at('%s, cut after %d' % (label, length), text[:length], length)
+        same(label + ', read', r.read_text(text, 1000)[1][:2], [1, 7])
+        at(label + ', twice', slack + idle + idle + line + task, len(slack + idle) + 1)
+        at(label + ', before the slack', idle + slack + line + task, 1)
+        at(label + ', no slack', idle + line + task, 1)
+        at(label + ', behind', slack + line + idle + task, len(slack + line) + 1)
+        at(label + ', before and behind', head + idle + task, len(head) + 1)
+        at(label + ', behind a task', slack + line + task + idle, len(slack + line + task) + 1)
+        at(label + ', at the end', text + idle, len(text) + 1)
+        at(label + ', in the slack line', slack[:-1] + b' ' + idle + line + task, len(slack) - 1)
+        at(label + ', an empty line before', slack + b'\n' + idle + line + task, len(slack))
+        at(label + ', an empty line behind', slack + idle + b'\n' + line + task,
+           len(slack + idle))
+        same(label + ', 32 tasks', r.read_text(head + task * 32, 1000)[0], 'read')
+        at(label + ', a 33rd task', head + task * 33, len(head + task * 32))
+    begin = len(slack)
+    for wrong, departs in (
+            (b'(idle)', 5), (b'(idle )', 6), (b'(idle 01)', 7), (b'(idle 4294967296)', 15),
+            (b'(idle 42949672950)', 16), (b'(idle -1)', 6), (b'(idle 1 2)', 7), (b'(idle 1))', 8),
+            (b'(idles 1)', 5), (b'(Idle 1)', 1), (b'(id 1)', 3), (b'(i', 2), (b'(irates 1 2)', 2),
+            (b'(idle  1)', 6), (b'(idle\t1)', 5), (b'(idle x)', 6), (b'(idle (1))', 6),
+            (b'idle 1', 0), (b'(slack 1)', 1), (b'(idle 1', 7), (b'(idle 1)\r', 8)):
+        at('%r' % wrong, slack + wrong + (b'\n' if wrong[-1:] == b')' else b''), begin + departs)
+    for H in (0, 1, 9, 10, 1_000, 1_001, 4_294_967_295):
+        text = slack + b'(idle %d)\n' % H + rates + given
+        same('idle text, %d' % H, r.read_text(text, 1000)[1][:3], [1, H, 2])
+    goes_on('the slack line', slack, b'(')
+    goes_on('the second bracket', slack + b'(', b'cir')
+    goes_on('the idle line', slack + idle, b'(')
+    goes_on('the third bracket', slack + idle + b'(', b'cr')
+    goes_on('the word idle', slack + b'(idle', b' ')
+    goes_on('its space', slack + b'(idle ', b'0123456789')
+    goes_on('a digit of it', slack + b'(idle 7', b')0123456789')
+    goes_on('a 0 of it', slack + b'(idle 0', b')')
+
+
 # --------------------------------------------------------------- random sets
 
 def random_set(g, most_tasks, most_rates):
     M, N = g.randint(2, most_rates), g.randint(1, most_tasks)
     rates = sorted(g.sample(range(1, 13), M))
     most = g.choice([3, 10, 100, 1_000_000])
-    words = [g.choice([1, 7, 50, 100, 333, 500, 999, 1000]), M, *rates, N]
+    idle = g.choice([0, 0, 1, 7, 40, 500])              # 500 x 1,620 ticks are below 1,000,000
+    words = [g.choice([1, 7, 50, 100, 333, 500, 999, 1000]), idle, M, *rates, N]
     filling = g.choice([0.5, 1.0, 1.5, 3.0]) * rates[g.randrange(M)] / N
+    least = g.choice([0, 1])                            # of what is left without the idle energy
     for _ in range(N):
         period = g.choice([1, 2, 3, 4, 5, 6, 8, 10, 12, 15, 20, 24, 30])
         cycles = max(1, round(period * filling * g.uniform(0.5, 1.5)))
-        words += [period, cycles] + [g.randint(1, most) for _ in range(M)]
+        waiting = [idle * -(-cycles // rate) for rate in rates]
+        words += [period, cycles] + [max(1, min(w + g.randint(least, most), 1_000_000))
+                                     for w in waiting]
     return words
+
+
+def lowered(words):
+    """The list without its idle energy: each energy is less by what its job's ticks would cost
+    idle. None where an energy would then be below 1."""
+    M, other = words[2], [words[0], 0] + words[2:]
+    for at in range(4 + M, len(words), 2 + M):
+        for j in range(M):
+            other[at + 2 + j] -= words[1] * -(-words[at + 1] // words[3 + j])
+    return other if min(other[2:]) > 0 else None
 
 
 def random_sets():
@@ -837,16 +1190,22 @@ def random_sets():
         answer = r.plan(words, N, PLENTY, 'all')
         same(name + ', both ways', r.plan(words, N, PLENTY, 'table'), answer)
         seen.add(answer[0])
+        # Without the idle energy the same, but for the energy.
+        if lowered(words):
+            other = r.plan(lowered(words), N, PLENTY)
+            if other[0] == 'planned':
+                other = (*other[:4], other[4] + words[1] * L, other[5])
+            same(name + ', lowered', answer, other)
+            seen.add(words[1] > 0)
         plans = list(product(range(1, M + 1), repeat=N))
-        s = r.decode(words)
-        loads, energies = r.load_table(s, L), r.energy_table(s, L)
+        loads = r.load_table(r.decode(words), L)
         fitting = [p for p in plans if r.total(loads, p) <= L]
         same(name + ', 7 where no plan fits', answer == refused(7, 0), not fitting)
         if fitting:
             _, unit, load, _, energy, rates = answer
             same(name + ', sums', (load, energy),
                  (r.load_of(words, rates), r.energy_of(words, rates)))
-            least = min(r.total(energies, p) for p in fitting)
+            least = min(r.energy_of(words, p) for p in fitting)
             same(name + ', within the slack',
                  1000 * energy <= (1000 + words[0]) * least, True)
             same(name + ', planned and kept', r.walk(words, rates)[:3],
@@ -869,7 +1228,28 @@ def random_sets():
                  refused(6, len(words)))
         same(name + ', no byte to spare', r.write_text(words, len(text) - 1),
              refused(6, len(text)))
-    same('every kind of answer was seen', seen, {'planned', 'refused', 'kept', 'missed'})
+        if words[1] > 0:
+            # An energy below: 10, and of several the first. The walk and the writer do not look.
+            at = [place for place in range(4 + M, len(words)) if (place - 4 - M) % (2 + M) > 1]
+            low = sorted(g.sample(at, g.randint(1, min(3, len(at)))))
+            low = [place for place in low if waiting_at(words, place) > 1]
+            less = list(words)
+            for place in low:
+                less[place] = waiting_at(words, place) - g.choice([1, waiting_at(words, place) - 1])
+            if low:
+                seen.add(10)
+                same(name + ', 10', r.plan(less, 0, 0), refused(10, low[0]))
+                same(name + ', walked with 10', r.walk(less, [M] * N), r.walk(words, [M] * N))
+                same(name + ', written with 10', r.write_text(less, PLENTY)[0], 'written')
+    same('every kind of answer was seen', seen,
+         {'planned', 'refused', 'kept', 'missed', True, False, 10})
+
+
+def waiting_at(words, place):
+    """H x job time of the energy at a place."""
+    M = words[2]
+    task, rate = divmod(place - 4 - M, 2 + M)
+    return words[1] * -(-words[4 + M + task * (2 + M) + 1] // words[3 + rate - 2])
 
 
 def objections():
@@ -918,10 +1298,22 @@ def objections():
     against('the lower number', one_task(1, 10, 10), ('planned', 1, 10, 10, 1, [1]),
             'another plan comes first')
     # Two equal tasks: the lower number belongs to task 2.
-    twins = [100, 2, 1, 2, 2] + [3, 2, 1, 3] * 2
+    twins = [100, 0, 2, 1, 2, 2] + [3, 2, 1, 3] * 2
     against('the lower number for task 1', twins, ('planned', 1, 3, 3, 4, [1, 2]),
             'another plan comes first')
     against('the lower number for task 2', twins, ('planned', 1, 3, 3, 4, [2, 1]), None)
+
+    # Idle energy: the least by what the jobs cost is not the least in all, and is reported so.
+    against('1,010', THOUSAND_TEN, ('planned', 1, 90, 100, 1_010, [1]), None)
+    against('1,010, the other rate', THOUSAND_TEN, ('planned', 1, 10, 100, 1_100, [2]),
+            'another plan comes first')
+    for energy in (10, 110, 910, 1_810, 1_910):
+        against('1,010, %d' % energy, THOUSAND_TEN, ('planned', 1, 90, 100, energy, [1]),
+                'not the sums of its plan')
+    low = THOUSAND_TEN[:8] + [899, 200]
+    for answer in (('planned', 1, 90, 100, 999, [1]), ('planned', 1, 10, 100, 1_100, [2]),
+                   refused(7, 0)):
+        against('an energy below', low, answer, 'an energy is below that of an idle processor')
 
     # Every answer that differs from the right one in one number is turned down.
     g = random.Random(4)
@@ -937,9 +1329,9 @@ def objections():
                 other = answer[:at] + (wrong,) + answer[at + 1:]
                 same(name + ', %r' % (other,), r.objection(words, other, 2_000) is None, False)
         s, L = r.decode(words), answer[3]
-        loads, energies = r.load_table(s, L), r.energy_table(s, L)
-        for rates in product(range(1, words[1] + 1), repeat=len(s.tasks)):
-            other = (*answer[:2], r.total(loads, rates), L, r.total(energies, rates),
+        loads = r.load_table(s, L)
+        for rates in product(range(1, words[2] + 1), repeat=len(s.tasks)):
+            other = (*answer[:2], r.total(loads, rates), L, r.energy_of(words, rates),
                      list(rates))
             same(name + ', %r' % (other,), r.objection(words, other, 500) is None,
                  other == answer)
@@ -949,17 +1341,19 @@ def large_sets():
     """Sets of more plans: the two ways on 13 tasks, the sums on 32."""
     g = random.Random(2)
     for number in range(6):
-        words = [g.choice([200, 500, 1000]), 2, 1, 2, 13]
+        idle = number % 3
+        words = [g.choice([200, 500, 1000]), idle, 2, 1, 2, 13]
         for _ in range(13):
-            period = g.choice([4, 6, 8, 12])
-            words += [period, g.choice([1, 1, 2]), g.randint(1, 9), g.randint(1, 9)]
+            period, cycles = g.choice([4, 6, 8, 12]), g.choice([1, 1, 2])
+            words += [period, cycles, cycles * idle + g.randint(1, 9), idle + g.randint(0, 9) or 1]
         name = 'thirteen tasks %d' % number
         same(name, r.plan(words, 13, PLENTY, 'table'), r.plan(words, 13, PLENTY, 'all'))
     for number in range(6):
-        words = [g.choice([50, 200, 1000]), 8, *sorted(g.sample(range(1, 200), 8)), 32]
+        idle = 100 * (number % 3)
+        words = [g.choice([50, 200, 1000]), idle, 8, *sorted(g.sample(range(1, 200), 8)), 32]
         for _ in range(32):
             words += [g.choice([100, 200, 250, 500]), g.randint(1, 900)]
-            words += [g.randint(1, 1_000_000) for _ in range(8)]
+            words += [g.randint(200_000, 1_000_000) for _ in range(8)]
         name = '32 tasks %d' % number
         kind, unit, load, L, energy, rates = r.plan(words, 32, PLENTY)
         same(name, (load, energy), (r.load_of(words, rates), r.energy_of(words, rates)))
@@ -1013,6 +1407,10 @@ def plain_reader(data):
         fixed(b'(slack ')
         number()
         fixed(b')\n(')
+        if here() == b'i':
+            fixed(b'idle ')
+            number()
+            fixed(b')\n(')
         M = None                # under a chip there are no energies
         if here() == b'c':
             fixed(b'chip ')
@@ -1038,17 +1436,17 @@ def plain_reader(data):
 
 
 def states_after(prefix):
-    states = r.first_states()
+    states = r.FIRST_STATES
     for byte in prefix:
-        states = {after for state in states for after in r.next_states(state, byte)}
+        states = r.all_after(states, byte)
     return states
 
 
 def completed(prefix):
     """A text that begins with the prefix, made from one of its states."""
-    second, N, place, value = min(states_after(prefix),
-                                  key=lambda state: (str(state[0]), state[1]))
-    items = r.shape(second, N)[place:]
+    head, N, place, value = min(states_after(prefix),
+                                key=lambda state: (str(state[0]), state[1]))
+    items = r.shape(head, N)[place:]
     if value is not None:
         items = items[1:]       # a number has begun and may end here
     return prefix + b''.join(b'7' if i == r.NUMBER else bytes([i]) for i in items)
@@ -1068,7 +1466,11 @@ def random_texts():
 
         chip = g.choice([None, None, 'xscale', 'ppc405lp'])
         text = '(slack %d)\n' % some()
+        idle = g.choice([0, 0, 1, 1, 1, 1, 1, 2, -1])
+        text += '(idle %d)\n' % some() * max(idle, 0)
         text += '(chip %s)\n' % chip if chip else '(rates%s)\n' % some_row(M)
+        if idle < 0:            # behind the line that it stands before
+            text += '(idle %d)\n' % some()
         for _ in range(N):
             bare = bool(chip) != (g.randint(1, 12) == 1)        # now and then the other kind of line
             energies = M + g.choice([0, 0, 0, 0, 0, -1, 1])
@@ -1109,6 +1511,7 @@ def main():
         for part in (edges, errors, the_text, offsets, answers, preemptions,
                      generator_edges, generator_errors, generated_sets,
                      chip_edges, chip_errors, chip_offsets, chips_at_random,
+                     idle_edges, idle_errors, idle_offsets,
                      random_sets, objections, large_sets, random_texts):
             part()
     except AssertionError as failure:

@@ -1,5 +1,5 @@
 /* Calls the three entries of the archive many times and holds every answer, every lent word and what lies around the
-   lists to document 01, and of the generator to note 1 of document 02, as reference.c reads them.
+   lists to document 01, with the generator and the idle energy of document 02's notes 1 and 4, as reference.c reads them.
 
        calls [SEED [RANDOM SETS]]
 
@@ -58,8 +58,9 @@ struct call {
 /* ---- Counts */
 
 static struct {
-    uint64_t calls[ENTRIES], refused[ENTRIES][9], results_short[ENTRIES];
+    uint64_t calls[ENTRIES], refused[ENTRIES][11], results_short[ENTRIES];
     uint64_t planned, kept, missed;
+    uint64_t with_idle, idle_ticks, nothing_left, one_low, walked_low;
     uint64_t unit_1, unit_above_1, highest_last, full_load, one_over, alike, both_ways[2], preempted, full_walk, missed_at_end;
     uint64_t long_span;
     uint64_t generated, one_task, most_tasks, room_to_spare, generated_planned, generated_unplanned;
@@ -75,6 +76,8 @@ static const struct row rows[] = {
     {"calls of seedspell_plan", &count.calls[PLAN], 80000},
     {"  refused 2: bad word", &count.refused[PLAN][2], 10000},
     {"  refused 3: rate not above", &count.refused[PLAN][3], 1000},
+    {"  refused 10: energy below idle", &count.refused[PLAN][10], 3000},
+    {"    of these below by 1", &count.one_low, 500},
     {"  refused 4: hyper-period", &count.refused[PLAN][4], 1000},
     {"  refused 5: working list", &count.refused[PLAN][5], 1000},
     {"  refused 6: receiving list", &count.refused[PLAN][6], 1000},
@@ -82,6 +85,9 @@ static const struct row rows[] = {
     {"  refused 7: no plan fits", &count.refused[PLAN][7], 5000},
     {"    of these load L + 1", &count.one_over, 500},
     {"  plans", &count.planned, 20000},
+    {"    with an idle energy", &count.with_idle, 8000},
+    {"      and idle ticks", &count.idle_ticks, 4000},
+    {"      and of jobs nothing left", &count.nothing_left, 300},
     {"    of load L", &count.full_load, 2000},
     {"    unit 1", &count.unit_1, 1000},
     {"    unit above 1", &count.unit_above_1, 1000},
@@ -98,6 +104,7 @@ static const struct row rows[] = {
     {"  kept", &count.kept, 20000},
     {"    with preemptions", &count.preempted, 2000},
     {"    without idle ticks", &count.full_walk, 2000},
+    {"    with an energy below idle", &count.walked_low, 1000},
     {"  missed", &count.missed, 20000},
     {"    at the last tick", &count.missed_at_end, 1000},
     {"hyper-period over 2,000", &count.long_span, 10},
@@ -114,8 +121,29 @@ static const struct row rows[] = {
 };
 #define ROWS (sizeof rows / sizeof *rows)
 
+/* Of a set, the ticks of a job by an energy's place, times H. */
+static uint64_t waiting_at(const uint32_t *set, size_t place)
+{
+    size_t rates = set[2], task = (place - 4 - rates) / (2 + rates), at = 4 + rates + task * (2 + rates);
+    uint64_t rate = set[3 + place - at - 2];
+
+    return set[1] * ((set[at + 1] + rate - 1) / rate);
+}
+
+/* Whether some energy of a set is below what waiting costs. */
+static int is_low(const uint32_t *set)
+{
+    size_t rates = set[2], end = 4 + rates + set[3 + rates] * (2 + rates);
+
+    for (size_t place = 4 + rates; place < end; place++)
+        if ((place - 4 - rates) % (2 + rates) > 1 && set[place] < waiting_at(set, place))
+            return 1;
+    return 0;
+}
+
 static void count_call(const struct call *c, const struct answer *want)
 {
+    const uint32_t *set = c->set.word;
     uint64_t refused = want->code >> 32;
 
     count.calls[c->entry]++;
@@ -124,13 +152,18 @@ static void count_call(const struct call *c, const struct answer *want)
     count.results_short[c->entry] += want->code == ((uint64_t)6 << 32) + RESULT_BYTES && c->results_len < RESULT_BYTES;
     if (c->entry == PLAN) {
         count.one_over += refused == 7 && want->least_load == want->span + 1;
+        if (refused == 10)
+            count.one_low += set[want->code & UINT32_MAX] + 1 == waiting_at(set, want->code & UINT32_MAX);
         if (refused != 0)
             return;
         count.planned++;
+        count.with_idle += set[1] > 0;
+        count.idle_ticks += set[1] > 0 && want->value[1] < want->span;
+        count.nothing_left += set[1] > 0 && want->value[3] == want->waiting;
         count.full_load += want->value[1] == want->span;
         count.unit_1 += want->value[0] == 1;
         count.unit_above_1 += want->value[0] > 1;
-        count.highest_last += want->plan[want->plan_words - 1] == c->set.word[1];
+        count.highest_last += want->plan[want->plan_words - 1] == set[2];
         count.alike += want->alike > 1;
     } else if (c->entry == GENERATE && refused == 0) {
         count.generated++;
@@ -139,6 +172,7 @@ static void count_call(const struct call *c, const struct answer *want)
         count.room_to_spare += c->set_len > want->set_words;
     } else if (c->entry == WALK && refused == 0) {
         count.kept += want->value[0] == 1;
+        count.walked_low += want->value[0] == 1 && is_low(set);
         count.preempted += want->value[0] == 1 && want->value[3] > 0;
         count.full_walk += want->value[0] == 1 && want->value[2] == 0;
         count.missed += want->value[0] == 0;
@@ -471,7 +505,7 @@ static int is_long(const struct call *c)
 
 static size_t words_needed(const struct list *set)
 {
-    uint64_t tasks = set->word[2 + set->word[1]];
+    uint64_t tasks = set->word[3 + set->word[2]];
 
     return (tasks + 1) * (4000 * tasks / set->word[0] + 1);
 }
@@ -484,7 +518,7 @@ static void start_call(struct call *c, enum entry entry, const struct list *set,
     c->entry = entry;
     c->set = *set;
     c->set_len = set_len;
-    c->plan_len = is_set ? set->word[2 + set->word[1]] : MOST_TASKS;
+    c->plan_len = is_set ? set->word[3 + set->word[2]] : MOST_TASKS;
     c->work_len = entry == WALK ? 0 : is_set ? words_needed(set) : 3000;
     c->results_len = RESULT_BYTES;
     for (size_t i = 0; i < MOST_PLAN; i++)
@@ -567,7 +601,7 @@ static void plan_lending(const struct list *set, size_t plan_len, size_t work_le
 
 static void cases_of_s(void)
 {
-    static const uint32_t s[] = {100, 3, 2, 4, 8, 2, 10, 12, 4, 9, 20, 15, 20, 7, 15, 30};
+    static const uint32_t s[] = {100, 0, 3, 2, 4, 8, 2, 10, 12, 4, 9, 20, 15, 20, 7, 15, 30};
     struct list set = list_of(s, COUNT(s));
     struct answer want;
 
@@ -591,75 +625,125 @@ static void cases_of_s(void)
     set.word[0] = 0;
     plan_lending(&set, 2, 243, &want);
     demand(is_refusal(&want, 2, 0), "slack of 0");
+    set.word[0] = 100;
+    set.word[1] = 1;
+    plan_lending(&set, 2, 243, &want);
+    demand(is_refusal(&want, 10, 9), "S with an idle energy of 1");
+    walk_under(&set, (const uint32_t[]){2, 1}, 2, &want);
+    demand(has_values(&want, 1, 29, 1, 1), "its walk of 2 1");
+    set.word[1] = 1001;
+    plan_lending(&set, 2, 243, &want);
+    demand(is_refusal(&want, 2, 1), "S with an idle energy of 1,001");
 }
 
 static void cases_of_others(void)
 {
-    struct list set = list_of((const uint32_t[]){100, 2, 1, 2, 1, 30, 60, 1, 2}, 9);
-    struct list rates = list_of((const uint32_t[]){100, 2, 4, 4, 1, 30, 60, 1, 2}, 9);
-    struct list energy = list_of((const uint32_t[]){1000, 2, 1, 2, 1, 30, 30, 33, 33}, 9);
-    struct list periods = list_of((const uint32_t[]){100, 2, 1, 2, 2, 9999999, 1, 1, 1, 10000000, 1, 1, 1}, 13);
-    struct list period = list_of((const uint32_t[]){100, 2, 1, 2, 1, 10000000, 1, 1, 1}, 9);
+    struct list set = list_of((const uint32_t[]){100, 0, 2, 1, 2, 1, 30, 60, 1, 2}, 10);
+    struct list rates = list_of((const uint32_t[]){100, 0, 2, 4, 4, 1, 30, 60, 1, 2}, 10);
+    struct list energy = list_of((const uint32_t[]){1000, 0, 2, 1, 2, 1, 30, 30, 33, 33}, 10);
+    struct list periods = list_of((const uint32_t[]){100, 0, 2, 1, 2, 2, 9999999, 1, 1, 1, 10000000, 1, 1, 1}, 14);
+    struct list period = list_of((const uint32_t[]){100, 0, 2, 1, 2, 1, 10000000, 1, 1, 1}, 10);
     struct list empty = {{0}, 0};
     struct answer want;
 
     plan_lending(&set, 1, 82, &want);
     demand(want.code == 0 && want.value[1] == 30 && want.value[2] == 30 && want.plan[0] == 2, "60 cycles");
-    set.word[6] = 61;
+    set.word[7] = 61;
     plan_lending(&set, 1, 82, &want);
     demand(is_refusal(&want, 7, 0), "61 cycles");
     plan_lending(&energy, 1, 10, &want);
     demand(want.code == 0 && want.value[0] == 32, "one task energy of 33");
     plan_lending(&rates, 1, 82, &want);
-    demand(is_refusal(&want, 3, 3), "rates 4 4");
+    demand(is_refusal(&want, 3, 4), "rates 4 4");
     plan_lending(&empty, 1, 82, &want);
     demand(is_refusal(&want, 2, 0), "empty list");
     plan_lending(&periods, 2, 243, &want);
-    demand(is_refusal(&want, 4, 9), "periods 9,999,999 and 10,000,000");
+    demand(is_refusal(&want, 4, 10), "periods 9,999,999 and 10,000,000");
     plan_lending(&period, 1, 82, &want);
     demand(want.code == 0 && want.value[2] == 10000000, "period of 10,000,000");
     walk_under(&periods, (const uint32_t[]){1, 1}, 2, &want);
-    demand(is_refusal(&want, 4, 9), "walk of periods 9,999,999 and 10,000,000");
+    demand(is_refusal(&want, 4, 10), "walk of periods 9,999,999 and 10,000,000");
     walk_under(&rates, (const uint32_t[]){1}, 1, &want);
-    demand(is_refusal(&want, 3, 3), "walk of rates 4 4");
+    demand(is_refusal(&want, 3, 4), "walk of rates 4 4");
     walk_under(&empty, (const uint32_t[]){1}, 1, &want);
     demand(is_refusal(&want, 2, 0), "walk of the empty list");
+}
+
+/* Worked with a calculator: job times 90 and 10, so that waiting costs 900 and 100 of 10 a tick. */
+static void cases_of_idle(void)
+{
+    static const struct {
+        uint32_t idle, slow, fast;
+        uint64_t number, second;        /* a refusal, or */
+        uint64_t unit, load, energy, rate;
+    } cases[] = {
+        {10, 910, 200, 0, 0, 1, 90, 1010, 1},
+        {0, 910, 200, 0, 0, 8, 10, 200, 2},
+        {11, 910, 200, 10, 8, 0, 0, 0, 0},
+        {10, 900, 200, 0, 0, 1, 90, 1000, 1},   /* nothing is left of the slow rate's, */
+        {10, 899, 200, 10, 8, 0, 0, 0, 0},
+        {10, 910, 100, 0, 0, 1, 10, 1000, 2},   /* of the fast one's, and so the first unit is 1, */
+        {10, 910, 99, 10, 9, 0, 0, 0, 0},
+        {10, 900, 100, 0, 0, 1, 10, 1000, 2},   /* and of both, where the load decides */
+        {10, 900, 101, 0, 0, 1, 90, 1000, 1},
+        {10, 899, 99, 10, 8, 0, 0, 0, 0},
+        {1000, 1000000, 1000000, 0, 0, 32768, 90, 1010000, 1},
+    };
+    struct list set = list_of((const uint32_t[]){100, 0, 2, 1, 9, 1, 100, 90, 0, 0}, 10);
+    struct answer want;
+
+    for (size_t i = 0; i < COUNT(cases); i++) {
+        set.word[1] = cases[i].idle;
+        set.word[8] = cases[i].slow;
+        set.word[9] = cases[i].fast;
+        plan_lending(&set, 1, 82, &want);
+        demand(cases[i].number > 0 ? is_refusal(&want, cases[i].number, cases[i].second)
+                                   : has_values(&want, cases[i].unit, cases[i].load, 100, cases[i].energy)
+                                         && want.plan[0] == cases[i].rate,
+               "an idle energy");
+        walk_under(&set, (const uint32_t[]){1}, 1, &want);
+        demand(has_values(&want, 1, 90, 10, 0), "a walk with an idle energy");
+    }
+    /* 512 x 2^23 is 0 at 32 bits. */
+    set = list_of((const uint32_t[]){100, 512, 2, 1, 2, 1, 10000000, 8388608, 1000000, 1000000}, 10);
+    plan_lending(&set, 1, 82, &want);
+    demand(is_refusal(&want, 10, 8), "a job of 8,388,608 ticks");
 }
 
 /* Worked with a calculator: from seed 0 the draws are 15470, 18256, 53708, 43769, 25170, 40750, 22526, 41945, 33277,
    from 4294967295 they are 15445, 12311, 8835, from 174 19890, 3999, 62834, and from 378 25071, 37000, 41894. */
 static void cases_of_generator(void)
 {
-    static const uint32_t from_0[] = {100, 5, 100, 200, 300, 400, 500, 3, 200, 257, 7, 28, 63, 112, 175,
+    static const uint32_t from_0[] = {100, 0, 5, 100, 200, 300, 400, 500, 3, 200, 257, 7, 28, 63, 112, 175,
                                       20, 171, 9, 36, 81, 144, 225, 200, 946, 6, 24, 54, 96, 150};
-    static const uint32_t one[][15] = {{100, 5, 100, 200, 300, 400, 500, 1, 100, 312, 8, 32, 72, 128, 200},
-                                       {100, 5, 100, 200, 300, 400, 500, 1, 25, 1000, 7, 28, 63, 112, 175},
-                                       {100, 5, 100, 200, 300, 400, 500, 1, 400, 1, 10, 40, 90, 160, 250}};
+    static const uint32_t one[][16] = {{100, 0, 5, 100, 200, 300, 400, 500, 1, 100, 312, 8, 32, 72, 128, 200},
+                                       {100, 0, 5, 100, 200, 300, 400, 500, 1, 25, 1000, 7, 28, 63, 112, 175},
+                                       {100, 0, 5, 100, 200, 300, 400, 500, 1, 400, 1, 10, 40, 90, 160, 250}};
     static const uint32_t seeds[] = {4294967295u, 174, 378};
     struct answer want;
 
-    generate_lending(0, 3, 29, 32, &want);
-    demand(has_values(&want, 29, 0, 0, 0) && memcmp(want.set, from_0, sizeof from_0) == 0, "three tasks from seed 0");
+    generate_lending(0, 3, 30, 32, &want);
+    demand(has_values(&want, 30, 0, 0, 0) && memcmp(want.set, from_0, sizeof from_0) == 0, "three tasks from seed 0");
     for (size_t i = 0; i < COUNT(seeds); i++) {
         generate_lending(seeds[i], 1, 400, 40, &want);
-        demand(has_values(&want, 15, 0, 0, 0) && memcmp(want.set, one[i], sizeof one[i]) == 0, "a task from a seed");
+        demand(has_values(&want, 16, 0, 0, 0) && memcmp(want.set, one[i], sizeof one[i]) == 0, "a task from a seed");
     }
     generate_lending(7, 0, 400, 32, &want);
     demand(is_refusal(&want, 2, 0), "no task");
     generate_lending(7, 33, 0, 0, &want);
     demand(is_refusal(&want, 2, 0), "33 tasks, and no word");
-    generate_lending(7, 32, 231, 0, &want);
-    demand(is_refusal(&want, 6, 232), "32 tasks in 231 words");
-    generate_lending(7, 32, 232, 31, &want);
+    generate_lending(7, 32, 232, 0, &want);
+    demand(is_refusal(&want, 6, 233), "32 tasks in 232 words");
+    generate_lending(7, 32, 233, 31, &want);
     demand(is_refusal(&want, 6, 32), "31 bytes for results");
 }
 
 /* Two lists that are only read may be one: here the plan is the first task's energies. */
 static void case_of_one_list(void)
 {
-    static const uint32_t s[] = {100, 2, 2, 4, 2, 10, 12, 2, 1, 15, 20, 7, 15};
+    static const uint32_t s[] = {100, 0, 2, 2, 4, 2, 10, 12, 2, 1, 15, 20, 7, 15};
     uint8_t results[RESULT_BYTES], must[RESULT_BYTES] = {1};
-    uint64_t code = seedspell_walk(s, COUNT(s), s + 7, 2, results, sizeof results);
+    uint64_t code = seedspell_walk(s, COUNT(s), s + 8, 2, results, sizeof results);
 
     must[8] = 29;
     must[16] = 1;
@@ -760,7 +844,7 @@ static void edge_periods(void)
             shape.period[5] = 10000000;         /* passes it again, later */
             flatten(&shape, &set);
             try_both(&set, set.len);
-            set.word[2] = 20;                   /* a rate not above the one before it comes first */
+            set.word[3] = 20;                   /* a rate not above the one before it comes first */
             try_both(&set, set.len);
         }
 }
@@ -791,7 +875,7 @@ static void edge_lent_sets(void)
     struct list set;
 
     for (uint32_t tasks = 1; tasks <= 8; tasks++)
-        for (int kind = 0; kind < 6; kind++) {
+        for (int kind = 0; kind < 9; kind++) {
             plain_shape(&shape, 2 + tasks % 3, tasks);
             shape.slack = 1 + (uint32_t)draw(0, 999) / (kind == 1 ? 10 : 1);
             if (kind == 2)
@@ -800,12 +884,63 @@ static void edge_lent_sets(void)
                 shape.rate[1] = shape.rate[0];
             if (kind == 4)
                 shape.energy[tasks - 1][0] = 0;
-            if (kind == 5)
+            if (kind == 5 || kind == 8)
                 shape.period[tasks - 1] = 9999991;      /* with 40 too long */
+            if (kind == 6)
+                raise_energies(&shape, 1 + 199 * tasks);
+            if (kind > 6) {                             /* an energy below what waiting costs */
+                shape.idle = 10;
+                shape.cycles[tasks - 1] = 400;
+            }
             flatten(&shape, &set);
-            if (kind < 5 || tasks > 1)
+            if (kind != 5 || tasks > 1)
                 edge_lent(&set, tasks);
         }
+}
+
+/* Every energy as high as waiting costs, or a little more; then one and two of them one lower, or as low as can be. */
+static void edge_idle(uint32_t rates, uint32_t tasks, uint32_t idle, uint32_t left)
+{
+    struct shape shape;
+    struct list set;
+    size_t first = 4 + rates;
+
+    plain_shape(&shape, rates, tasks);
+    for (uint32_t t = 0; t < tasks; t++) {
+        shape.cycles[t] = 10 + 25 * (t % 4);
+        for (uint32_t r = 0; r < rates; r++)
+            shape.energy[t][r] = left;
+    }
+    raise_energies(&shape, idle);
+    flatten(&shape, &set);
+    try_both(&set, set.len);
+    for (size_t a = first; a < set.len; a++) {
+        uint32_t word = set.word[a];
+        size_t b = draw(first, set.len - 1);
+        if ((a - first) % (2 + rates) < 2)
+            continue;
+        for (uint32_t low = 0; low < 3; low++) {
+            uint32_t other = set.word[b];
+            set.word[a] = low == 0 ? word - left - 1 : low == 1 ? word - left : 1;
+            try_both(&set, set.len);
+            if (b != a && (b - first) % (2 + rates) > 1)
+                set.word[b] = low == 2 ? 1 : other - left - 1;
+            try_both(&set, set.len);
+            set.word[b] = other;
+            set.word[a] = word;
+        }
+    }
+}
+
+static void edge_idle_sets(void)
+{
+    for (uint32_t rates = 2; rates <= 8; rates += 3)
+        for (uint32_t tasks = 1; tasks <= 5; tasks += 2)
+            for (uint32_t left = 0; left <= 2; left++) {
+                edge_idle(rates, tasks, 2 + left, left);
+                edge_idle(rates, tasks, 1000 - left, left);
+            }
+    edge_idle(8, 32, 77, 0);
 }
 
 /* The walk's plan of every length, with bad words at every one and two places, and results of every size about 32. */
@@ -858,8 +993,8 @@ static void edge_load(void)
 /* The generator's lists of each length about what it needs, in all combinations, also where N is none that it takes. */
 static void edge_generate(uint32_t tasks)
 {
-    const size_t needed = tasks < 40 ? 8 + 7 * tasks : 232, results[] = {0, 1, 31, 32, 33, 40},
-                 set[] = {0, 1, needed - 8, needed - 1, needed, needed + 1, MOST_WORDS};
+    const size_t needed = tasks < 40 ? 9 + 7 * tasks : 233, results[] = {0, 1, 31, 32, 33, 40},
+                 set[] = {0, 1, needed - 9, needed - 1, needed, needed + 1, MOST_WORDS};
     struct answer want;
 
     for (size_t i = 0; i < COUNT(set); i++)
@@ -887,12 +1022,12 @@ static void edge_seeds(void)
     struct answer want;
 
     for (uint32_t i = 0; i < 2000; i++) {
-        generate_lending(i, 1, 15, 32, &want);
-        generate_lending(UINT32_MAX - i, 1, 15, 32, &want);
+        generate_lending(i, 1, 16, 32, &want);
+        generate_lending(UINT32_MAX - i, 1, 16, 32, &want);
     }
     for (uint32_t bit = 0; bit < 32; bit++)
         for (uint32_t more = 0; more <= 2; more++)
-            generate_lending(((uint32_t)1 << bit) + more - 1, MOST_TASKS, 232, 32, &want);
+            generate_lending(((uint32_t)1 << bit) + more - 1, MOST_TASKS, 233, 32, &want);
 }
 
 /* ---- Long hyper-periods, few */
@@ -934,6 +1069,11 @@ static void long_spans(void)
     limit_shape(&shape, 32, 1, 128000);
     flatten(&shape, &set);
     plan_and_walk(&set, &(struct answer){0});
+    /* The same with the highest idle energy that 4,001 ticks allow, and with one more, which the planner refuses. */
+    for (shape.idle = 249; shape.idle <= 250; shape.idle++) {
+        flatten(&shape, &set);
+        plan_lending(&set, 32, words_needed(&set), &(struct answer){0});
+    }
     /* 10,000,000 as a multiple, with periods that are not alike. */
     plain_shape(&shape, 3, 2);
     shape.period[0] = 128;
@@ -962,6 +1102,15 @@ static void long_spans(void)
     shape.energy[0][0] = shape.energy[0][1] = 1000000;
     flatten(&shape, &set);
     plan_and_walk(&set, &(struct answer){0});
+    /* The highest idle energy for all ticks but one, and for none. */
+    plain_shape(&shape, 2, 1);
+    shape.period[0] = 10000000;
+    raise_energies(&shape, 1000);
+    flatten(&shape, &set);
+    plan_lending(&set, 1, words_needed(&set), &(struct answer){0});
+    shape.period[0] = 1;
+    flatten(&shape, &set);
+    plan_lending(&set, 1, words_needed(&set), &(struct answer){0});
 }
 
 /* The widest table: slack 1 and 32 tasks. */
@@ -987,7 +1136,7 @@ static void widest(void)
 static void random_plan(const struct list *set, uint32_t *plan, size_t tasks)
 {
     for (size_t t = 0; t < tasks; t++)
-        plan[t] = (uint32_t)draw(1, set->word[1]);
+        plan[t] = (uint32_t)draw(1, set->word[2]);
 }
 
 /* Lengths that are one short at times, of any list. */
@@ -1061,7 +1210,7 @@ static void random_calls(uint64_t sets)
 static void random_generate(void)
 {
     uint32_t tasks = one_in(16) ? MOST_TASKS : (uint32_t)draw(1, one_in(2) ? MOST_TASKS : 4);
-    size_t set_len = 8 + 7 * tasks, results_len = RESULT_BYTES;
+    size_t set_len = 9 + 7 * tasks, results_len = RESULT_BYTES;
     struct answer want;
 
     switch (draw(0, 9)) {
@@ -1084,7 +1233,7 @@ static void random_generated_set(void)
     struct answer want;
     struct list set;
 
-    generate_lending((uint32_t)draw(0, UINT32_MAX), tasks, 8 + 7 * tasks, RESULT_BYTES, &want);
+    generate_lending((uint32_t)draw(0, UINT32_MAX), tasks, 9 + 7 * tasks, RESULT_BYTES, &want);
     set = list_of(want.set, want.set_words);
     plan_and_walk(&set, &want);
     count.generated_planned += want.code == 0;
@@ -1106,6 +1255,7 @@ static void edge_calls(void)
 {
     cases_of_s();
     cases_of_others();
+    cases_of_idle();
     cases_of_generator();
     case_of_one_list();
     for (uint32_t rates = 2; rates <= 8; rates += 3) {
@@ -1122,6 +1272,7 @@ static void edge_calls(void)
     edge_rates();
     edge_periods();
     edge_lent_sets();
+    edge_idle_sets();
     edge_load();
     edge_generated_tasks();
     edge_seeds();

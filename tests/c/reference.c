@@ -1,4 +1,5 @@
-/* Document 01's checks, planner and walk and document 02's generator, read as they stand there. Slow on purpose. */
+/* Document 01's checks, planner and walk, with document 02's idle energy, and its generator, read as they stand there.
+   Slow on purpose. */
 
 #include <stdio.h>
 #include <stdlib.h>
@@ -14,7 +15,7 @@ struct task {
 };
 
 struct task_set {
-    uint64_t slack, rates, tasks;
+    uint64_t slack, idle, rates, tasks;
     uint64_t rate[MOST_RATES + 1];      /* by rate number; nothing at 0 */
     struct task task[MOST_TASKS];
     uint64_t span;                      /* the hyper-period */
@@ -54,6 +55,7 @@ static uint64_t check_2(const uint32_t *set, size_t set_len, struct task_set *s)
     struct source from = {set, set_len, 0, 0};
 
     s->slack = next_word(&from, 1, 1000);
+    s->idle = next_word(&from, 0, 1000);
     s->rates = next_word(&from, 2, 8);
     for (uint64_t r = 1; r <= s->rates; r++)
         s->rate[r] = next_word(&from, 1, 1000000);
@@ -72,7 +74,34 @@ static uint64_t check_3(const struct task_set *s)
 {
     for (uint64_t r = 2; r <= s->rates; r++)
         if (!(s->rate[r] > s->rate[r - 1]))
-            return refusal(3, 1 + r);
+            return refusal(3, 2 + r);
+    return 0;
+}
+
+/* The place at which a task begins, with its period. */
+static uint64_t place_of(const struct task_set *s, uint64_t t)
+{
+    return 4 + s->rates + t * (2 + s->rates);
+}
+
+static uint64_t job_time(const struct task_set *s, uint64_t t, uint64_t r)
+{
+    return divided_up(s->task[t].cycles, s->rate[r]);
+}
+
+/* 'H x job time' */
+static uint64_t waiting(const struct task_set *s, uint64_t t, uint64_t r)
+{
+    return s->idle * job_time(s, t, r);
+}
+
+/* 'An energy below H x job time, with the first such energy's place' */
+static uint64_t check_10(const struct task_set *s)
+{
+    for (uint64_t t = 0; t < s->tasks; t++)
+        for (uint64_t r = 1; r <= s->rates; r++)
+            if (s->task[t].energy[r] < waiting(s, t, r))
+                return refusal(10, place_of(s, t) + 1 + r);
     return 0;
 }
 
@@ -94,18 +123,23 @@ static uint64_t check_4(struct task_set *s)
     for (uint64_t t = 0; t < s->tasks; t++) {
         running = common_multiple(running, s->task[t].period);
         if (running > LONGEST)
-            return refusal(4, 3 + s->rates + t * (2 + s->rates));
+            return refusal(4, place_of(s, t));
     }
     s->span = running;
     return 0;
 }
 
-static uint64_t check_set(const uint32_t *set, size_t set_len, struct task_set *s)
+enum call { PLANNER, WALK };
+
+/* 'Planner: 2, 3, 4, .. Walk: 2, 3, 4, ..', and 10 'after 3, before 4, and never by walk or writer' */
+static uint64_t check_set(enum call call, const uint32_t *set, size_t set_len, struct task_set *s)
 {
     uint64_t refused = check_2(set, set_len, s);
 
     if (refused == 0)
         refused = check_3(s);
+    if (refused == 0 && call == PLANNER)
+        refused = check_10(s);
     if (refused == 0)
         refused = check_4(s);
     return refused;
@@ -120,11 +154,6 @@ int can_be_written(const uint32_t *set, size_t set_len)
 
 /* ---- Loads and energies */
 
-static uint64_t job_time(const struct task_set *s, uint64_t t, uint64_t r)
-{
-    return divided_up(s->task[t].cycles, s->rate[r]);
-}
-
 static uint64_t task_load(const struct task_set *s, uint64_t t, uint64_t r)
 {
     return s->span / s->task[t].period * job_time(s, t, r);
@@ -135,9 +164,23 @@ static uint64_t task_energy(const struct task_set *s, uint64_t t, uint64_t r)
     return s->span / s->task[t].period * s->task[t].energy[r];
 }
 
+/* 'The energy per job less H x job time', which 'units, rounding and selection now use'. After check 10 it is not below
+   0; that it stops there is for a stand-in without that check. */
+static uint64_t left_of(const struct task_set *s, uint64_t t, uint64_t r)
+{
+    uint64_t energy = s->task[t].energy[r], idle = waiting(s, t, r);
+
+    return energy > idle ? energy - idle : 0;
+}
+
+static uint64_t reduced_energy(const struct task_set *s, uint64_t t, uint64_t r)
+{
+    return s->span / s->task[t].period * left_of(s, t, r);
+}
+
 static uint64_t rounded_energy(const struct task_set *s, uint64_t t, uint64_t r, uint64_t unit)
 {
-    return divided_up(task_energy(s, t, r), unit);
+    return divided_up(reduced_energy(s, t, r), unit);
 }
 
 static int fits(const struct task_set *s, uint64_t load)
@@ -297,13 +340,13 @@ static uint64_t choose(enum way way, const struct task_set *s, uint64_t unit, st
     return way == ALL_PLANS ? choose_from_all(s, unit, best) : choose_task_by_task(s, unit, best);
 }
 
-/* 'The smallest power of two not below the energy of the plan with every task at rate M'; no energy is 0 here. */
+/* 'The smallest power of two not below the energy of the plan with every task at rate M; 1 if that energy is 0' */
 static uint64_t first_unit(const struct task_set *s)
 {
     uint64_t energy = 0, unit = 1;
 
     for (uint64_t t = 0; t < s->tasks; t++)
-        energy += task_energy(s, t, s->rates);
+        energy += reduced_energy(s, t, s->rates);
     while (unit < energy)
         unit *= 2;
     return unit;
@@ -356,6 +399,9 @@ static void give_plan(const struct task_set *s, uint64_t unit, struct entry *bes
         answer->value[1] += task_load(s, t, r);
         answer->value[3] += task_energy(s, t, r);
     }
+    /* 'plus H x (L - load)' */
+    answer->value[3] += s->idle * (s->span - answer->value[1]);
+    answer->waiting = s->idle * s->span;
     answer->plan_words = s->tasks;
     answer->work_words = words_needed(s);
 }
@@ -368,7 +414,7 @@ void expect_plan(enum way way, const uint32_t *set, size_t set_len, size_t plan_
     uint64_t unit;
 
     *answer = (struct answer){0};
-    answer->code = check_set(set, set_len, &s);
+    answer->code = check_set(PLANNER, set, set_len, &s);
     if (answer->code != 0)
         return;
     answer->span = s.span;
@@ -497,7 +543,7 @@ void expect_walk(const uint32_t *set, size_t set_len, const uint32_t *plan, size
     struct task_set s;
 
     *answer = (struct answer){0};
-    answer->code = check_set(set, set_len, &s);
+    answer->code = check_set(WALK, set, set_len, &s);
     if (answer->code != 0)
         return;
     answer->span = s.span;
@@ -535,23 +581,24 @@ static void generate_task(uint64_t *state, uint32_t *task)
         task[1 + j] = (uint32_t)(factor * j * j);
 }
 
-/* 'The set has slack 100 and five rates, 100 x j for rate j.' */
+/* 'The set has slack 100 and five rates, 100 x j for rate j', and of H 'the generator's hold 0 there'. */
 static void generate(uint32_t seed, uint32_t tasks, uint32_t *set)
 {
     uint64_t state = seed;
 
     set[0] = 100;
-    set[1] = 5;
+    set[1] = 0;
+    set[2] = 5;
     for (uint32_t j = 1; j <= 5; j++)
-        set[1 + j] = 100 * j;
-    set[7] = tasks;
+        set[2 + j] = 100 * j;
+    set[8] = tasks;
     for (uint32_t t = 0; t < tasks; t++)
-        generate_task(&state, &set[8 + 7 * t]);
+        generate_task(&state, &set[9 + 7 * t]);
 }
 
 static size_t generated_words(uint32_t tasks)
 {
-    return 8 + 7 * (size_t)tasks;
+    return 9 + 7 * (size_t)tasks;
 }
 
 /* 'Errors: 2 with place 0 for N outside 1 to 32, then 6.' */

@@ -70,9 +70,9 @@ fi
 # Document 01's plausible errors
 plant rate-entry-one-late reference.c 's->task[t].cycles, s->rate[r])' 's->task[t].cycles, s->rate[r + 1])'
 plant energy-entry-one-early reference.c 's->task[t].period * s->task[t].energy[r]' 's->task[t].period * s->task[t].energy[r - 1]'
-plant rounded-to-nearest reference.c 'divided_up(task_energy(s, t, r), unit)' '(task_energy(s, t, r) + unit / 2) / unit'
-plant rounded-down reference.c 'divided_up(task_energy(s, t, r), unit)' 'task_energy(s, t, r) / unit'
-plant rounded-by-job reference.c 'divided_up(task_energy(s, t, r), unit)' 's->span / s->task[t].period * divided_up(s->task[t].energy[r], unit)'
+plant rounded-to-nearest reference.c 'divided_up(reduced_energy(s, t, r), unit)' '(reduced_energy(s, t, r) + unit / 2) / unit'
+plant rounded-down reference.c 'divided_up(reduced_energy(s, t, r), unit)' 'reduced_energy(s, t, r) / unit'
+plant rounded-by-job reference.c 'divided_up(reduced_energy(s, t, r), unit)' 's->span / s->task[t].period * divided_up(left_of(s, t, r), unit)'
 plant full-load-refused reference.c 'return load <= s->span;' 'return load < s->span;'
 plant load-one-over reference.c 'return load <= s->span;' 'return load <= s->span + 1;'
 plant ties-by-rate-first reference.c 'if (x->load != y->load)' 'if (0)'
@@ -82,7 +82,7 @@ plant miss-when-late-job-ends reference.c 'if (job[t].left != 0 && is_due(s, t, 
 
 # The choice
 plant job-time-rounded-down reference.c 'return divided_up(s->task[t].cycles, s->rate[r]);' 'return s->task[t].cycles / s->rate[r];'
-plant first-unit-of-lowest-rate reference.c 'energy += task_energy(s, t, s->rates);' 'energy += task_energy(s, t, 1);'
+plant first-unit-of-lowest-rate reference.c 'energy += reduced_energy(s, t, s->rates);' 'energy += reduced_energy(s, t, 1);'
 plant stops-only-above reference.c 'return s->slack * rounded >= 2000 * s->tasks;' 'return s->slack * rounded > 2000 * s->tasks;'
 plant stops-one-task-early reference.c 'return s->slack * rounded >= 2000 * s->tasks;' 'return s->slack * rounded >= 2000 * (s->tasks - 1);'
 plant smallest-unit-2 reference.c '|| unit == 1)' '|| unit <= 2)'
@@ -102,10 +102,10 @@ plant energy-one-more reference.c 's->task[t].energy[r] = next_word(&from, 1, 10
 plant left-over-allowed reference.c 'from.at_fault || from.at < from.len ?' 'from.at_fault ?'
 plant reads-past-the-set reference.c 'from->at == from->len ||' 'from->at == from->len + 1 ||'
 plant equal-rates-allowed reference.c 'if (!(s->rate[r] > s->rate[r - 1]))' 'if (!(s->rate[r] >= s->rate[r - 1]))'
-plant rate-number-for-place reference.c 'return refusal(3, 1 + r);' 'return refusal(3, r);'
+plant rate-number-for-place reference.c 'return refusal(3, 2 + r);' 'return refusal(3, r);'
 plant span-below-limit reference.c 'if (running > LONGEST)' 'if (running >= LONGEST)'
 plant span-one-over reference.c 'if (running > LONGEST)' 'if (running > LONGEST + 1)'
-plant place-of-cycles reference.c 'return refusal(4, 3 + s->rates' 'return refusal(4, 4 + s->rates'
+plant place-of-cycles reference.c 'return refusal(4, place_of(s, t));' 'return refusal(4, place_of(s, t) + 1);'
 plant fewer-words-needed reference.c '(4000 * s->tasks / s->slack + 1)' '(4000 * s->tasks / s->slack)'
 plant words-rounded-up reference.c '(4000 * s->tasks / s->slack + 1)' '(divided_up(4000 * s->tasks, s->slack) + 1)'
 plant work-one-more-asked reference.c 'if (work_len < words_needed(s))' 'if (work_len <= words_needed(s))'
@@ -118,6 +118,103 @@ plant plan-word-0 reference.c 'if (plan[i] < 1 ||' 'if (plan[i] < 0 ||'
 plant long-plan-by-length reference.c 'lowest = s->tasks;' 'lowest = plan_len;'
 plant last-bad-plan-word reference.c 'for (size_t i = plan_len; i-- > 0;)' 'for (size_t i = 0; i < plan_len; i++)'
 plant results-before-8 reference.c 'if (answer->code == 0 && results_len < RESULT_BYTES)' 'if (results_len < RESULT_BYTES)'
+
+# The idle energy
+plant idle-to-1001 reference.c 's->idle = next_word(&from, 0, 1000);' 's->idle = next_word(&from, 0, 1001);'
+plant idle-to-999 reference.c 's->idle = next_word(&from, 0, 1000);' 's->idle = next_word(&from, 0, 999);'
+plant idle-from-1 reference.c 's->idle = next_word(&from, 0, 1000);' 's->idle = next_word(&from, 1, 1000);'
+plant idle-before-slack reference.c 's->slack = next_word(&from, 1, 1000);
+    s->idle = next_word(&from, 0, 1000);' 's->idle = next_word(&from, 0, 1000);
+    s->slack = next_word(&from, 1, 1000);'
+plant idle-behind-rate-count reference.c 's->idle = next_word(&from, 0, 1000);
+    s->rates = next_word(&from, 2, 8);' 's->rates = next_word(&from, 2, 8);
+    s->idle = next_word(&from, 0, 1000);'
+plant no-idle-word reference.c 's->idle = next_word(&from, 0, 1000);' 's->idle = 0;'
+plant selected-as-given reference.c 'return energy > idle ? energy - idle : 0;' 'return energy;'
+plant idle-once-for-a-job reference.c 'idle = waiting(s, t, r);' 'idle = s->idle;'
+plant idle-put-in reference.c 'return energy > idle ? energy - idle : 0;' 'return energy + idle;'
+plant idle-once-for-a-task reference.c 'return s->span / s->task[t].period * left_of(s, t, r);' 'return task_energy(s, t, r) > waiting(s, t, r) ? task_energy(s, t, r) - waiting(s, t, r) : 0;'
+plant at-least-1-is-left reference.c 'return energy > idle ? energy - idle : 0;' 'return energy > idle ? energy - idle : 1;'
+plant rounded-before-idle reference.c 'divided_up(reduced_energy(s, t, r), unit)' 'divided_up(task_energy(s, t, r), unit) - s->span / s->task[t].period * waiting(s, t, r) / unit'
+plant first-unit-of-0 reference.c 'while (unit < energy)
+        unit *= 2;' 'if (energy == 0)
+        unit = 0;
+    while (unit < energy)
+        unit *= 2;'
+plant stops-where-nothing-is-left reference.c 'qualifies(&s, best.rounded) ||' 'best.rounded == 0 || qualifies(&s, best.rounded) ||'
+plant idle-not-reported reference.c 'answer->value[3] += s->idle * (s->span - answer->value[1]);' ''
+plant idle-for-busy-ticks-too reference.c 's->idle * (s->span - answer->value[1]);' 's->idle * s->span;'
+plant idle-for-busy-ticks reference.c 's->idle * (s->span - answer->value[1]);' 's->idle * answer->value[1];'
+plant idle-for-a-tick-more reference.c 's->idle * (s->span - answer->value[1]);' 's->idle * (s->span - answer->value[1] + 1);'
+plant idle-at-32-bits reference.c 's->idle * (s->span - answer->value[1]);' '(uint32_t)(s->idle * (s->span - answer->value[1]));'
+plant reduced-energy-reported reference.c 'answer->value[3] += s->idle * (s->span - answer->value[1]);' 'answer->value[3] -= s->idle * answer->value[1];'
+plant 10-at-equality reference.c 'if (s->task[t].energy[r] < waiting(s, t, r))' 'if (s->task[t].energy[r] <= waiting(s, t, r))'
+plant 10-from-2-below reference.c 'if (s->task[t].energy[r] < waiting(s, t, r))' 'if (s->task[t].energy[r] + 1 < waiting(s, t, r))'
+plant 10-by-h-alone reference.c 'if (s->task[t].energy[r] < waiting(s, t, r))' 'if (s->task[t].energy[r] < s->idle)'
+plant 10-by-full-ticks reference.c 'if (s->task[t].energy[r] < waiting(s, t, r))' 'if (s->task[t].energy[r] < s->idle * (s->task[t].cycles / s->rate[r]))'
+plant 10-at-32-bits reference.c 'if (s->task[t].energy[r] < waiting(s, t, r))' 'if (s->task[t].energy[r] < (uint32_t)waiting(s, t, r))'
+plant 10-of-rates-that-fit reference.c 'if (s->task[t].energy[r] < waiting(s, t, r))' 'if (s->task[t].energy[r] < waiting(s, t, r) && job_time(s, t, r) <= s->task[t].period)'
+plant 10-of-the-lowest-rate reference.c 'for (uint64_t r = 1; r <= s->rates; r++)
+            if (s->task[t].energy[r] < waiting(s, t, r))' 'for (uint64_t r = 1; r <= 1; r++)
+            if (s->task[t].energy[r] < waiting(s, t, r))'
+plant 10-of-the-highest-rate reference.c 'for (uint64_t r = 1; r <= s->rates; r++)
+            if (s->task[t].energy[r] < waiting(s, t, r))' 'for (uint64_t r = s->rates; r <= s->rates; r++)
+            if (s->task[t].energy[r] < waiting(s, t, r))'
+plant 10-not-of-the-last-task reference.c 'for (uint64_t t = 0; t < s->tasks; t++)
+        for (uint64_t r = 1; r <= s->rates; r++)
+            if (s->task[t].energy[r] < waiting(s, t, r))' 'for (uint64_t t = 0; t + 1 < s->tasks; t++)
+        for (uint64_t r = 1; r <= s->rates; r++)
+            if (s->task[t].energy[r] < waiting(s, t, r))'
+plant 10-rates-before-tasks reference.c 'for (uint64_t t = 0; t < s->tasks; t++)
+        for (uint64_t r = 1; r <= s->rates; r++)
+            if (s->task[t].energy[r] < waiting(s, t, r))' 'for (uint64_t r = 1; r <= s->rates; r++)
+        for (uint64_t t = 0; t < s->tasks; t++)
+            if (s->task[t].energy[r] < waiting(s, t, r))'
+plant 10-highest-rate-first reference.c 'for (uint64_t r = 1; r <= s->rates; r++)
+            if (s->task[t].energy[r] < waiting(s, t, r))' 'for (uint64_t r = s->rates; r >= 1; r--)
+            if (s->task[t].energy[r] < waiting(s, t, r))'
+plant 10-last-task-first reference.c 'for (uint64_t t = 0; t < s->tasks; t++)
+        for (uint64_t r = 1; r <= s->rates; r++)
+            if (s->task[t].energy[r] < waiting(s, t, r))' 'for (uint64_t t = s->tasks; t-- > 0;)
+        for (uint64_t r = 1; r <= s->rates; r++)
+            if (s->task[t].energy[r] < waiting(s, t, r))'
+plant 10-one-place-early reference.c 'return refusal(10, place_of(s, t) + 1 + r);' 'return refusal(10, place_of(s, t) + r);'
+plant 10-one-place-late reference.c 'return refusal(10, place_of(s, t) + 1 + r);' 'return refusal(10, place_of(s, t) + 2 + r);'
+plant 10-with-its-period reference.c 'return refusal(10, place_of(s, t) + 1 + r);' 'return refusal(10, place_of(s, t));'
+plant 10-with-the-task reference.c 'return refusal(10, place_of(s, t) + 1 + r);' 'return refusal(10, t + 1);'
+plant 10-before-3 reference.c 'if (refused == 0)
+        refused = check_3(s);
+    if (refused == 0 && call == PLANNER)
+        refused = check_10(s);' 'if (refused == 0 && call == PLANNER)
+        refused = check_10(s);
+    if (refused == 0)
+        refused = check_3(s);'
+plant 10-after-4 reference.c 'if (refused == 0 && call == PLANNER)
+        refused = check_10(s);
+    if (refused == 0)
+        refused = check_4(s);' 'if (refused == 0)
+        refused = check_4(s);
+    if (refused == 0 && call == PLANNER)
+        refused = check_10(s);'
+plant 10-after-5-and-6 reference.c 'check_set(PLANNER, set, set_len, &s);
+    if (answer->code != 0)
+        return;
+    answer->span = s.span;
+    answer->least_load = least_load(&s);
+    answer->plans = number_of_plans(&s);
+    answer->code = check_lent(&s, plan_len, work_len, results_len);' 'check_set(WALK, set, set_len, &s);
+    if (answer->code != 0)
+        return;
+    answer->span = s.span;
+    answer->plans = number_of_plans(&s);
+    answer->code = check_lent(&s, plan_len, work_len, results_len);
+    if (answer->code == 0)
+        answer->code = check_10(&s);'
+plant 10-after-7 reference.c 'check_set(PLANNER, set, set_len, &s);' 'check_set(WALK, set, set_len, &s);
+    if (answer->code == 0 && (check_lent(&s, plan_len, work_len, results_len) != 0 || least_load(&s) <= s.span))
+        answer->code = check_10(&s);'
+plant 10-never reference.c 'if (refused == 0 && call == PLANNER)' 'if (0)'
+plant 10-by-the-walk reference.c 'if (refused == 0 && call == PLANNER)' 'if (refused == 0)'
 
 # The walk
 plant ties-to-higher-task reference.c 'job[t].deadline < earliest->deadline))' 'job[t].deadline <= earliest->deadline))'
@@ -166,9 +263,12 @@ plant a-step-before-the-first reference.c 'uint64_t state = seed;' 'uint64_t sta
 plant seed-goes-on reference.c 'uint64_t state = seed;' 'static uint64_t last;
     uint64_t state = seed == 0 ? last : seed;
     last = seed;'
-plant each-task-from-the-seed reference.c 'generate_task(&state, &set[8 + 7 * t]);' 'state = seed + t, generate_task(&state, &set[8 + 7 * t]);'
+plant each-task-from-the-seed reference.c 'generate_task(&state, &set[9 + 7 * t]);' 'state = seed + t, generate_task(&state, &set[9 + 7 * t]);'
 plant generated-slack-1000 reference.c 'set[0] = 100;' 'set[0] = 1000;'
-plant generated-rates-of-10 reference.c 'set[1 + j] = 100 * j;' 'set[1 + j] = 10 * j;'
+plant generated-idle-of-1 reference.c 'set[1] = 0;' 'set[1] = 1;'
+plant generated-idle-untouched standin.c 'memcpy(set, answer.set, answer.set_words * sizeof *set);' 'if (answer.code == 0) answer.set[1] = set[1];
+    memcpy(set, answer.set, answer.set_words * sizeof *set);'
+plant generated-rates-of-10 reference.c 'set[2 + j] = 100 * j;' 'set[2 + j] = 10 * j;'
 plant generated-n-of-0 reference.c 'if (tasks < 1 || tasks > 32)' 'if (tasks > 32)'
 plant generated-n-of-33 reference.c 'if (tasks < 1 || tasks > 32)' 'if (tasks < 1 || tasks > 33)'
 plant generated-n-to-31 reference.c 'if (tasks < 1 || tasks > 32)' 'if (tasks < 1 || tasks > 31)'
@@ -176,7 +276,7 @@ plant generated-n-by-its-byte reference.c 'answer->code = check_generate(' 'task
     answer->code = check_generate('
 plant generated-n-signed reference.c 'if (tasks < 1 || tasks > 32)' 'if (tasks == 0 || (int32_t)tasks > 32)'
 plant generated-n-for-place reference.c 'return refusal(2, 0);' 'return refusal(2, tasks);'
-plant generated-place-of-n reference.c 'return refusal(2, 0);' 'return refusal(2, 7);'
+plant generated-place-of-n reference.c 'return refusal(2, 0);' 'return refusal(2, 8);'
 plant generated-6-before-2 reference.c 'if (tasks < 1 || tasks > 32)
         return refusal(2, 0);
     if (set_len < generated_words(tasks))
@@ -210,6 +310,11 @@ plant work-before-the-list standin.c 'memset(work, 0, answer.work_words * sizeof
 plant writes-when-refusing-7 standin.c 'if (answer.code != 0)
         return answer.code;' 'if (answer.code >> 32 == 7)
         work[0] = 0;
+    if (answer.code != 0)
+        return answer.code;'
+plant writes-when-refusing-10 standin.c 'if (answer.code != 0)
+        return answer.code;' 'if (answer.code >> 32 == 10 && plan_len > 0)
+        plan[0] = 0;
     if (answer.code != 0)
         return answer.code;'
 plant results-when-refusing standin.c 'if (answer.code == 0)' 'if (answer.code == 0 || (results_len >= 32 && answer.code >> 32 == 8))'

@@ -48,6 +48,7 @@ void flatten(const struct shape *shape, struct list *list)
     uint32_t *to = list->word;
 
     *to++ = shape->slack;
+    *to++ = shape->idle;
     *to++ = shape->rates;
     for (uint32_t r = 0; r < shape->rates; r++)
         *to++ = shape->rate[r];
@@ -213,6 +214,71 @@ static void fill_up(struct shape *shape, uint32_t span)
     shape->cycles[last] = cycles_for(wanted, shape->rate[rate_of_last]);
 }
 
+/* The ticks of the longest job at the lowest rate. */
+static uint64_t longest_job(const struct shape *shape)
+{
+    uint64_t longest = 0;
+
+    for (uint32_t t = 0; t < shape->tasks; t++)
+        if (ticks_of(shape, t, 0) > longest)
+            longest = ticks_of(shape, t, 0);
+    return longest;
+}
+
+void raise_energies(struct shape *shape, uint32_t idle)
+{
+    shape->idle = idle;
+    for (uint32_t t = 0; t < shape->tasks; t++)
+        for (uint32_t r = 0; r < shape->rates; r++) {
+            uint64_t energy = shape->energy[t][r] + idle * ticks_of(shape, t, r);
+            shape->energy[t][r] = energy > 1000000 ? 1000000 : (uint32_t)energy;
+        }
+}
+
+/* Energies are less by one at all rates, or down to 0 at some: with an idle energy they may be 0 before they are
+   raised. */
+static void lower_energies(struct shape *shape)
+{
+    int all = one_in(2);
+
+    for (uint32_t t = 0; t < shape->tasks; t++)
+        for (uint32_t r = 0; r < shape->rates; r++)
+            if (all)
+                shape->energy[t][r]--;
+            else if (one_in(2))
+                shape->energy[t][r] = 0;
+}
+
+/* An energy becomes one less than what waiting costs, or much less. */
+static void sink_energy(struct shape *shape)
+{
+    uint32_t t = draw_word(0, shape->tasks - 1), r = draw_word(0, shape->rates - 1);
+    uint64_t waiting = shape->idle * ticks_of(shape, t, r);
+
+    if (waiting > 1)
+        shape->energy[t][r] = (uint32_t)(one_in(2) ? waiting - 1 : draw(1, waiting - 1));
+}
+
+/* Half of the sets have an idle energy, as a rule one that their longest jobs allow, with energies from there on. */
+static void draw_idle(struct shape *shape)
+{
+    uint64_t most = 1000000 / longest_job(shape);
+
+    if (one_in(2) || most == 0)
+        return;
+    if (one_in(12)) {                   /* energies stay as they are: some are likely to be too low */
+        shape->idle = draw_word(1, 1000);
+        return;
+    }
+    if (most > 1000)
+        most = 1000;
+    if (one_in(3))
+        lower_energies(shape);
+    raise_energies(shape, (uint32_t)(one_in(4) ? most : draw(1, one_in(2) && most > 20 ? 20 : most)));
+    for (int i = one_in(10) ? draw_word(1, 3) : 0; i > 0; i--)
+        sink_energy(shape);
+}
+
 void draw_shape(struct shape *shape)
 {
     uint32_t span = draw_span();
@@ -225,6 +291,7 @@ void draw_shape(struct shape *shape)
     draw_tasks_of(shape, span);
     if (one_in(3))
         fill_up(shape, span);
+    draw_idle(shape);
 }
 
 /* ---- Lists that are no sets */
@@ -252,7 +319,7 @@ static void put_in(struct list *list, size_t at, uint32_t word)
 /* Of a set: one rate is made no higher than the one before it. */
 static void lower_rate(struct list *list)
 {
-    size_t at = 3 + draw(0, list->word[1] - 2);
+    size_t at = 4 + draw(0, list->word[2] - 2);
 
     list->word[at] = one_in(2) ? list->word[at - 1] : draw_word(1, list->word[at - 1]);
 }
@@ -302,12 +369,15 @@ void draw_rubbish(struct list *list)
 
 static void print_text(const uint32_t *set)
 {
-    uint32_t rates = set[1], tasks = set[2 + rates];
-    const uint32_t *task = set + 3 + rates;
+    uint32_t rates = set[2], tasks = set[3 + rates];
+    const uint32_t *task = set + 4 + rates;
 
-    printf("(slack %" PRIu32 ")\n(rates", set[0]);
+    printf("(slack %" PRIu32 ")\n", set[0]);
+    if (set[1] > 0)
+        printf("(idle %" PRIu32 ")\n", set[1]);
+    printf("(rates");
     for (uint32_t r = 0; r < rates; r++)
-        printf(" %" PRIu32, set[2 + r]);
+        printf(" %" PRIu32, set[3 + r]);
     printf(")\n");
     for (uint32_t t = 0; t < tasks; t++, task += 2 + rates) {
         printf("(task (period %" PRIu32 ") (cycles %" PRIu32 ") (energy", task[0], task[1]);

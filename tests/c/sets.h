@@ -12,7 +12,7 @@
 
 /* A set before it is a list; room for one rate and one task more than allowed. */
 struct shape {
-    uint32_t slack, rates, tasks;
+    uint32_t slack, idle, rates, tasks;
     uint32_t rate[9];
     uint32_t period[33], cycles[33], energy[33][9];
 };
@@ -30,11 +30,15 @@ int one_in(uint64_t n);
 /* The list that stands for a set. */
 void flatten(const struct shape *shape, struct list *list);
 
-/* Every job time 1 at rate 1, periods alike: a set whose words can be tried one by one. */
+/* Every job time 1 at rate 1, periods alike, no idle energy: a set whose words can be tried one by one. */
 void plain_shape(struct shape *shape, uint32_t rates, uint32_t tasks);
 
-/* A set with a hyper-period of at most SHORT_SPAN that passes every check of a set. */
+/* A set with a hyper-period of at most SHORT_SPAN that passes checks 2, 3 and 4, and as a rule 10. */
 void draw_shape(struct shape *shape);
+
+/* Gives a set an idle energy and puts what its jobs' ticks then cost to every energy: what is left without that stays,
+   but where it would pass 1,000,000. */
+void raise_energies(struct shape *shape, uint32_t idle);
 
 /* Changes a list so that, as a rule, it is a set no longer. */
 void damage(struct list *list);

@@ -3,9 +3,9 @@ and walk."""
 
 import reference as r
 from records.shared import (
-    Draw, EDGES, LONGEST_RANDOM, RANDOM_CASES, RANGES, S, SEED, TOP, damaged, good, kept, missed,
-    period_of, places_of, put, record, refused, same_tasks, task_count, task_set, with_periods,
-    with_rates)
+    Draw, EDGES, IDLE_AT, LONGEST_RANDOM, M_AT, RANDOM_CASES, RANGES, RATE_AT, S, SEED, TOP, costed,
+    counts, damaged, good, kept, missed, period_of, places_of, put, record, refused, same_tasks,
+    task_count, task_set, with_bad, with_periods, with_rates)
 from records.walk import damaged_plan, long_walk, some_walk, walk
 
 
@@ -36,9 +36,9 @@ def document():
     both('slack-of-0', put(S, 0, 0), [2, 1], refused(2, 0))
     both('empty-list', [], [], refused(2, 0))
     walk('empty-list-some-plan', [], [1, 1], refused(2, 0))
-    both('rates-4-4', with_rates((4, 4)), [1], refused(3, 3))
+    both('rates-4-4', with_rates((4, 4)), [1], refused(3, 4))
     both('periods-9999999-10000000', with_periods((9_999_999, 10_000_000)), [1, 1],
-         refused(4, 9))
+         refused(4, 10))
     check('period-10000000', with_periods((10_000_000,)), good(2, 1, 10_000_000))
     long_walk('period-10000000-w', with_periods((10_000_000,)), [1], kept(1, 9_999_999, 0))
 
@@ -59,11 +59,13 @@ def ranges():
                 continue                                # these have cases of their own
             low, high = RANGES[kind]
             words = [low - 1, low, high, high + 1, low + 2 ** 31, TOP]
-            if kind == 'slack':
+            if kind in ('slack', 'idle'):
                 words.append(low + 65_536)
             if label == 'whole':
                 words = [low - 1, high, high + 1]       # long lines, so fewer of them
             for word in words:
+                if word < 0:
+                    continue                            # the idle energy's range begins with 0
                 check('%s-%s-%d' % (label, what, word), put(base, place, word),
                       None if low <= word <= high else refused(2, place))
 
@@ -71,20 +73,19 @@ def ranges():
     for M in (2, 3, 4, 5, 6, 7, 8):
         check('rates-%d' % M, same_tasks(M, 2), good(M, 2, 10))
     for M in (0, 1, 9, 10):
-        check('rates-%d' % M, same_tasks(M, 2), refused(2, 1))
+        check('rates-%d' % M, same_tasks(M, 2), refused(2, M_AT))
     for N in (1, 2, 3, 31, 32):
         check('tasks-%d' % N, same_tasks(2, N), good(2, N, 10))
         check('tasks-%d-of-8-rates' % N, same_tasks(8, N), good(8, N, 10))
     for N in (0, 33, 34):
-        check('tasks-%d' % N, same_tasks(2, N), refused(2, 4))
-        check('tasks-%d-of-8-rates' % N, same_tasks(8, N), refused(2, 10))
+        check('tasks-%d' % N, same_tasks(2, N), refused(2, task_count(2)))
+        check('tasks-%d-of-8-rates' % N, same_tasks(8, N), refused(2, task_count(8)))
     # The largest words that pass together: sums and products of them need more
     # than 32 bits.
-    largest = [1_000, 8, *range(999_993, 1_000_001), 32]
-    for _ in range(32):
-        largest += [10_000_000, 4_000_000_000] + [1_000_000] * 8
-    check('every-word-at-its-most', largest, good(8, 32, 10_000_000))
-    check('every-word-at-its-least', [1, 2, 1, 2, 1, 1, 1, 1, 1], good(2, 1, 1))
+    most = [(10_000_000, 4_000_000_000) + (1_000_000,) * 8] * 32
+    check('every-word-at-its-most', costed(range(999_993, 1_000_001), most, 1_000, 1_000),
+          good(8, 32, 10_000_000))
+    check('every-word-at-its-least', costed((1, 2), [(1, 1, 1, 1)], 1, 0), good(2, 1, 1))
 
 
 def lengths():
@@ -101,17 +102,17 @@ def lengths():
         check('least-cut-%02d' % length, least[:length], refused(2, length))
     for length in range(len(middle)):
         check('middle-cut-%02d' % length, middle[:length], refused(2, length))
-    for length in (1, 2, 9, 10, 11, 12, 20, 21, 22, 31, 165, 320, 321, 322, 329, 330):
+    for length in (1, 2, 3, 10, 11, 12, 13, 21, 22, 23, 32, 166, 321, 322, 323, 330, 331):
         check('whole-cut-%03d' % length, whole[:length], refused(2, length))
     # The number of tasks says more or less than what follows.
     for N in (1, 2, 4, 32):
         said = put(middle, task_count(4), N)
         check('middle-says-%02d-tasks' % N, said,
-              refused(2, len(middle) if N > 3 else 7 + 6 * N))
+              refused(2, len(middle) if N > 3 else period_of(4, N + 1)))
     # The number of rates says more or less: every later word is then another one.
     for M in (2, 3, 5, 8):
-        check('middle-says-%d-rates' % M, put(middle, 1, M))
-        check('document-set-says-%d-rates' % M, put(S, 1, M))
+        check('middle-says-%d-rates' % M, put(middle, M_AT, M))
+        check('document-set-says-%d-rates' % M, put(S, M_AT, M))
 
     for label, base in (('least', least), ('document-set', S), ('middle', middle)):
         end = len(base)
@@ -128,35 +129,37 @@ def lengths():
         check('%s-bad-last-of-short' % label, put(base, end - 2, 0)[:-1], refused(2, end - 2))
         check('%s-bad-slack-and-short' % label, put(base, 0, 1_001)[:-1], refused(2, 0))
         check('%s-bad-slack-and-long' % label, put(base, 0, 0) + [0], refused(2, 0))
-    for count in (1, 2, 69):
-        check('whole-left-over-%d' % count, whole + [1] * count, refused(2, 331))
-    check('whole-bad-last-and-long', put(whole, 330, 0) + [1], refused(2, 330))
+    for count in (1, 2, 68):
+        check('whole-left-over-%d' % count, whole + [1] * count, refused(2, 332))
+    check('whole-bad-last-and-long', put(whole, 331, 0) + [1], refused(2, 331))
 
     # Of two bad words the first is given.
-    for first, second in ((0, 1), (0, 15), (1, 5), (2, 3), (4, 6), (5, 6), (6, 7), (7, 8),
-                          (8, 9), (10, 11), (10, 15), (12, 11), (14, 15)):
-        words = put(put(S, first, 0), second, 0)
-        check('document-set-bad-%d-and-%d' % (first, second), words,
+    for first, second in ((0, 1), (0, 2), (0, 16), (1, 2), (1, 16), (2, 6), (3, 4), (5, 7), (6, 7),
+                          (7, 8), (8, 9), (9, 10), (11, 12), (11, 16), (13, 12), (15, 16)):
+        check('document-set-bad-%d-and-%d' % (first, second), with_bad(S, first, second),
               refused(2, min(first, second)))
 
 
 def odd_lists():
-    """Lists of length 0 to 10 with odd contents.
+    """Lists of length 0 to 11 with odd contents.
 
     Catches a read of M, of N or of a task's words before the length was asked.
     """
     contents = {
-        'zeros': [0] * 10, 'ones': [1] * 10, 'twos': [2] * 10, 'threes': [3] * 10,
-        'eights': [8] * 10, 'largest': [TOP] * 10, 'rising': list(range(1, 11)),
-        'falling': list(range(10, 0, -1)), 'hundred': [100, 2, 1, 2, 1, 1, 1, 1, 1, 1],
-        'eight-rates': [1_000, 8, 1, 2, 3, 4, 5, 6, 7, 8],
-        'many-tasks': [7, 2, 5, 6, 32, 1, 1, 1, 1, 1],
+        'zeros': [0] * 11, 'ones': [1] * 11, 'twos': [2] * 11, 'threes': [3] * 11,
+        'eights': [8] * 11, 'largest': [TOP] * 11, 'rising': list(range(1, 12)),
+        'falling': list(range(11, 0, -1)), 'hundred': [100, 0, 2, 1, 2, 1, 1, 1, 1, 1, 1],
+        'eight-rates': [1_000, 1_000, 8, 1, 2, 3, 4, 5, 6, 7, 8],
+        'many-tasks': [7, 0, 2, 5, 6, 32, 1, 1, 1, 1, 1],
+        # As it was before document 02's note 4: M is taken for H.
+        'no-idle-word': [100, 2, 1, 2, 1, 30, 60, 1, 1, 1, 1],
     }
     for label, words in contents.items():
-        for length in range(1, 11):
+        for length in range(1, 12):
             check('odd-%s-%02d' % (label, length), words[:length])
     walk('odd-one-word', [100], [], refused(2, 1))
     walk('odd-two-words', [100, 2], [1], refused(2, 2))
+    walk('odd-three-words', [100, 0, 2], [1], refused(2, 3))
     walk('odd-largest-and-plan', [TOP] * 10, [TOP] * 10, refused(2, 0))
 
 
@@ -168,29 +171,30 @@ def bad_counts():
     that the list's length would come out right. Also a count looked at in its
     low byte (258, 257) or low half (65538, 65537).
     """
-    rest = S[2:]
+    rest = S[RATE_AT:]
     for M in (0, 1, 9, 16, 255, 258, 65_538, 2 ** 31 + 3, TOP - 2, TOP - 1, TOP):
-        check('m-%d-alone' % M, [100, M], refused(2, 1))
-        check('m-%d-and-one' % M, [100, M, 1], refused(2, 1))
-        check('m-%d-and-rest' % M, [100, M] + rest, refused(2, 1))
-        check('m-%d-and-bad' % M, [100, M] + [0, TOP] * 4, refused(2, 1))
-        check('m-%d-after-bad-slack' % M, [1_001, M] + rest, refused(2, 0))
-    walk('m-%d-walk' % TOP, [100, TOP] + rest, [1, 1], refused(2, 1))
+        check('m-%d-alone' % M, [100, 0, M], refused(2, M_AT))
+        check('m-%d-and-one' % M, [100, 0, M, 1], refused(2, M_AT))
+        check('m-%d-and-rest' % M, [100, 0, M] + rest, refused(2, M_AT))
+        check('m-%d-and-bad' % M, [100, 0, M] + [0, TOP] * 4, refused(2, M_AT))
+        check('m-%d-after-bad-slack' % M, [1_001, 0, M] + rest, refused(2, 0))
+        check('m-%d-after-bad-idle' % M, [100, 1_001, M] + rest, refused(2, IDLE_AT))
+    walk('m-%d-walk' % TOP, [100, 0, TOP] + rest, [1, 1], refused(2, M_AT))
 
     least = same_tasks(2, 1)
     # 2^30 x 4 is 0, (2^30 + 1) x 4 is 4, 2^31 + 1 likewise, all at 32 bits.
     for N in (0, 33, 255, 257, 65_537, 2 ** 30, 2 ** 30 + 1, 2 ** 31 + 1, TOP - 1, TOP):
-        check('n-%d-alone' % N, least[:4] + [N], refused(2, 4))
-        check('n-%d-and-rest' % N, put(least, 4, N), refused(2, 4))
-        check('n-%d-and-bad' % N, least[:4] + [N] + [0, TOP] * 4, refused(2, 4))
-        check('n-%d-after-bad-rate' % N, put(put(least, 4, N), 3, 0), refused(2, 3))
+        check('n-%d-alone' % N, least[:5] + [N], refused(2, 5))
+        check('n-%d-and-rest' % N, put(least, 5, N), refused(2, 5))
+        check('n-%d-and-bad' % N, least[:5] + [N] + [0, TOP] * 4, refused(2, 5))
+        check('n-%d-after-bad-rate' % N, put(put(least, 5, N), 4, 0), refused(2, 4))
     # 858993460 x 5 is 4 at 32 bits, and 858993461 x 5 is 9.
     for N in (858_993_459, 858_993_460, 858_993_461):
-        check('n-%d-of-3-rates' % N, put(S, 5, N), refused(2, 5))
-    walk('n-%d-walk' % TOP, put(least, 4, TOP), [1], refused(2, 4))
-    check('m-and-n-%d' % TOP, [100, TOP, 1, 2, TOP, 1, 1, 1, 1], refused(2, 1))
-    check('m-%d-and-400-words' % TOP, [100, TOP] + [1] * 398, refused(2, 1))
-    check('n-%d-and-400-words' % TOP, least[:4] + [TOP] + [1] * 395, refused(2, 4))
+        check('n-%d-of-3-rates' % N, put(S, 6, N), refused(2, 6))
+    walk('n-%d-walk' % TOP, put(least, 5, TOP), [1], refused(2, 5))
+    check('m-and-n-%d' % TOP, [100, 0, TOP, 1, 2, TOP, 1, 1, 1, 1], refused(2, 2))
+    check('m-%d-and-400-words' % TOP, [100, 0, TOP] + [1] * 397, refused(2, 2))
+    check('n-%d-and-400-words' % TOP, least[:5] + [TOP] + [1] * 394, refused(2, 5))
 
 
 # -------------------------------------------------------------------- check 3
@@ -204,22 +208,22 @@ def rising_rates():
     with checks 2, 4 and 8.
     """
     check('rates-4-5', with_rates((4, 5)), good(2, 1, 10))
-    check('rates-4-3', with_rates((4, 3)), refused(3, 3))
+    check('rates-4-3', with_rates((4, 3)), refused(3, 4))
     check('rates-999999-1000000', with_rates((999_999, 1_000_000)), good(2, 1, 10))
-    check('rates-1000000-1000000', with_rates((1_000_000, 1_000_000)), refused(3, 3))
-    check('rates-1-1', with_rates((1, 1)), refused(3, 3))
-    check('rates-1000000-1', with_rates((1_000_000, 1)), refused(3, 3))
+    check('rates-1000000-1000000', with_rates((1_000_000, 1_000_000)), refused(3, 4))
+    check('rates-1-1', with_rates((1, 1)), refused(3, 4))
+    check('rates-1000000-1', with_rates((1_000_000, 1)), refused(3, 4))
     eight = [10, 20, 30, 40, 50, 60, 70, 80]
     for pair in range(1, 8):
         for label, rate in (('equal', eight[pair - 1]), ('below', eight[pair - 1] - 1)):
-            both('eight-rates-%s-at-%d' % (label, 2 + pair),
+            both('eight-rates-%s-at-%d' % (label, 3 + pair),
                  with_rates(eight[:pair] + [rate] + eight[pair + 1:]), [1],
-                 refused(3, 2 + pair))
-    check('rates-all-equal', with_rates([7] * 8), refused(3, 3))
-    check('rates-all-falling', with_rates(eight[::-1]), refused(3, 3))
-    check('rates-two-faults', with_rates((1, 2, 2, 3, 3)), refused(3, 4))
+                 refused(3, 3 + pair))
+    check('rates-all-equal', with_rates([7] * 8), refused(3, 4))
+    check('rates-all-falling', with_rates(eight[::-1]), refused(3, 4))
+    check('rates-two-faults', with_rates((1, 2, 2, 3, 3)), refused(3, 5))
     # One low rate is one fault: the next rate need only be above that one.
-    check('rates-fall-once', with_rates((5, 6, 1, 2)), refused(3, 4))
+    check('rates-fall-once', with_rates((5, 6, 1, 2)), refused(3, 5))
     # M is 8 and the first rate 1; the last rate is below N, equal to it, above it.
     check('first-rate-below-m', with_rates(range(1, 9)), good(8, 1, 10))
     check('first-rate-is-m', with_rates((2, 3)), good(2, 1, 10))
@@ -227,29 +231,29 @@ def rising_rates():
     check('last-rate-is-n', with_rates((1, 5), 5), good(2, 5, 10))
     check('last-rate-above-n', with_rates((1, 6), 5), good(2, 5, 10))
     # Energies and cycles need not rise.
-    check('energies-fall', [100, 3, 1, 2, 3, 1, 10, 1, 9, 5, 1], good(3, 1, 10))
-    check('energies-equal', [100, 3, 1, 2, 3, 1, 10, 1, 5, 5, 5], good(3, 1, 10))
+    check('energies-fall', [100, 0, 3, 1, 2, 3, 1, 10, 1, 9, 5, 1], good(3, 1, 10))
+    check('energies-equal', [100, 0, 3, 1, 2, 3, 1, 10, 1, 5, 5, 5], good(3, 1, 10))
 
-    falling = [100, 3, 2, 8, 4, 2, 10, 12, 4, 9, 20, 15, 20, 7, 15, 30]
-    both('falling-rates', falling, [2, 1], refused(3, 4))
+    falling = [100, 0, 3, 2, 8, 4, 2, 10, 12, 4, 9, 20, 15, 20, 7, 15, 30]
+    both('falling-rates', falling, [2, 1], refused(3, 5))
     # Check 2 comes first, wherever its fault stands.
-    for place in (0, 1, 2, 3, 4, 5, 6, 7, 8, 10, 11, 12, 13, 15):
-        check('falling-rates-and-bad-%02d' % place, put(falling, place, 0), refused(2, place))
-    for length in (0, 1, 3, 4, 5, 6, 10, 15):
+    for place in (0, 1, 2, 3, 4, 5, 6, 7, 8, 9, 11, 12, 13, 14, 16):
+        check('falling-rates-and-bad-%02d' % place, with_bad(falling, place), refused(2, place))
+    for length in (0, 1, 2, 4, 5, 6, 7, 11, 16):
         check('falling-rates-cut-%02d' % length, falling[:length], refused(2, length))
-    check('falling-rates-left-over', falling + [1], refused(2, 16))
-    check('falling-rates-n-of-33', put(falling, 5, 33), refused(2, 5))
-    both('rates-fall-to-0', put(falling, 4, 0), [2, 1], refused(2, 4))
-    check('rates-4-4-and-1000001', with_rates((4, 4, 1_000_001)), refused(2, 4))
+    check('falling-rates-left-over', falling + [1], refused(2, 17))
+    check('falling-rates-n-of-33', put(falling, 6, 33), refused(2, 6))
+    both('rates-fall-to-0', put(falling, 5, 0), [2, 1], refused(2, 5))
+    check('rates-4-4-and-1000001', with_rates((4, 4, 1_000_001)), refused(2, 5))
     # Checks 4 and 8 come later.
-    long = put(put(falling, 6, 9_999_999), 11, 10_000_000)
-    both('falling-rates-and-long', long, [2, 1], refused(3, 4))
-    walk('falling-rates-and-bad-plan', falling, [0, 9], refused(3, 4))
-    walk('falling-rates-and-no-plan', falling, [], refused(3, 4))
-    walk('falling-rates-and-long-plan', falling, [1, 1, 1], refused(3, 4))
-    walk('falling-rates-long-bad-plan', long, [0, 9], refused(3, 4))
+    long = put(put(falling, 7, 9_999_999), 12, 10_000_000)
+    both('falling-rates-and-long', long, [2, 1], refused(3, 5))
+    walk('falling-rates-and-bad-plan', falling, [0, 9], refused(3, 5))
+    walk('falling-rates-and-no-plan', falling, [], refused(3, 5))
+    walk('falling-rates-and-long-plan', falling, [1, 1, 1], refused(3, 5))
+    walk('falling-rates-long-bad-plan', long, [0, 9], refused(3, 5))
     # A faulty list that would also miss, or that has a plan of unused rates.
-    walk('falling-rates-unused', put(falling, 7, 4_000_000_000), [1, 1], refused(3, 4))
+    walk('falling-rates-unused', put(falling, 8, 4_000_000_000), [1, 1], refused(3, 5))
 
 
 # -------------------------------------------------------------------- check 4
@@ -337,13 +341,13 @@ def hyper_periods():
 
     # Check 4 after 2 and before 8.
     over = with_periods((9_999_999, 10_000_000))
-    for place in (0, 2, 4, 6, 8, 10, 12):
-        check('over-and-bad-%02d' % place, put(over, place, 0), refused(2, place))
-    check('over-and-short', over[:-1], refused(2, 12))
-    check('over-and-long', over + [1], refused(2, 13))
-    walk('over-and-bad-plan', over, [0, 9], refused(4, 9))
-    walk('over-and-no-plan', over, [], refused(4, 9))
-    walk('over-and-long-plan', over, [1] * 40, refused(4, 9))
+    for place in (0, 1, 3, 5, 7, 9, 11, 13):
+        check('over-and-bad-%02d' % place, with_bad(over, place), refused(2, place))
+    check('over-and-short', over[:-1], refused(2, 13))
+    check('over-and-long', over + [1], refused(2, 14))
+    walk('over-and-bad-plan', over, [0, 9], refused(4, 10))
+    walk('over-and-no-plan', over, [], refused(4, 10))
+    walk('over-and-long-plan', over, [1] * 40, refused(4, 10))
     walk('10000000-and-bad-plan', with_periods((10_000_000,)), [3], refused(8, 0))
 
 
@@ -419,17 +423,18 @@ def some_periods(draw):
         place = draw.between(0, N - 1)
         periods[place] = draw.one_of([2, 3, 5, 7, 11, 13, 256, draw.between(1, 10_000_000)])
     words = with_periods(periods, M)
-    for place in range(5 + M, len(words)):
-        if (place - 3 - M) % (2 + M) > 0:
+    first = period_of(M, 1)
+    for place in range(first + 2, len(words)):
+        if (place - first) % (2 + M) > 0:
             words[place] = draw.between(1, 9)
     return words
 
 
 def short_list(draw):
-    """A list of length 0 to 12; its first words are often right."""
+    """A list of length 0 to 13; its first words are often right."""
     words = [draw.one_of([1, 1, 2, 2, 3, 5, 10, 100, draw.one_of(EDGES)])
-             for _ in range(draw.between(0, 12))]
-    for place, word in enumerate((100, 2, 3, 4, 1)):
+             for _ in range(draw.between(0, 13))]
+    for place, word in enumerate((100, 0, 2, 3, 4, 1)):
         if place < len(words) and draw.between(1, 6) > 1:
             words[place] = word
     return words
@@ -448,7 +453,7 @@ def random_records():
             check(name, short_list(draw))
             continue
         words, plan = some_walk(draw)
-        M = words[1]
+        M, _ = counts(words)
         if kind in ('set', 'both'):
             words = damaged(draw, words)
         if kind in ('plan', 'both'):

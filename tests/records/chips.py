@@ -3,9 +3,10 @@ call; and the lists that they stand for, given to the other calls."""
 
 import reference as r
 from records.shared import (
-    CHIPS, Draw, MOST_LENT, MOST_PRINTED, MOST_READ, MOST_WORK, MOST_WRITTEN, RANDOM_CHIPS,
-    RANDOM_CHIP_LISTS, RANDOM_CHIP_PROGRAMS, SEED, TOP, chip_line, chip_text, expanded, good,
-    head_of, line_of, needed, period_of, refused, text_of, was_read, words_of, wrote)
+    CHIPS, CHIP_IDLE, Draw, MOST_LENT, MOST_PRINTED, MOST_READ, MOST_WORK, MOST_WRITTEN,
+    RANDOM_CHIPS, RANDOM_CHIP_LISTS, RANDOM_CHIP_PROGRAMS, SEED, TOP, chip_line, chip_text, costed,
+    expanded, good, head_of, length_of, line_of, needed, period_of, refused, text_of, was_read,
+    words_of, wrote)
 from records.checks import check
 from records.planner import least_slack, planner
 from records.program import program, refusal, roomed, short_span
@@ -23,8 +24,7 @@ OTHER = {'xscale': 'ppc405lp', 'ppc405lp': 'xscale'}
 
 def size_of(chip, N):
     """How many words the list of a chip and of N tasks has."""
-    M = len(CHIPS[chip])
-    return 3 + M + N * (2 + M)
+    return length_of(len(CHIPS[chip]), N)
 
 
 # ------------------------------------------------------------ worked, and lent
@@ -68,7 +68,7 @@ def chip_sizes():
         read('r-chip-%s-most' % chip, text, want=was_read(expanded(chip, TOP, most)))
         program('a-chip-%s-most' % chip, text, want=refusal(2, 0))
         read('r-chip-%s-zeros' % chip, chip_text(chip, 0, [(0, 0)] * 3), want=was_read(
-            [0, len(CHIPS[chip]), *CHIPS[chip], 3] + [0] * 3 * (2 + len(CHIPS[chip]))))
+            costed(CHIPS[chip], [[0] * (2 + len(CHIPS[chip]))] * 3, 0, CHIP_IDLE[chip])))
 
 
 # ------------------------------------------------------------------- the line
@@ -404,7 +404,7 @@ def chip_lists():
         read_back('r-' + name, words)
         read('r-%s-of-chip' % name, chip_text(chip, slack, tasks), want=was_read(words))
     # A list that is too dear for the reader is out of its range for the others.
-    for chip, place in (('xscale', 14), ('ppc405lp', 11)):
+    for chip, place in (('xscale', 15), ('ppc405lp', 12)):
         words = expanded(chip, 9, [(7, MOST_CYCLES[chip] + 1)])
         check('c-chip-%s-dear' % chip, words, refused(2, place))
         planner('p-chip-%s-dear' % chip, words, want=refused(2, place))
@@ -458,17 +458,19 @@ def random_chips():
         if number % 25 == 0:
             N = draw.one_of([31, 32, 32])
         tasks, slack, K = some_tasks(draw, chip, N), some_number(draw), size_of(chip, N)
-        text = chip_text(chip, slack, tasks)
+        idle = draw.one_of([None, None, None, 0, 12, 40, some_number(draw)])
+        text = chip_text(chip, slack, tasks, idle)
         how = draw.between(1, 12)
         if how > 6:
             text = damaged_text(draw, text, b'hx405lp')
         elif how == 6:                                  # a line of the other kind among them
             at = draw.between(0, N - 1)
             lines = text.split(b'\n')
-            lines[2 + at] = line_of(*tasks[at], *CHIPS[chip].values())[:-1]
+            lines[at - N - 1] = line_of(*tasks[at], *CHIPS[chip].values())[:-1]
             text = b'\n'.join(lines)
         elif how == 5:                                  # a second line, of rates or a chip
-            more = draw.one_of([b'(rates 1 2)\n', b'(chip xscale)\n', b'(chip ppc405lp)\n'])
+            more = draw.one_of([b'(rates 1 2)\n', b'(chip xscale)\n', b'(chip ppc405lp)\n',
+                                b'(idle 12)\n'])
             at = draw.one_of([text.index(b'(chip'), text.index(b'(task')])
             text = text[:at] + more + text[at:]
         read('rc%04d' % number, text, draw.one_of(
@@ -484,7 +486,10 @@ def random_chip_programs():
         N = draw.one_of([1, 2, 2, 3, 3, 4, 4, draw.between(5, 10)])
         tasks = some_planned_tasks(draw, chip, N)
         slack = max(least_slack(N), draw.one_of([10, 50, 100, 250, 500, 1_000]))
-        text = chip_text(chip, slack, tasks)
+        # Up to 80 and 19 waiting costs no more than the slowest rate.
+        most = min(CHIPS[chip].values())
+        text = chip_text(chip, slack, tasks, draw.one_of(
+            [None, None, None, 0, most, most, draw.between(1, most), most + 1, 1_000]))
         if number % 4 == 0:
             text = damaged_text(draw, text, b'hx405lp')
         if plain_reader(text) is None and not short_span(words_of(text)):
@@ -498,7 +503,8 @@ def random_chip_lists():
     draw = Draw(SEED + 11)
     for number in range(1, RANDOM_CHIP_LISTS + 1):
         chip, N = draw.one_of(list(CHIPS)), draw.one_of([1, 2, 3, draw.between(1, 9)])
-        words = expanded(chip, draw.between(1, 1_000), some_planned_tasks(draw, chip, N))
+        words = expanded(chip, draw.between(1, 1_000), some_planned_tasks(draw, chip, N),
+                         draw.one_of([None, None, 0, draw.between(1, 1_000)]))
         if r.check_2(words):
             continue                                    # too dear
         text = text_of(words)

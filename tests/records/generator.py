@@ -4,7 +4,7 @@ given to the other calls."""
 import reference as r
 from records.shared import (
     Draw, MOST_GENERATED, MOST_LENT, MOST_WORK, RANDOM_GENERATED, SEED, TOP, costed, generated,
-    needed, record, refused, text_of)
+    length_of as words_in, needed, record, refused, text_of)
 from records.checks import check
 from records.planner import planner
 from records.program import program
@@ -43,7 +43,7 @@ def words_from(seed, N):
 
 
 def length_of(N):
-    return 8 + 7 * N
+    return words_in(5, N)
 
 
 def generator(name, seed, N, lent=MOST_GENERATED, want=None):
@@ -83,7 +83,7 @@ def generator_lengths():
         size = length_of(N)
         generator('g-length-%02d' % N, 1_000 + N, N, size)
         generator('g-length-%02d-short' % N, 1_000 + N, N, size - 1, refused(6, size))
-        generator('g-length-%02d-tasks-alone' % N, 1_000 + N, N, size - 8, refused(6, size))
+        generator('g-length-%02d-tasks-alone' % N, 1_000 + N, N, 7 * N, refused(6, size))
         generator('g-length-%02d-none' % N, 1_000 + N, N, 0, refused(6, size))
         if N in (1, 2, 16, 31, 32):
             generator('g-length-%02d-more' % N, 1_000 + N, N, size + 1)
@@ -99,10 +99,10 @@ def generator_counts():
     """
     for N in (0, 33, 34, 35, 64, 255, 256, 257, 65_535, 65_536, 65_537, 613_566_756, 613_566_757,
               2 ** 31 - 1, 2 ** 31, 2 ** 31 + 1, TOP - 1, TOP):
-        for lent in (0, 8, 15, MOST_GENERATED):
+        for lent in (0, 9, 16, MOST_GENERATED):
             generator('g-count-%d-lent-%d' % (N, lent), 7, N, lent, refused(2, 0))
     # Either side of 33 tasks' length, and of 32 tasks'.
-    for lent in (231, 232, 233, 238, 239, 240):
+    for lent in (232, 233, 234, 239, 240, 241):
         generator('g-count-33-lent-%d' % lent, 7, 33, lent, refused(2, 0))
     for seed in (0, TOP):
         for N in (0, 33, TOP):

@@ -2,10 +2,22 @@
 
 import reference as r
 from records.shared import (
-    Draw, FEW_PLANS, LONGEST_RANDOM, MOST_LENT, MOST_WORK, PAST_ONE, RANDOM_PLANS, RANGES, S, SEED,
-    TOP, costed, damaged, needed, period_of, places_of, planned, put, record, refused, same_tasks,
-    task_set, with_periods, with_rates)
+    Draw, FEW_PLANS, IDLE_AT, LONGEST_RANDOM, M_AT, MOST_LENT, MOST_WORK, PAST_ONE, RANDOM_PLANS,
+    RATE_AT, S, SEED, TOP, costed, counts, damaged, needed, outside, period_of, places_of, planned,
+    put, record, refused, same_tasks, task_count, task_set, with_periods, with_rates)
 from records.walk import some_walk
+from test_reference import lowered
+
+
+def waiting(words):
+    """For each energy of a list its place, and what an idle processor takes in the ticks of its
+    job: full ticks, and one more where cycles are left."""
+    M, N = counts(words)
+    for task in range(1, N + 1):
+        at = period_of(M, task)
+        for j in range(M):
+            full, left = divmod(words[at + 1], words[RATE_AT + j])
+            yield at + 2 + j, words[IDLE_AT] * (full + (left > 0))
 
 
 def judged_plan(name, words, plan_len, work_len):
@@ -13,6 +25,12 @@ def judged_plan(name, words, plan_len, work_len):
     said = r.check_set(words)
     few = said[0] == 'good' and said[1] ** said[2] <= FEW_PLANS
     answer = r.plan(words, plan_len, work_len, 'all' if few else 'table')
+    if answer[0] == 'planned' or answer[1] > 3:
+        # Checks 2 and 3 are passed, and 10 comes before all that follows.
+        below = [place for place, idle in waiting(words) if words[place] < idle]
+        if below:
+            assert answer == refused(10, below[0]), name
+        assert below or answer[:2] != ('refused', 10), name
     if answer == refused(7, 0) or answer[0] == 'planned':
         if few:
             assert r.plan(words, plan_len, work_len, 'table') == answer, name
@@ -24,6 +42,15 @@ def judged_plan(name, words, plan_len, work_len):
             assert load <= L, name
             if L <= LONGEST_RANDOM:
                 assert r.walk(words, rates)[:3] == ('kept', load, L - load), name
+        # The same set with its idle energy taken out of all energies has the same plan.
+        other = lowered(words) if words[IDLE_AT] > 0 else None
+        if other:
+            other = r.plan(other, plan_len, work_len)
+            if answer[0] == 'planned':
+                _, _, _, L, energy, _ = answer
+                assert other == (*answer[:4], energy - words[IDLE_AT] * L, answer[5]), name
+            else:
+                assert other == answer, name
     return answer
 
 
@@ -59,9 +86,9 @@ def planner_document():
     planner('p-slack-of-0', put(S, 0, 0), 2, 243, refused(2, 0))
     planner('p-empty-list', [], 0, 0, refused(2, 0))
     planner('p-empty-list-much-lent', [], want=refused(2, 0))
-    planner('p-rates-4-4', with_rates((4, 4)), want=refused(3, 3))
+    planner('p-rates-4-4', with_rates((4, 4)), want=refused(3, 4))
     planner('p-periods-9999999-10000000', with_periods((9_999_999, 10_000_000)),
-            want=refused(4, 9))
+            want=refused(4, 10))
     planner('p-period-10000000', costed((1, 2), [(10_000_000, 1, 1, 1)]), 1, 82,
             planned(1, 1, 10_000_000, 1, 1))
     # One task whose task energy is 33 at every rate: rounded down it gets 16.
@@ -82,8 +109,7 @@ def planner_checks():
     for label, M, N in (('least', 2, 1), ('pair', 3, 2), ('whole', 8, 32)):
         base = same_tasks(M, N)
         for what, kind, place in places_of(M, N):
-            low, high = RANGES[kind]
-            for word in (low - 1, high + 1) if label == 'whole' else (low - 1, high + 1, TOP):
+            for word in outside(kind) if label == 'whole' else [*outside(kind), TOP]:
                 for much, (J, A) in lent.items():
                     if label == 'whole' and much == 'none':
                         continue                        # long lines, so fewer of them
@@ -100,13 +126,13 @@ def planner_checks():
                         refused(2, len(base)))
             planner('p-%s-twice-%s' % (label, much), base * 2, J, A, refused(2, len(base)))
     whole = same_tasks(8, 32)
-    for length in (1, 2, 9, 10, 11, 12, 20, 330):
+    for length in (1, 2, 3, 10, 11, 12, 13, 21, 331):
         planner('p-whole-cut-%03d' % length, whole[:length], want=refused(2, length))
-    planner('p-whole-left-over', whole + [1], want=refused(2, 331))
+    planner('p-whole-left-over', whole + [1], want=refused(2, 332))
     for M in (2 ** 31 + 2, TOP - 1):
-        planner('p-m-%d' % M, put(S, 1, M), want=refused(2, 1))
+        planner('p-m-%d' % M, put(S, M_AT, M), want=refused(2, M_AT))
     for N in (2 ** 30 + 1, 858_993_461):
-        planner('p-n-%d' % N, put(S, 5, N), want=refused(2, 5))
+        planner('p-n-%d' % N, put(S, task_count(3), N), want=refused(2, task_count(3)))
 
     # Rates: the first and the last pair, equal and falling.
     eight = [10, 20, 30, 40, 50, 60, 70, 80]
@@ -114,9 +140,9 @@ def planner_checks():
         for what, rate in (('equal', eight[pair - 1]), ('below', eight[pair - 1] - 1)):
             words = with_rates(eight[:pair] + [rate] + eight[pair + 1:])
             for much, (J, A) in lent.items():
-                planner('p-rates-%s-at-%d-%s' % (what, 2 + pair, much), words, J, A,
-                        refused(3, 2 + pair))
-    planner('p-rates-two-faults', with_rates((1, 2, 2, 3, 3)), want=refused(3, 4))
+                planner('p-rates-%s-at-%d-%s' % (what, RATE_AT + pair, much), words, J, A,
+                        refused(3, RATE_AT + pair))
+    planner('p-rates-two-faults', with_rates((1, 2, 2, 3, 3)), want=refused(3, 5))
 
     # The hyper-period: passed at the second task, the last of 32, and between.
     for M in (2, 8):
@@ -126,24 +152,24 @@ def planner_checks():
                     want=refused(4, period_of(M, task)))
     over = with_periods((9_999_999, 10_000_000))
     for much, (J, A) in lent.items():
-        planner('p-over-%s' % much, over, J, A, refused(4, 9))
-        planner('p-over-by-1-%s' % much, with_periods((11, 909_091)), J, A, refused(4, 9))
+        planner('p-over-%s' % much, over, J, A, refused(4, 10))
+        planner('p-over-by-1-%s' % much, with_periods((11, 909_091)), J, A, refused(4, 10))
 
-    # Two faults at once: 2 before 3 before 4, and each before 5, 6 and 7.
-    falling = put(put(over, 2, 2), 3, 2)
-    late = put(put(over, 6, 4_000_000_000), 10, 4_000_000_000)
+    # Two faults at once: 2 before 3 before 4, and each before 5, 6 and 7; idle.py has 10.
+    falling = put(put(over, 3, 2), 4, 2)
+    late = put(put(over, 7, 4_000_000_000), 11, 4_000_000_000)
     for much, (J, A) in lent.items():
-        planner('p-3-and-4-%s' % much, falling, J, A, refused(3, 3))
-        planner('p-2-and-3-and-4-%s' % much, put(falling, 12, 0), J, A, refused(2, 12))
-        planner('p-2-and-4-%s' % much, put(over, 12, 0), J, A, refused(2, 12))
-        planner('p-2-and-3-left-over-%s' % much, falling + [1], J, A, refused(2, 13))
-        planner('p-2-and-3-missing-%s' % much, falling[:-1], J, A, refused(2, 12))
-        planner('p-4-and-7-%s' % much, late, J, A, refused(4, 9))
-        planner('p-3-and-4-and-7-%s' % much, put(late, 3, 1), J, A, refused(3, 3))
+        planner('p-3-and-4-%s' % much, falling, J, A, refused(3, 4))
+        planner('p-2-and-3-and-4-%s' % much, put(falling, 13, 0), J, A, refused(2, 13))
+        planner('p-2-and-4-%s' % much, put(over, 13, 0), J, A, refused(2, 13))
+        planner('p-2-and-3-left-over-%s' % much, falling + [1], J, A, refused(2, 14))
+        planner('p-2-and-3-missing-%s' % much, falling[:-1], J, A, refused(2, 13))
+        planner('p-4-and-7-%s' % much, late, J, A, refused(4, 10))
+        planner('p-3-and-4-and-7-%s' % much, put(late, 4, 1), J, A, refused(3, 4))
     none = costed((1, 2), [(30, 61, 1, 1)])
     for much, (J, A) in lent.items():
         planner('p-2-and-7-%s' % much, put(none, 0, 0), J, A, refused(2, 0))
-        planner('p-3-and-7-%s' % much, put(none, 3, 1), J, A, refused(3, 3))
+        planner('p-3-and-7-%s' % much, put(none, 4, 1), J, A, refused(3, 4))
 
 
 def planner_lengths():
@@ -171,7 +197,7 @@ def planner_lengths():
             ('sixteen-slack-67', costed((1, 2), [(32, 3, 4, 9)] * 16, 67)),
             ('many', costed((1, 2), [(64, 3, 4, 9)] * 32, 1_000)),
             ('many-slack-259', costed((1, 2), [(64, 3, 4, 9)] * 32, 259))):
-        N, W = words[2 + words[1]], needed(words)
+        N, W = counts(words)[1], needed(words)
         assert W <= MOST_WORK, label
         answer = r.plan(words, N, W)
         assert answer[0] == 'planned', label
@@ -188,9 +214,9 @@ def planner_lengths():
         planner('p-%s-5-and-6-none' % label, words, 0, 0, refused(5, W))
     # No plan fits, and too little is lent.
     for label, words in (('one', costed((1, 2), [(30, 61, 1, 1)])),
-                         ('two', put(put(S, 7, 81), 12, 121)),
+                         ('two', put(put(S, 8, 81), 13, 121)),
                          ('three-rates', costed((1, 2, 3), [(4, 6, 1, 1, 1)] * 3, 1_000))):
-        N, W = words[2 + words[1]], needed(words)
+        N, W = counts(words)[1], needed(words)
         planner('p-none-fits-%s' % label, words, N, W, refused(7, 0))
         planner('p-none-fits-%s-5' % label, words, N, W - 1, refused(5, W))
         planner('p-none-fits-%s-6' % label, words, N - 1, W, refused(6, N))
@@ -455,7 +481,7 @@ def planner_limits():
         planner('p-most-energy-falling-%d' % slack, costed(whole, tasks + [last], slack))
     planner('p-every-word-at-its-most-slack-1', costed(whole, most, 1), want=refused(5, 4_224_033))
     planner('p-every-word-at-its-most-slack-258', costed(whole, most, 258), want=refused(5, 16_401))
-    planner('p-every-word-at-its-least', [1, 2, 1, 2, 1, 1, 1, 1, 1], 1, 8_002,
+    planner('p-every-word-at-its-least', costed((1, 2), [(1, 1, 1, 1)], 1), 1, 8_002,
             planned(1, 1, 1, 1, 1))
     # A slow rate a million times as dear as the fast one: its cost over the
     # unit passes 31 bits. Of 1,998 x 2,048 jobs the unit is 1,024.
@@ -543,7 +569,7 @@ def some_planned(draw):
     with a slack that the working words allow."""
     while True:
         words, _ = some_walk(draw)
-        M, N = words[1], words[2 + words[1]]
+        M, N = counts(words)
         if M ** N <= FEW_PLANS or draw.between(1, 12) == 1:
             break
     shape = draw.one_of(['random', 'random', 'rising', 'rising', 'falling', 'small', 'small',
@@ -563,6 +589,28 @@ def some_planned(draw):
     slack = draw.one_of([low, low, low + 1, 10, 50, 100, 250, 500, 999, 1_000, 1_000,
                          draw.between(low, 1_000)])
     words[0] = max(slack, low)
+    words[IDLE_AT] = 0
+    return with_idle(draw, words) if draw.between(1, 3) == 1 else words
+
+
+def with_idle(draw, words):
+    """The set with an idle energy that the longest job allows, and with energies from what waiting
+    costs on: so that what is left of them are the energies as they were, or one less. Now and
+    then some are not raised, or are a bit too low."""
+    words = put(words, IDLE_AT, 1)
+    longest = max(idle for _, idle in waiting(words))
+    most = min(1_000, 1_000_000 // longest)
+    if most == 0:
+        return words
+    words[IDLE_AT] = draw.one_of([1, most, draw.between(1, most), min(most, draw.between(1, 50)),
+                                  draw.between(1, most // 2 + 1)])
+    fewer = draw.one_of([0, 1])
+    low = draw.between(1, 8) == 1
+    for place, idle in waiting(words):
+        left = words[place] - fewer
+        if low and draw.between(1, 4) == 1:
+            left = draw.one_of([-1, -idle, left - idle])
+        words[place] = max(1, min(idle + left, 1_000_000))
     return words
 
 
@@ -583,14 +631,16 @@ def some_large(draw):
         if draw.between(1, 4) == 1:
             tasks[-1] = tasks[draw.between(0, len(tasks) - 1)]  # a twin of some task
     low = least_slack(N)
-    return costed(rates, tasks, draw.one_of([low, low, 300, 500, 1_000, draw.between(low, 1_000)]))
+    words = costed(rates, tasks,
+                   draw.one_of([low, low, 300, 500, 1_000, draw.between(low, 1_000)]))
+    return with_idle(draw, words) if draw.between(1, 3) == 1 else words
 
 
 def random_plans():
     draw = Draw(SEED + 2)
     for number in range(1, RANDOM_PLANS + 1):
         words = some_large(draw) if draw.between(1, 12) == 1 else some_planned(draw)
-        N, W = words[2 + words[1]], needed(words)
+        N, W = counts(words)[1], needed(words)
         J = draw.one_of([N, N, N, N + 1, N + 5, MOST_LENT])
         A = draw.one_of([W, W, W, min(W + 1, MOST_WORK), MOST_WORK])
         how = draw.between(1, 30)

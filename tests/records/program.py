@@ -2,9 +2,10 @@
 
 import reference as r
 from records.shared import (
-    DAMAGED_PROGRAMS, Draw, EDGES, LONGEST_RANDOM, MOST_PRINTED, MOST_TEXT, MOST_WORK, PAST_ONE,
-    RANDOM_PROGRAMS, RANGES, S, SEED, TOP, costed, head_of, line_of, needed, on_a_line, period_of,
-    put, record, refused, task_set, text_of, with_periods, with_rates, words_of)
+    DAMAGED_PROGRAMS, Draw, EDGES, LONGEST_RANDOM, M_AT, MOST_PRINTED, MOST_TEXT, MOST_WORK,
+    PAST_ONE, RANDOM_PROGRAMS, S, SEED, TOP, costed, head_of, line_of, needed, on_a_line, outside,
+    period_of, put, record, refused, task_count, task_set, text_of, with_periods, with_rates,
+    words_of)
 from records.walk import walked
 from records.planner import judged_plan, largest, least_slack, some_planned
 from records.reader import damaged_text, read_again
@@ -77,9 +78,9 @@ def program_document():
            plan_lines(8, 28, 30, 42, [1, 2], 1))
     roomed('a-empty', b'', refusal(1, 0))
     roomed('a-slack-of-0', text_of(put(S, 0, 0)), refusal(2, 0))
-    roomed('a-rates-4-4', text_of(with_rates((4, 4))), refusal(3, 3))
+    roomed('a-rates-4-4', text_of(with_rates((4, 4))), refusal(3, 4))
     roomed('a-periods-9999999-10000000', text_of(with_periods((9_999_999, 10_000_000))),
-           refusal(4, 9))
+           refusal(4, 10))
     roomed('a-document-slack-1', text_of(put(S, 0, 1)), refusal(5, 24_003))
     roomed('a-61-cycles-in-30-ticks', text_of(costed((1, 2), [(30, 61, 1, 1)])), refusal(7, 0))
     program('a-60-cycles-in-30-ticks', text_of(costed((1, 2), [(30, 60, 1, 1)])),
@@ -111,13 +112,12 @@ def program_document():
 
 def program_checks():
     """Each refusal, at each kind of place, and which of several comes first."""
-    kinds = {0: 'slack', 6: 'period', 7: 'cycles', 11: 'period', 12: 'cycles'}
-    for place in (0, 2, 3, 4, *range(6, 16)):
-        low, high = RANGES[kinds.get(place, 'rate' if place < 6 else 'energy')]
-        for word in (low - 1, high + 1, TOP):
+    kinds = {0: 'slack', 1: 'idle', 7: 'period', 8: 'cycles', 12: 'period', 13: 'cycles'}
+    for place in (0, 1, 3, 4, 5, *range(7, 17)):
+        for word in [*outside(kinds.get(place, 'rate' if place < 7 else 'energy')), TOP]:
             program('a-word-%02d-%d' % (place, word), text_of(put(S, place, word)),
                     want=refusal(2, place))
-    for place in (3, 4):
+    for place in (4, 5):
         for word in (S[place - 1], S[place - 1] - 1):
             program('a-rate-%d-%d' % (place, word), text_of(put(S, place, word)),
                     want=refusal(3, place))
@@ -131,12 +131,12 @@ def program_checks():
     # All faults at once, and then from the first on one less.
     late = task_set((2, 2), [(9_999_999, TOP - 1), (10_000_000, 4_000_000_000)], 1)
     program('a-1-before-2', text_of(late)[:-1], want=refusal(1, len(text_of(late)) - 1))
-    program('a-2-before-3', text_of(late), want=refusal(2, 6))
-    late[6] = 4_000_000_000
-    program('a-3-before-4', text_of(late), want=refusal(3, 3))
-    late[3] = 3
-    program('a-4-before-5', text_of(late), want=refusal(4, 9))
-    late[9] = 9_999_999
+    program('a-2-before-3', text_of(late), want=refusal(2, 7))
+    late[7] = 4_000_000_000
+    program('a-3-before-4', text_of(late), want=refusal(3, 4))
+    late[4] = 3
+    program('a-4-before-5', text_of(late), want=refusal(4, 10))
+    late[10] = 9_999_999
     program('a-5-before-7', text_of(late), want=refusal(5, 24_003))
     late[0] = 2
     program('a-7-at-last', text_of(late), want=refusal(7, 0))
@@ -152,7 +152,7 @@ def program_checks():
 def program_sizes():
     """Texts of up to 8,192 bytes, which is what the program reads, and longer ones;
     the longest well-formed text; and a bad byte early and late."""
-    longest = text_of(put(put([TOP] * r.MOST_WORDS, 1, 8), 10, 32))
+    longest = text_of(put(put([TOP] * r.MOST_WORDS, M_AT, 8), task_count(8), 32))
     program('a-longest', longest, want=refusal(2, 0))
     task = line_of(10, 12, 4, 9, 20)
     short, most, end = len(EXAMPLE), len(EXAMPLE + task * 30), len(longest)
@@ -190,7 +190,7 @@ def program_large():
     rates = [999_993 + i for i in range(8)]
     most = [(10_000_000, 4_000_000_000) + (1_000_000,) * 8] * 32
     program('a-every-word-at-its-most', text_of(costed(rates, most, 1_000)))
-    program('a-every-word-at-its-least', text_of([1, 2, 1, 2, 1, 1, 1, 1, 1]),
+    program('a-every-word-at-its-least', text_of(costed((1, 2), [(1, 1, 1, 1)], 1)),
             want=plan_lines(1, 1, 1, 1, [1], 0))
     # The last of 32 tasks is the only one at the highest rate.
     tasks = [(64, 1, *range(1, 9))] * 31 + [(64, 33 * 8, *range(1, 9))]
@@ -227,7 +227,8 @@ def random_programs():
     while number < DAMAGED_PROGRAMS:
         words = some_planned(draw)
         if number % 2:
-            at = draw.one_of([at for at in range(len(words)) if at not in (1, 2 + words[1])])
+            fixed = (M_AT, task_count(words[M_AT]))
+            at = draw.one_of([at for at in range(len(words)) if at not in fixed])
             words[at] = draw.one_of(EDGES)
             text = text_of(words)
         else:

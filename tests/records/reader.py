@@ -4,8 +4,9 @@ import re
 
 import reference as r
 from records.shared import (
-    Draw, MOST_READ, MOST_TEXT, RANDOM_TEXTS, S, SEED, TOP, chip_of, costed, head_of, line_of,
-    on_a_line, period_of, put, record, refused, row, text_of, was_read, with_periods, words_of)
+    Draw, IDLE_AT, M_AT, MOST_READ, MOST_TEXT, RANDOM_TEXTS, S, SEED, TOP, chip_of, costed,
+    counts, head_of, length_of, line_of, on_a_line, period_of, put, record, refused, row,
+    task_count, text_of, was_read, with_periods, words_of)
 from test_reference import EXAMPLE, MOST_CYCLES, plain_reader
 
 
@@ -17,7 +18,7 @@ def read_again(text, lent):
     if departs is not None:
         return refused(1, departs)
     words, chip = words_of(text), chip_of(text)
-    M, N = words[1], words[2 + words[1]]
+    M, N = counts(words)
     for task in range(1, N + 1):
         if chip and words[period_of(M, task) + 1] > MOST_CYCLES[chip]:
             return refused(9, task)
@@ -41,12 +42,12 @@ def read_back(name, words, lent=None):
 def read_document():
     """The scope document's example, its cases, and the words lent for it."""
     assert text_of(S) == EXAMPLE
-    read('r-document', EXAMPLE, 16, was_read(S))
+    read('r-document', EXAMPLE, 17, was_read(S))
     read('r-document-much-lent', EXAMPLE, want=was_read(S))
-    read('r-document-a-word-more', EXAMPLE, 17, was_read(S))
-    read('r-document-a-word-short', EXAMPLE, 15, refused(6, 16))
-    read('r-document-one-word-lent', EXAMPLE, 1, refused(6, 16))
-    read('r-document-none-lent', EXAMPLE, 0, refused(6, 16))
+    read('r-document-a-word-more', EXAMPLE, 18, was_read(S))
+    read('r-document-a-word-short', EXAMPLE, 16, refused(6, 17))
+    read('r-document-one-word-lent', EXAMPLE, 1, refused(6, 17))
+    read('r-document-none-lent', EXAMPLE, 0, refused(6, 17))
     read('r-empty', b'', 0, refused(1, 0))
     read('r-empty-much-lent', b'', want=refused(1, 0))
     # 1 is looked for before 6.
@@ -55,12 +56,12 @@ def read_document():
     # 'Ranges are not judged by the reader.'
     read_back('r-slack-of-0', put(S, 0, 0))
     read_back('r-slack-of-1001', put(S, 0, 1_001))
-    read_back('r-rates-falling', S[:2] + [8, 4, 2] + S[5:])
-    read_back('r-rates-equal', S[:2] + [4, 4, 4] + S[5:])
-    read_back('r-rate-over-a-million', put(S, 4, 1_000_001))
-    read_back('r-period-over-ten-million', put(S, 6, 10_000_001))
-    read_back('r-cycles-over-four-milliards', put(S, 7, 4_000_000_001))
-    read_back('r-energy-over-a-million', put(S, 15, 1_000_001))
+    read_back('r-rates-falling', S[:3] + [8, 4, 2] + S[6:])
+    read_back('r-rates-equal', S[:3] + [4, 4, 4] + S[6:])
+    read_back('r-rate-over-a-million', put(S, 5, 1_000_001))
+    read_back('r-period-over-ten-million', put(S, 7, 10_000_001))
+    read_back('r-cycles-over-four-milliards', put(S, 8, 4_000_000_001))
+    read_back('r-energy-over-a-million', put(S, 16, 1_000_001))
     read_back('r-hyper-period-too-long', with_periods((9_999_999, 10_000_000)))
     # What the program reads at most, and the longest text that a record can give.
     for size in (r.BYTES_READ, r.BYTES_READ + 1, MOST_TEXT):
@@ -86,7 +87,7 @@ def read_shapes():
                 read_back(name + '-much-lent', words, MOST_READ)
     for label, word in (('least', 0), ('most', TOP), ('sevens', 7)):
         for M, N in ((2, 1), (3, 2), (8, 32)):
-            words = put(put([word] * (3 + M + N * (2 + M)), 1, M), 2 + M, N)
+            words = put(put([word] * length_of(M, N), M_AT, M), task_count(M), N)
             name = 'r-all-%s-%d-%d' % (label, M, N)
             read_back(name, words)
             read_back(name + '-a-word-more', words, len(words) + 1)
@@ -118,13 +119,13 @@ def read_numbers():
     Catches a largest number that is off by one or wraps at 32 or 64 bits,
     leading zeros that pass, and a number of no digits.
     """
-    places = [0, 2, 3, 4, *range(6, 16)]        # of the numbers in S
+    places = [0, 3, 4, 5, *range(7, 17)]        # of the numbers in S
     for place, number in zip(places, re.finditer(rb'[0-9]+', EXAMPLE)):
         for count, (item, departs) in enumerate(ODD_NUMBERS):
             text = EXAMPLE[:number.start()] + item.encode('latin-1') + EXAMPLE[number.end():]
             want = refused(1, number.start() + departs) if departs is not None else \
                 was_read(put(S, place, int(item)))
-            read('r-number-%02d-%02d' % (place, count), text, (16, MOST_READ)[count % 2], want)
+            read('r-number-%02d-%02d' % (place, count), text, (17, MOST_READ)[count % 2], want)
 
 
 def read_counts():
@@ -133,7 +134,7 @@ def read_counts():
     head = head_of(5, (6, 7))
     for count in (31, 32):
         read('r-count-tasks-%d' % count, head + line * count, want=was_read(
-            [5, 2, 6, 7, count] + [1, 2, 3, 4] * count))
+            [5, 0, 2, 6, 7, count] + [1, 2, 3, 4] * count))
     read('r-count-no-task', head, want=refused(1, len(head)))
     read('r-count-no-task-none-lent', head, 0, refused(1, len(head)))
     most = len(head + line * 32)
@@ -186,10 +187,10 @@ def read_ends():
              want=refused(1, len(slack + rates + first)))
     read('r-end-bracket', EXAMPLE + b'(', want=refused(1, end + 1))
     read('r-end-twice', EXAMPLE + EXAMPLE, want=refused(1, end + 1))
-    read('r-end-a-task-more', EXAMPLE + first, 21, was_read(put(S, 5, 3) + S[6:11]))
-    read('r-end-a-task-less', slack + rates + first, 11, was_read(put(S, 5, 1)[:11]))
-    read('r-end-tasks-swapped', slack + rates + second + first, 16,
-         was_read(S[:6] + S[11:] + S[6:11]))
+    read('r-end-a-task-more', EXAMPLE + first, 22, was_read(put(S, 6, 3) + S[7:12]))
+    read('r-end-a-task-less', slack + rates + first, 12, was_read(put(S, 6, 1)[:12]))
+    read('r-end-tasks-swapped', slack + rates + second + first, 17,
+         was_read(S[:7] + S[12:] + S[7:12]))
     read('r-end-rates-first', rates + slack + first, want=refused(1, 1))
     read('r-end-no-slack', rates + first, want=refused(1, 1))
     read('r-end-slack-twice', slack + slack + rates + first, want=refused(1, len(slack) + 1))
@@ -210,14 +211,14 @@ def read_damaged():
     and not of the byte, and a byte class that is too wide.
     """
     def lent(at):
-        return (16, MOST_READ, 0)[at % 3]
+        return (17, MOST_READ, 0)[at % 3]
 
     task_ends = [at for at in range(1, len(EXAMPLE) + 1) if EXAMPLE[:at].endswith(b'))\n')]
     for at, byte in enumerate(EXAMPLE):
         if at not in task_ends:
             read('r-cut-%03d' % at, EXAMPLE[:at], lent(at), refused(1, at))
         else:
-            read('r-cut-%03d' % at, EXAMPLE[:at], 11, was_read(put(S, 5, 1)[:11]))
+            read('r-cut-%03d' % at, EXAMPLE[:at], 12, was_read(put(S, 6, 1)[:12]))
         for wrong in b'05() \naT-\x00\xff':
             if wrong == byte:
                 continue
@@ -238,9 +239,11 @@ def some_number(draw):
 
 
 def some_words(draw, M, N):
-    """A list of that shape, whatever the ranges."""
-    words = [some_number(draw) for _ in range(3 + M + N * (2 + M))]
-    return put(put(words, 1, M), 2 + M, N)
+    """A list of that shape, whatever the ranges; half of them have no idle energy."""
+    words = [some_number(draw) for _ in range(length_of(M, N))]
+    if draw.between(0, 1):
+        words[IDLE_AT] = 0
+    return put(put(words, M_AT, M), task_count(M), N)
 
 
 def damaged_text(draw, text, more=b''):

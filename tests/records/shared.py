@@ -25,6 +25,9 @@ RANDOM_GENERATED = 400
 RANDOM_CHIPS = 150              # texts of chips for the reader,
 RANDOM_CHIP_PROGRAMS = 100      # for the program, and
 RANDOM_CHIP_LISTS = 20          # lists of chips, each written and read back
+RANDOM_IDLE_PLANS = 400         # sets with an idle energy for the planner,
+RANDOM_IDLE_PROGRAMS = 150      # for the program, and
+RANDOM_IDLE_TEXTS = 150         # texts with an idle line for the reader
 FEW_PLANS = 1_024               # up to so many, the reference looks at all of them
 TOP = 4_294_967_295             # the largest word
 
@@ -88,7 +91,7 @@ def wrote(text):
 
 # ---------------------------------------------------------------------- sets
 
-S = [100, 3, 2, 4, 8, 2, 10, 12, 4, 9, 20, 15, 20, 7, 15, 30]
+S = [100, 0, 3, 2, 4, 8, 2, 10, 12, 4, 9, 20, 15, 20, 7, 15, 30]
 
 
 # Periods and job times whose load is L. Added as fractions of 53 bits, and of 24 too,
@@ -97,17 +100,17 @@ PAST_ONE = [(30, 7), (60, 33), (60, 9), (60, 4)]
 assert 7 / 30 + 33 / 60 + 9 / 60 + 4 / 60 > 1
 
 
-def task_set(rates, tasks, slack=100):
+def task_set(rates, tasks, slack=100, idle=0):
     """tasks are pairs of period and cycles; the energy at rate j is j."""
-    words = [slack, len(rates), *rates, len(tasks)]
+    words = [slack, idle, len(rates), *rates, len(tasks)]
     for period, cycles in tasks:
         words += [period, cycles, *range(1, len(rates) + 1)]
     return words
 
 
-def costed(rates, tasks, slack=100):
+def costed(rates, tasks, slack=100, idle=0):
     """tasks are period, cycles and the energies."""
-    words = [slack, len(rates), *rates, len(tasks)]
+    words = [slack, idle, len(rates), *rates, len(tasks)]
     for task in tasks:
         assert len(task) == 2 + len(rates), task
         words += task
@@ -117,23 +120,26 @@ def costed(rates, tasks, slack=100):
 # Of each chip of document 02's note 2 the rates, and the microjoules that a tick takes at each.
 CHIPS = {'xscale': {150_000: 80, 400_000: 170, 600_000: 400, 800_000: 900, 1_000_000: 1_600},
          'ppc405lp': {33_000: 19, 100_000: 72, 266_000: 600, 333_000: 750}}
+# And what an idle tick takes, by its note 4.
+CHIP_IDLE = {'xscale': 40, 'ppc405lp': 12}
 
 
-def expanded(chip, slack, tasks):
-    """The list of a chip and of tasks that are pairs of period and cycles. A job takes its full
-    ticks, and one more where cycles are left."""
+def expanded(chip, slack, tasks, idle=None):
+    """The list of a chip and of tasks that are pairs of period and cycles, with the chip's own
+    idle energy or with that of an idle line. A job takes its full ticks, and one more where cycles
+    are left."""
     whole = []
     for period, cycles in tasks:
         whole.append([period, cycles])
         for rate, microjoules in CHIPS[chip].items():
             full, left = divmod(cycles, rate)
             whole[-1].append(microjoules * full + (microjoules if left else 0))
-    return costed(CHIPS[chip], whole, slack)
+    return costed(CHIPS[chip], whole, slack, CHIP_IDLE[chip] if idle is None else idle)
 
 
 def needed(words):
     """W of a good list."""
-    M, N = words[1], words[2 + words[1]]
+    _, N = counts(words)
     return (N + 1) * (4_000 * N // words[0] + 1)
 
 
@@ -151,14 +157,25 @@ def same_tasks(M, N):
 
 
 # The range of each kind of word.
-RANGES = {'slack': (1, 1_000), 'm': (2, 8), 'rate': (1, 1_000_000), 'n': (1, 32),
-          'period': (1, 10_000_000), 'cycles': (1, 4_000_000_000), 'energy': (1, 1_000_000)}
+RANGES = {'slack': (1, 1_000), 'idle': (0, 1_000), 'm': (2, 8), 'rate': (1, 1_000_000),
+          'n': (1, 32), 'period': (1, 10_000_000), 'cycles': (1, 4_000_000_000),
+          'energy': (1, 1_000_000)}
+
+
+def outside(kind):
+    """The words next to a range: below it, where there is one, and above it."""
+    low, high = RANGES[kind]
+    return [low - 1, high + 1] if low > 0 else [high + 1]
+
+
+IDLE_AT, M_AT, RATE_AT = 1, 2, 3        # the places of H, of M and of the first rate
 
 
 def places_of(M, N):
     """A label, the kind and the place of words of every kind, at both ends of a set of N tasks and M rates."""
-    places = [('slack', 'slack', 0), ('m', 'm', 1), ('rate-a', 'rate', 2),
-              ('rate-z', 'rate', last_rate(M)), ('n', 'n', task_count(M))]
+    places = [('slack', 'slack', 0), ('idle', 'idle', IDLE_AT), ('m', 'm', M_AT),
+              ('rate-a', 'rate', RATE_AT), ('rate-z', 'rate', last_rate(M)),
+              ('n', 'n', task_count(M))]
     for end, task in (('a', 1), ('z', N))[:N]:
         at = period_of(M, task)
         places += [('period-' + end, 'period', at), ('cycles-' + end, 'cycles', at + 1),
@@ -171,16 +188,34 @@ def put(words, place, word):
     return words[:place] + [word] + words[place + 1:]
 
 
+def with_bad(words, *places):
+    """The list with a word at each of these places that no set has there: 0, and for H, which may
+    be 0, one that is too high."""
+    for place in places:
+        words = put(words, place, 1_001 if place == IDLE_AT else 0)
+    return words
+
+
 def last_rate(M):
-    return 1 + M
+    return RATE_AT - 1 + M
 
 
 def task_count(M):
-    return 2 + M
+    return RATE_AT + M
 
 
 def period_of(M, task):
-    return 3 + M + (task - 1) * (2 + M)
+    return task_count(M) + 1 + (task - 1) * (2 + M)
+
+
+def length_of(M, N):
+    return period_of(M, N + 1)
+
+
+def counts(words):
+    """M and N, of a list that has them where it says."""
+    M = words[M_AT]
+    return M, words[task_count(M)]
 
 
 # --------------------------------------------------------------------- texts
@@ -189,8 +224,14 @@ def row(items):
     return ''.join(' %s' % item for item in items)
 
 
-def head_of(slack, rates):
-    return ('(slack %s)\n(rates%s)\n' % (slack, row(rates))).encode('latin-1')
+def front_of(slack, idle=None):
+    """What stands before the line of rates or of a chip; the idle line only where it is given."""
+    line = '' if idle is None else '(idle %s)\n' % idle
+    return ('(slack %s)\n%s' % (slack, line)).encode('latin-1')
+
+
+def head_of(slack, rates, idle=None):
+    return front_of(slack, idle) + ('(rates%s)\n' % row(rates)).encode('latin-1')
 
 
 def line_of(period, cycles, *energies):
@@ -199,41 +240,44 @@ def line_of(period, cycles, *energies):
 
 
 def text_of(words):
-    """The text that says a list of words, whatever their ranges. M and N are those of the list."""
-    M = words[1]
-    tasks = [words[at:at + 2 + M] for at in range(3 + M, len(words), 2 + M)]
-    assert words[2 + M] == len(tasks)
-    return head_of(words[0], words[2:2 + M]) + b''.join(line_of(*task) for task in tasks)
+    """The text that says a list of words, whatever their ranges, with an idle line unless H is 0. M
+    and N are those of the list."""
+    M, N = counts(words)
+    tasks = [words[at:at + 2 + M] for at in range(period_of(M, 1), len(words), 2 + M)]
+    assert N == len(tasks)
+    head = head_of(words[0], words[RATE_AT:RATE_AT + M], words[IDLE_AT] or None)
+    return head + b''.join(line_of(*task) for task in tasks)
 
 
-def chip_head(chip, slack):
-    return ('(slack %s)\n(chip %s)\n' % (slack, chip)).encode('latin-1')
+def chip_head(chip, slack, idle=None):
+    return front_of(slack, idle) + ('(chip %s)\n' % chip).encode('latin-1')
 
 
 def chip_line(period, cycles):
     return ('(task (period %s) (cycles %s))\n' % (period, cycles)).encode('latin-1')
 
 
-def chip_text(chip, slack, tasks):
-    return chip_head(chip, slack) + b''.join(chip_line(*task) for task in tasks)
+def chip_text(chip, slack, tasks, idle=None):
+    return chip_head(chip, slack, idle) + b''.join(chip_line(*task) for task in tasks)
 
 
 def chip_of(text):
     """The chip that a well-formed text names, or None."""
-    line = text.split(b'\n')[1]
-    return line[6:-1].decode('ascii') if line.startswith(b'(chip ') else None
+    named = re.search(rb'\(chip ([a-z0-9]*)\)', text)
+    return named and named[1].decode('ascii')
 
 
 def words_of(text):
     """The words of a well-formed text, whatever their ranges; those of a chip's text expanded."""
-    (slack,), rates, *tasks = ([int(number) for number in re.findall(rb'[0-9]+', line)]
-                               for line in text.split(b'\n')[:-1])
-    chip = chip_of(text)
+    (slack,), *others = ([int(number) for number in re.findall(rb'[0-9]+', line)]
+                         for line in text.split(b'\n')[:-1])
+    idle = others.pop(0)[0] if b'(idle ' in text else None
+    chip, rates, *tasks = chip_of(text), *others
     if chip:
-        assert chip_text(chip, slack, tasks) == text
-        return expanded(chip, slack, tasks)
-    words = costed(rates, tasks, slack)
-    assert text_of(words) == text
+        assert chip_text(chip, slack, tasks, idle) == text
+        return expanded(chip, slack, tasks, idle)
+    words = costed(rates, tasks, slack, idle or 0)
+    assert head_of(slack, rates, idle) + b''.join(line_of(*task) for task in tasks) == text
     return words
 
 
@@ -267,9 +311,9 @@ EDGES = [0, 0, 0, 1, 2, 8, 9, 10, 32, 33, 100, 1_000, 1_001, 65_536, 1_000_000, 
 def damaged(draw, words):
     """A list with one fault or a few; now and then it is good again."""
     words = list(words)
-    M = words[1]
+    M = words[M_AT]
     for _ in range(draw.one_of([1, 1, 1, 2, 2, 3])):
-        if len(words) < 3:
+        if len(words) < 4:
             break
         how = draw.one_of(['edge', 'edge', 'edge', 'remove', 'insert', 'cut', 'more', 'swap',
                            'swap', 'rates', 'rates', 'count', 'period'])
@@ -286,19 +330,19 @@ def damaged(draw, words):
             words += [draw.one_of([1, 2, 5] + EDGES) for _ in range(draw.between(1, 4))]
         elif how == 'swap' and place > 0:
             words[place - 1], words[place] = words[place], words[place - 1]
-        elif how == 'rates' and len(words) > 2 + M:
-            a, b = draw.between(2, 1 + M), draw.between(2, 1 + M)
+        elif how == 'rates' and len(words) > task_count(M):
+            a, b = (draw.between(RATE_AT, last_rate(M)) for _ in range(2))
             if draw.between(0, 1):
                 words[a] = words[b]
             else:
                 words[a], words[b] = words[b], words[a]
         elif how == 'count':
-            at = draw.one_of([1, 2 + M])
+            at = draw.one_of([M_AT, task_count(M)])
             if at < len(words) and 0 < words[at] < TOP:
                 words[at] += draw.one_of([1, -1])
-        elif how == 'period' and len(words) > 3 + M:
-            tasks = (len(words) - 3 - M) // (2 + M)
-            at = 3 + M + (2 + M) * draw.between(0, max(0, tasks - 1))
+        elif how == 'period' and len(words) > period_of(M, 1):
+            tasks = (len(words) - period_of(M, 1)) // (2 + M)
+            at = period_of(M, draw.between(1, max(1, tasks)))
             if at < len(words):
                 words[at] = draw.one_of([9_999_991, 9_999_999, 10_000_000, 7_654_321, 1_048_576])
     return words

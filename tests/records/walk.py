@@ -152,10 +152,10 @@ def one_task():
     timed('period-70000', [(70_000, 69_000)], kept(69_000, 1_000, 0))
     timed('periods-35000-70000', [(35_000, 20_000), (70_000, 29_000)], kept(69_000, 1_000, 1))
     timed('period-66000-late', [(66_000, 66_001)], missed(66_000, 1))
-    # Slack and energies are nothing to the walk.
+    # Slack and energies are nothing to the walk, the idle energy neither (idle.py has more of it).
     for slack in (1, 1_000):
         walk('walk-with-slack-%d' % slack, put(S, 0, slack), [2, 1], kept(29, 1, 1))
-    walk('walk-with-other-energies', S[:8] + [1_000_000, 1, 1, 15, 20, 1, 1, 1_000_000],
+    walk('walk-with-other-energies', S[:9] + [1_000_000, 1, 1, 15, 20, 1, 1, 1_000_000],
          [2, 1], kept(29, 1, 1))
 
 
@@ -355,7 +355,8 @@ def some_walk(draw):
     rates = draw.rising(M, draw.one_of([M, 12, 12, 12, 100, 1_000, 1_000_000]))
     plan = [draw.one_of([1, M, draw.between(1, M)]) for _ in range(N)]
     most = draw.one_of([9, 9, 9, 9, 9, 99, 1_000_000])
-    words = [draw.one_of([1, 10, 50, 100, 500, 999, 1_000]), M, *rates, N]
+    words = [draw.one_of([1, 10, 50, 100, 500, 999, 1_000]),
+             draw.one_of([0, 0, 0, 1, draw.between(0, 99), 1_000]), M, *rates, N]
     for period, time, rate in zip(periods, times, plan):
         f = rates[rate - 1]
         low, high = (time - 1) * f + 1, time * f        # all of them round up to the time

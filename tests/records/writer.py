@@ -4,9 +4,9 @@ import itertools
 
 import reference as r
 from records.shared import (
-    Draw, MOST_READ, MOST_WRITTEN, RANDOM_LISTS, RANGES, S, SEED, TOP, costed, damaged, places_of,
-    put, record, refused, same_tasks, task_count, task_set, text_of, was_read, with_periods,
-    with_rates, wrote)
+    Draw, M_AT, MOST_READ, MOST_WRITTEN, RANDOM_LISTS, RANGES, RATE_AT, S, SEED, TOP, costed,
+    damaged, last_rate, outside, places_of, put, record, refused, same_tasks, task_count, task_set,
+    text_of, was_read, with_periods, with_rates, wrote)
 from records.planner import some_large, some_planned
 from records.reader import read
 from test_reference import EXAMPLE
@@ -38,9 +38,9 @@ def write_document():
     for lent in (0, MOST_WRITTEN):
         write('t-slack-of-0-%d' % lent, put(S, 0, 0), lent, refused(2, 0))
         write('t-empty-list-%d' % lent, [], lent, refused(2, 0))
-        write('t-rates-4-4-%d' % lent, with_rates((4, 4)), lent, refused(3, 3))
+        write('t-rates-4-4-%d' % lent, with_rates((4, 4)), lent, refused(3, 4))
         # 2 before 3.
-        write('t-rates-4-4-energy-0-%d' % lent, put(with_rates((4, 4)), 8, 0), lent, refused(2, 8))
+        write('t-rates-4-4-energy-0-%d' % lent, put(with_rates((4, 4)), 9, 0), lent, refused(2, 9))
     # The writer makes no check 4, and none after it.
     written('t-hyper-period-too-long', with_periods((9_999_999, 10_000_000)))
     written('t-no-plan-fits', task_set((1, 2), [(30, 61)]))
@@ -63,10 +63,11 @@ def write_shapes():
         for M, N in ((2, 1), (3, 2), (8, 32)):
             rates = [low['rate'] + j - (M - 1 if word else 0) for j in range(M)]
             task = (low['period'], low['cycles']) + (low['energy'],) * M
-            written('t-all-%s-%d-%d' % (label, M, N), costed(rates, [task] * N, low['slack']))
+            written('t-all-%s-%d-%d' % (label, M, N),
+                    costed(rates, [task] * N, low['slack'], low['idle']))
     # The last number of each length, and the first of the next.
-    for kind, place in (('slack', 0), ('rate', 4), ('period', 6), ('cycles', 7), ('energy', 8),
-                        ('energy', 15)):
+    for kind, place in (('slack', 0), ('idle', 1), ('rate', 5), ('period', 7), ('cycles', 8),
+                        ('energy', 9), ('energy', 16)):
         for power in range(1, 10):
             for word in (10 ** power - 1, 10 ** power):
                 if word <= RANGES[kind][1] and (kind != 'rate' or word > 4):
@@ -85,8 +86,7 @@ def write_refused():
     for label, M, N in (('least', 2, 1), ('pair', 3, 2), ('whole', 8, 32)):
         base = same_tasks(M, N)
         for what, kind, place in places_of(M, N):
-            low, high = RANGES[kind]
-            for word in (low - 1, high + 1, TOP):
+            for word in [*outside(kind), TOP]:
                 refuses('t-%s-%s-%d' % (label, what, word), put(base, place, word), 2, place)
         refuses('t-%s-short' % label, base[:-1], 2, len(base) - 1)
         refuses('t-%s-left-over' % label, base + [1], 2, len(base))
@@ -94,15 +94,15 @@ def write_refused():
     for length in range(len(S)):
         refuses('t-cut-%02d' % length, S[:length], 2, length)
     for M in (0, 1, 9, 10):
-        refuses('t-count-rates-%d' % M, same_tasks(M, 2), 2, 1)
+        refuses('t-count-rates-%d' % M, same_tasks(M, 2), 2, M_AT)
     for N in (0, 33, 34):
-        refuses('t-count-tasks-%d' % N, same_tasks(3, N), 2, 5)
+        refuses('t-count-tasks-%d' % N, same_tasks(3, N), 2, task_count(3))
     for M in range(2, 9):
         base = with_rates(range(10, 10 + M), 2)
-        for place in range(3, 2 + M):
+        for place in range(RATE_AT + 1, last_rate(M) + 1):
             for word in (base[place - 1], base[place - 1] - 1, 1):
                 refuses('t-rates-%d-%d-%d' % (M, place, word), put(base, place, word), 3, place)
-        refuses('t-rates-%d-first-high' % M, put(base, 2, 1_000_000), 3, 3)
+        refuses('t-rates-%d-first-high' % M, put(base, RATE_AT, 1_000_000), 3, RATE_AT + 1)
 
 
 def random_lists():
