@@ -10,7 +10,7 @@ use lib.ListN.{length, getD}
 use Rattle.numbers.specs.Numbers.{between}
 use Rattle.numbers.proofs.Tests.{and-true, between-true}
 use Rattle.layout.specs.Words.{mostRates, mostIdle}
-use Rattle.chips.specs.Chips.{megahertz, milliwatts, chipCount, chipRates, idleFigures, idleEntry}
+use Rattle.chips.specs.Chips.{megahertz, milliwatts, chipCount, chipRates, idleFigures, chipIdle, idleEntry}
 use Rattle.chips.specs.declared.Chip.{Chip}
 use Rattle.chips.specs.declared.Chip.the-variants.{Xscale, Ppc405lp}
 
@@ -78,6 +78,12 @@ pub idle-inside : (c : Chip) → idleEntry c < length idleFigures
 unfolding idleFigures
 idle-inside Xscale = omega arith
 idle-inside Ppc405lp = omega arith
+
+-- A chip draws more at every rate than when it waits: a tick's idle energy in microjoules is a power in mW.
+pub powers-above-idle : (c : Chip) → rising (chipIdle c) 5000 (milliwatts c) ≡ true
+unfolding milliwatts idleFigures
+powers-above-idle Xscale = refl
+powers-above-idle Ppc405lp = refl
 
 -- The rate numbers of a chip, where it is known which one it is.
 pub xscale-few : {c : Chip} {r : ℕ} → c ≡ Xscale → r ≤ chipCount c → r ≤ 5

@@ -1,9 +1,9 @@
 -- What holds of the tables of every chip, and of the energies that come of them: by the law of tables, and not chip by
 -- chip.
 -- Assumes nothing.
-use Prim.Native.Nat.{ℕ, suc, _+_, _-_, _^_, _≤_, _<_}
+use Prim.Native.Nat.{ℕ, suc, _+_, _-_, _*_, _^_, _≤_, _<_}
 use mathlib.Core.Path.{_≡_, ap, _∙_}
-use native.Mathlib.Nat.{mul-le-mul}
+use native.Mathlib.Nat.{mul-le-mul, mul-le-mul-right}
 use native.Mathlib.Omega.{arith}
 use lib.ListN.{length, getD}
 use Rattle.numbers.proofs.Tests.{between-true}
@@ -15,7 +15,7 @@ use Rattle.chips.specs.Chips.{milliwatts, chipCount, chipRate, chipPower
 use Rattle.chips.specs.Chips.{idleFigures, idleEntry, chipIdle}
 use Rattle.chips.specs.declared.Chip.{Chip}
 use Rattle.chips.proofs.Rising.{Entry, entry-at, count-in-range, powers-as-many, rates-in-order, powers-in-order}
-use Rattle.chips.proofs.Rising.{idle-in-order, idle-inside}
+use Rattle.chips.proofs.Rising.{idle-in-order, idle-inside, powers-above-idle}
 
 -- ---- how many
 pub count-range : (c : Chip) → (2 ≤ chipCount c) × (chipCount c ≤ mostRates)
@@ -79,3 +79,9 @@ pub energy-positive : (c : Chip) (cycles r : ℕ) → 1 ≤ cycles → 1 ≤ r �
 energy-positive c cycles r w a b =
     let time = ceil-positive cycles (chipRate c r) w (rate-range c r a b .0) in
     mul-le-mul {n₁ = 1} {m₁ = 1} (power-range c r a b .0) time
+
+-- At no rate is it below what the chip's idle ticks draw in that time.
+pub energy-above-idle : (c : Chip) (cycles r : ℕ) → 1 ≤ r → r ≤ chipCount c → chipIdle c * jobTicks cycles (chipRate c r) ≤ chipEnergy c cycles r
+energy-above-idle c cycles r a b =
+    mul-le-mul-right (jobTicks cycles (chipRate c r))
+    (entry-at (chipIdle c) 5000 (milliwatts c) (powers-above-idle c) (r - 1) (omega (arith, powers-as-many c)) .least)

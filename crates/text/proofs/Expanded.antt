@@ -15,17 +15,18 @@ use Rattle.numbers.proofs.Lists.{each-at, all-at, joined-at}
 use Rattle.numbers.proofs.Search.{no-lowest}
 use Rattle.numbers.proofs.Tests.{lt-or-le, true-between}
 use Rattle.layout.specs.Words.{headKinds, extraKinds, headSize, extraSize, headKind, kindIn, allows, longestPeriod}
-use Rattle.layout.specs.Words.{mostIdle, mostEnergy, word, rateCount, taskCount}
+use Rattle.layout.specs.Words.{mostIdle, mostEnergy, word, idle, rateCount, taskCount}
 use Rattle.layout.specs.Words.{taskSize, periodPlace, rate, period, cycles, energy}
 use Rattle.layout.specs.declared.Layout.the-variants.{Ordinary}
 use Rattle.layout.proofs.Whole.{IsWhole}
 use Rattle.layout.proofs.Built.{built}
 use Rattle.layout.proofs.Built as laws
-use Rattle.chips.specs.Chips.{chipCount, chipRate, chipEnergy, chipRates, chipEnergies}
+use Rattle.chips.specs.Chips.{chipCount, chipRate, chipEnergy, chipRates, chipEnergies, chipIdle}
 use Rattle.chips.specs.declared.Chip.{Chip}
 use Rattle.chips.proofs.Limits.{mostCycles, most-cycles, longer-over}
-use Rattle.chips.proofs.Tables.{count-range, rates-length, rate-range, rates-rise, idle-range, energy-positive}
-use Rattle.taskset.specs.Refusals.{Passes, Accepts, wordChecks}
+use Rattle.chips.proofs.Tables.{count-range, rates-length, rate-range, rates-rise, idle-range, energy-positive, energy-above-idle}
+use Rattle.taskset.specs.Refusals.{Passes, Accepts, wordChecks, idleCheck}
+use Rattle.taskset.proofs.Idle.{Covered, covered-passes}
 use Rattle.taskset.proofs.Sets.{words-pass}
 use Rattle.text.specs.Text.{TaskLine, chip, Script, energyCount, TaskLineOk, ScriptOk, IsTextOf}
 use Rattle.text.specs.Text.{idleOf, headWords, extraWords, taskWords, words}
@@ -249,3 +250,23 @@ module _ (c : Chip) (g : ℕ) (o : Option ℕ) (ts : List TaskLine) (ok : Script
 
   pub list-passes : Accepts (wordChecks Ordinary list)
   list-passes = words-pass Ordinary list whole rising
+
+-- A chip's list passes check 10 where the text has no idle line, whatever else it says: no energy that was worked out is
+-- below what the chip's own idle energy comes to in the job's time.
+module _ (c : Chip) (g : ℕ) (ts : List TaskLine) (ok : ScriptOk (chipScript c g none ts)) where
+  abbrev own : List ℕ
+  own = words (chipScript c g none ts)
+
+  idle-is : idle own ≡ chipIdle c
+  unfolding words
+  idle-is = refl
+
+  own-covered : Covered Ordinary own
+  own-covered t r h a b =
+      let task : t < length ts = omega (arith, tasks-is c g none ts ok) in
+      let few : r ≤ length (chipRates c) = omega (arith, rates-is c g none ts ok) in
+      rw (idle-is, cycles-is c g none ts ok t task, rate-is c g none ts ok r a few, energy-is c g none ts ok t task r a few)
+      (energy-above-idle c (line c g none ts ok t .cycles) r a (omega (arith, rates-length c)))
+
+  pub own-passes : Passes (idleCheck Ordinary own)
+  own-passes = covered-passes Ordinary own own-covered

@@ -4,14 +4,14 @@ use Prim.Native.Nat.{ℕ, suc, _^_, _≤_, _<_}
 use mathlib.Core.Path.{_≡_, refl, sym, _∙_}
 use mathlib.Core.List.{List, _++_}
 use mathlib.Core.Logic.{_↔_, _⊎_, inl, inr}
-use mathlib.Core.Option.{Option}
+use mathlib.Core.Option.{Option, none}
 use native.Mathlib.Omega.{arith}
 use lib.ListN.{length, take, drop}
 use Rattle.numbers.specs.Numbers.{All}
 use Rattle.layout.specs.declared.Layout.the-variants.{Ordinary}
 use Rattle.chips.specs.declared.Chip.{Chip}
 use Rattle.chips.proofs.Limits.{mostCycles}
-use Rattle.taskset.specs.Refusals.{Passes, Accepts, wordCheck, wordChecks, roomCheck}
+use Rattle.taskset.specs.Refusals.{Passes, Accepts, wordCheck, wordChecks, idleCheck, roomCheck}
 use Rattle.taskset.proofs.Checks.{accepts-next, passed}
 use Rattle.taskset.specs.declared.CopyAnswer.{CopyAnswer}
 use Rattle.taskset.specs.declared.CopyAnswer.the-variants.{Wrote}
@@ -27,7 +27,7 @@ use Rattle.text.proofs.Sizes.{text-length}
 use Rattle.text.proofs.Copies.{reads, is-read, is-refused, refuses, one-script, list-text, list-words}
 use Rattle.text.proofs.Copies.{reader-unique, writer-unique}
 use Rattle.text.proofs.Written.{read-back, read-again}
-use Rattle.text.proofs.Expanded.{chipScript, lineAt, over-iff, LineIn, IdleIn, passes-over, list-passes}
+use Rattle.text.proofs.Expanded.{chipScript, lineAt, over-iff, LineIn, IdleIn, passes-over, list-passes, own-passes}
 
 -- ---- numbers
 -- The digits of a number say it, read from the first on: for every number of 64 bits, and so for every one that is read
@@ -120,6 +120,12 @@ pub chip-passes : (c : Chip) (g : ℕ) (o : Option ℕ) (ts : List TaskLine) (t 
 chip-passes c g o ts t d d′ n is gives slack-in idle-in lines-in =
     list-passes c g o ts (is .script) slack-in idle-in lines-in
     (passes-over (chipScript c g o ts) t is (passed 9 (readerChecks t (length d)) refl (gives .0)))
+
+-- Without an idle line it passes check 10 as well, whatever its numbers are: each energy that is worked out is at least
+-- what the chip draws in that time when it waits.
+pub chip-above-idle : (c : Chip) (g : ℕ) (ts : List TaskLine) (t : List ℕ) → IsTextOf (chipScript c g none ts) t
+    → Passes (idleCheck Ordinary (words (chipScript c g none ts)))
+chip-above-idle c g ts t is = own-passes c g ts (is .script)
 
 -- And so the writer takes it, wherever the buffer has room for its text; what it writes then reads back as that list
 -- (words-then-read).
