@@ -1,31 +1,31 @@
--- Document 01's example: for its input the program prints its four lines. And texts with a chip.
+-- Document 01's example: for its input the program prints its four lines. And texts with a chip, and with an idle line.
 -- Assumes nothing.
 use Prim.Native.Nat.{ℕ, _≤_}
 use mathlib.Core.Path.{_≡_, refl, sym, _∙_, subst}
 use mathlib.Core.List.{List, [], _∷_, _++_}
 use native.Mathlib.Omega.{arith}
-use lib.ListN.{length, replicate}
+use lib.ListN.{length, replicate, length-replicate}
 use lib.Seq.{take-all}
 use Rattle.schedule.specs.Counted.{walk}
 use Rattle.selection.specs.Plan.{Fitting}
 use Rattle.layout.specs.Words.{headKinds, extraKinds, taskCount}
 use Rattle.layout.specs.declared.Layout.the-variants.{Ordinary}
 use Rattle.taskset.specs.Quantities.{hyperPeriod, problem, walkTasks, workNeeded}
-use Rattle.taskset.specs.Refusals.{Accepts, _▹_, wordChecks, idleCheck, energyChecks, hyperCheck, workCheck, roomCheck, noneCheck, readyChecks, plannerChecks}
+use Rattle.taskset.specs.Refusals.{Accepts, Refuses, _▹_, wordChecks, idleCheck, energyChecks, hyperCheck, workCheck, roomCheck, noneCheck, readyChecks, plannerChecks}
 use Rattle.taskset.specs.Calls.{walkValues, outcomeValues, Selected, PlannerGives}
 use Rattle.taskset.specs.declared.PlannerAnswer.the-variants.{Planned}
 use Rattle.taskset.specs.declared.WalkAnswer.the-variants.{Kept}
 use Rattle.taskset.proofs.Checks.{accepts-next, passed}
-use Rattle.taskset.proofs.Cases.{S, chip-set, cases}
+use Rattle.taskset.proofs.Cases.{S, chip-set, slow-or-fast, cases}
 use Rattle.taskset.proofs.DemandThree.{outcome-kept}
 use Rattle.chips.specs.declared.Chip.the-variants.{Ppc405lp}
-use Rattle.text.specs.Text.{bytes, scriptText, words, scriptOf}
+use Rattle.text.specs.Text.{bytes, scriptText, IsTextOf, words, scriptOf}
 use Rattle.text.proofs.Copies.{takes}
 use Rattle.text.proofs.Sizes.{words-length}
-use Rattle.text.proofs.Cases.{example, example-text, example-words, ppc405lp, underChip, chips, ppc405lp-within, tooMuch, overs}
+use Rattle.text.proofs.Cases.{example, example-text, example-words, idle-910, idle-899, idle-line-910, idle-line-899, ppc405lp, underChip, chips, ppc405lp-within, tooMuch, overs}
 use Rattle.lines.specs.Lines.{planLine, rateLines, walkLine}
-use Rattle.lines.proofs.Example.{printed, printed-lines, chip-printed, chip-lines, refused-9-2}
-use Rattle.answer.specs.Answer.{workLent, planLent, setLent, PrintsPlan, Prints, unread, planned}
+use Rattle.lines.proofs.Example.{printed, printed-lines, chip-printed, chip-lines, refused-9-2, idle-printed, idle-lines, refused-10-8}
+use Rattle.answer.specs.Answer.{workLent, planLent, setLent, PrintsPlan, Read, Prints, unread, refused, planned}
 
 -- A case of the planner, where just the words needed are lent; more of them change nothing. P is its plan, with the four
 -- values, and the walk of P is kept with the three counts.
@@ -63,6 +63,14 @@ module _ (s P out lent words words′ : List ℕ) (unit load hyper energy busy i
         lines = lines;
       }
 
+-- A script that names no chip is read, whatever its numbers.
+read-script : (s : List ℕ) (t : List ℕ) → IsTextOf (scriptOf s) t → Read (scriptOf s) t
+unfolding scriptOf
+read-script s t is = record {
+  accepts = takes (scriptOf s) t setLent is (λ w. absurd w) (words-length (scriptOf s) (is .script));
+  text = is;
+}
+
 plan : PrintsPlan (S 100) (2 ∷ 1 ∷ []) printed 1 29 30 41 29 1 1
 unfolding S headKinds extraKinds
 plan =
@@ -74,11 +82,7 @@ pub example-printed : Prints example printed
 unfolding S headKinds extraKinds scriptOf
 example-printed =
     planned (scriptOf (S 100)) (2 ∷ 1 ∷ []) 1 29 30 41 29 1 1
-    (record {
-      accepts = takes (scriptOf (S 100)) example setLent example-text (λ w. absurd w)
-          (words-length (scriptOf (S 100)) (example-text .script));
-      text = example-text;
-    })
+    (read-script (S 100) example example-text)
     (subst (λ (w : List ℕ). PrintsPlan w (2 ∷ 1 ∷ []) printed 1 29 30 41 29 1 1) (sym example-words) plan)
 
 -- A text with a chip prints its four lines too; and where an energy is over the largest, the one line of refusal 9.
@@ -103,3 +107,31 @@ chip-example-printed =
 
 pub over-printed : Prints (scriptText tooMuch) (bytes "(refused 9 2)\n")
 over-printed = unread 9 2 (overs .over setLent) (sym refused-9-2)
+
+-- A text with an idle line prints the energy with what idle ticks draw; and where an energy is below that, the one line
+-- of refusal 10.
+idle-plan : PrintsPlan (slow-or-fast 10 910) (1 ∷ []) idle-printed 1 90 100 1010 90 10 0
+unfolding slow-or-fast headKinds extraKinds
+idle-plan =
+    prints (slow-or-fast 10 910) (1 ∷ []) idle-printed (replicate 1 0) (replicate 82 0) (replicate 82 0) 1 90 100 1010 90 10 0
+    (cases .idle-counts (replicate 1 0) (replicate 82 0) refl refl)
+    (omega arith) (omega arith) refl (cases .walk-idle .1) idle-lines
+
+pub idle-example-printed : Prints idle-910 idle-printed
+idle-example-printed =
+    planned (scriptOf (slow-or-fast 10 910)) (1 ∷ []) 1 90 100 1010 90 10 0 (read-script (slow-or-fast 10 910) idle-910 (idle-line-910 .text))
+    (subst (λ (w : List ℕ). PrintsPlan w (1 ∷ []) idle-printed 1 90 100 1010 90 10 0) (sym (idle-line-910 .words-are)) idle-plan)
+
+below : Refuses (plannerChecks (slow-or-fast 10 899) planLent workLent) 10 8
+below =
+    let plan : List ℕ = replicate planLent 0 in
+    let work : List ℕ = replicate workLent 0 in
+    let refuses : Refuses (plannerChecks (slow-or-fast 10 899) (length plan) (length work)) 10 8 = cases .idle-above plan work .0 in
+    subst (λ (w : ℕ). Refuses (plannerChecks (slow-or-fast 10 899) planLent w) 10 8) (length-replicate {A = ℕ} workLent 0)
+    (subst (λ (p : ℕ). Refuses (plannerChecks (slow-or-fast 10 899) p (length work)) 10 8) (length-replicate {A = ℕ} planLent 0) refuses)
+
+pub below-printed : Prints idle-899 (bytes "(refused 10 8)\n")
+below-printed =
+    refused (scriptOf (slow-or-fast 10 899)) 10 8 (read-script (slow-or-fast 10 899) idle-899 (idle-line-899 .text))
+    (subst (λ (w : List ℕ). Refuses (plannerChecks w planLent workLent) 10 8) (sym (idle-line-899 .words-are)) below)
+    (sym refused-10-8)

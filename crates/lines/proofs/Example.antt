@@ -26,6 +26,18 @@ pub refused-9-2 : refusedLine 9 2 ≡ bytes "(refused 9 2)\n"
 unfolding refusedLine decimal digits
 refused-9-2 = refl
 
+-- The lines of a text with an idle line (note 4), and of its refusal 10.
+unfoldable pub idle-printed : List ℕ
+idle-printed = bytes "(plan (unit 1) (load 90 100) (energy 1010))\n(rate 1 1)\n(walk (busy 90) (idle 10) (preempted 0))\n"
+
+pub idle-lines : idle-printed ≡ planLine 1 90 100 1010 ++ (rateLines 1 (1 ∷ []) ++ walkLine 90 10 0)
+unfolding idle-printed planLine rateLine walkLine decimal digits
+idle-lines = refl
+
+pub refused-10-8 : refusedLine 10 8 ≡ bytes "(refused 10 8)\n"
+unfolding refusedLine decimal digits
+refused-10-8 = refl
+
 -- "it prints only `(refused 7 0)`"
 pub refused-7-0 : refusedLine 7 0 ≡ bytes "(refused 7 0)\n"
 unfolding refusedLine decimal digits

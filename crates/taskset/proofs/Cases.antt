@@ -64,7 +64,7 @@ even-tasks = 100 ∷ 0 ∷ 2 ∷ 1 ∷ 3 ∷ 2 ∷ 4 ∷ 3 ∷ 1 ∷ 5 ∷ 4 ∷
 
 -- Slack 100, idle energy h, rates 1 and 9, one task of period 100 and 90 cycles with energies e and 200: its jobs take 90
 -- ticks or 10.
-slow-or-fast : ℕ → ℕ → List ℕ
+unfoldable pub slow-or-fast : ℕ → ℕ → List ℕ
 slow-or-fast h e = 100 ∷ h ∷ 2 ∷ 1 ∷ 9 ∷ 1 ∷ 100 ∷ 90 ∷ e ∷ 200 ∷ []
 
 -- Idle energy 10, two rates, two tasks whose jobs take 4 and 2 ticks; periods p and q.
@@ -76,7 +76,7 @@ with-rates : ℕ → ℕ → List ℕ → List ℕ
 with-rates f g rest = 100 ∷ 0 ∷ 2 ∷ f ∷ g ∷ 1 ∷ 10 ∷ 12 ∷ 4 ∷ rest
 
 -- The planner refuses, whatever is lent, and leaves both lists as they are.
-abbrev Declined : List ℕ → Refusal → Type 0
+abbrev pub Declined : List ℕ → Refusal → Type 0
 Declined s r = (plan work : List ℕ) → PlannerGives s plan work plan work (NotPlanned r)
 
 -- ---- from what the verdicts compute to what the calls answer
@@ -228,20 +228,21 @@ pub record Cases : Type 0 where
   tie : (plan work : List ℕ) → length plan ≡ 2 → length work ≡ 243 → PlannerGives even-tasks plan work (2 ∷ 1 ∷ []) (replicate 243 0) (Planned 1 4 4 6)
   -- Document 02, note 4. The slower rate costs 910 - 10 × 90 = 10 over idling, the faster 200 - 10 × 10 = 100: plan 1, and
   -- with 10 idle ticks 910 + 10 × 10 = 1,010 in all, against 200 + 10 × 90 = 1,100 for plan 2.
-  idle-counts : (plan work : List ℕ) → length plan ≡ 1 → length work ≡ 82
+  pub idle-counts : (plan work : List ℕ) → length plan ≡ 1 → length work ≡ 82
       → PlannerGives (slow-or-fast 10 910) plan work (1 ∷ []) (replicate 82 0) (Planned 1 90 100 1010)
+  pub walk-idle : WalkAnswers (slow-or-fast 10 910) (1 ∷ []) (Kept 90 10 0)
   -- So no bound between the jobs' energies alone holds: that of the plan given is 910, and plan 2 keeps every deadline
   -- for ever with 200, 1,100 with its idle energy.
-  jobs-alone : (jobsEnergy (slow-or-fast 10 910) (1 ∷ []) ≡ 910) × (jobsEnergy (slow-or-fast 10 910) (2 ∷ []) ≡ 200) ×
+  pub jobs-alone : (jobsEnergy (slow-or-fast 10 910) (1 ∷ []) ≡ 910) × (jobsEnergy (slow-or-fast 10 910) (2 ∷ []) ≡ 200) ×
       (reportedEnergy (slow-or-fast 10 910) (2 ∷ []) ≡ 1100) × Keeps (slow-or-fast 10 910) (2 ∷ [])
-  jobs-alone-false : (1000 * jobsEnergy (slow-or-fast 10 910) (1 ∷ []) ≤ 1100 * jobsEnergy (slow-or-fast 10 910) (2 ∷ [])) → ⊥
+  pub jobs-alone-false : (1000 * jobsEnergy (slow-or-fast 10 910) (1 ∷ []) ≤ 1100 * jobsEnergy (slow-or-fast 10 910) (2 ∷ [])) → ⊥
   -- Without idle energy the faster rate is the cheaper.
   idle-nothing : (plan work : List ℕ) → length plan ≡ 1 → length work ≡ 82
       → PlannerGives (slow-or-fast 0 910) plan work (2 ∷ []) (replicate 82 0) (Planned 8 10 100 200)
   -- "10, an energy below H × job time": 900 is not below 10 × 90, and 899 is. With 900 the energy that selection sees is 0.
   idle-equal : (plan work : List ℕ) → length plan ≡ 1 → length work ≡ 82
       → PlannerGives (slow-or-fast 10 900) plan work (1 ∷ []) (replicate 82 0) (Planned 1 90 100 1000)
-  idle-above : Declined (slow-or-fast 10 899) (BelowIdle 8)
+  pub idle-above : Declined (slow-or-fast 10 899) (BelowIdle 8)
   -- All that selection sees is 0: the first unit is 1, and the least load decides.
   nothing-left : (plan work : List ℕ) → length plan ≡ 2 → length work ≡ 243
       → PlannerGives (idle-tasks 10 10 40 20 40 20) plan work (2 ∷ 2 ∷ []) (replicate 243 0) (Planned 1 4 10 100)
@@ -298,6 +299,7 @@ cases = record {
   plan-list-1 = λ plan work p q. plan-short (S 100) 3 2 30 refl plan work (omega arith) (omega arith);
   tie = planned even-tasks 2 2 4 refl (2 ∷ 1 ∷ []) 0 1 4 6 (le-by-compare _ _ tt) (le-by-compare _ _ tt) refl refl refl refl refl refl;
   idle-counts = planned (slow-or-fast 10 910) 2 1 100 refl (1 ∷ []) 0 1 90 1010 (le-by-compare _ _ tt) (le-by-compare _ _ tt) refl refl refl refl refl refl;
+  walk-idle = (walks (slow-or-fast 10 910) 2 1 100 refl (1 ∷ []) refl, refl);
   jobs-alone = (refl, refl, refl, walk-owes (slow-or-fast 10 910) (2 ∷ []) (Kept 10 90 0) (walks (slow-or-fast 10 910) 2 1 100 refl (2 ∷ []) refl, refl) .0);
   jobs-alone-false = λ h. let bound : 1000 * 910 ≤ 1100 * 200 = h in omega arith;
   idle-nothing = planned (slow-or-fast 0 910) 2 1 100 refl (2 ∷ []) 3 8 10 200 (le-by-compare _ _ tt) (le-by-compare _ _ tt) refl refl refl refl refl refl;

@@ -21,7 +21,7 @@ use Rattle.chips.specs.Chips.{megahertz, milliwatts, chipRates, chipEnergies, i
 use Rattle.chips.specs.declared.Chip.{Chip}
 use Rattle.chips.specs.declared.Chip.the-variants.{Xscale, Ppc405lp}
 use Rattle.taskset.specs.Refusals.{Accepts, Refuses}
-use Rattle.taskset.proofs.Cases.{chip-set}
+use Rattle.taskset.proofs.Cases.{chip-set, slow-or-fast}
 use Rattle.text.specs.Text.{Clock, rates, chip, Script, bytes, digits, decimal, scriptText, TaskLineOk, ScriptOk, IsTextOf}
 use Rattle.text.specs.Text.{WellFormed, FirstBad, ratesOf, headWords, words, scriptOf}
 use Rattle.text.specs.Calls.{WorksOut, HasOver, readerChecks}
@@ -29,32 +29,39 @@ use Rattle.text.proofs.Reading.{literal, more, number, many, readText}
 use Rattle.text.proofs.Pieces.{no-first-bad}
 use Rattle.text.proofs.Copies.{is-read, is-refused, NoneOver, takes}
 
--- Document 01's input of the program is the text of "the set list S", and says the words of S, with idle energy 0; a
--- line behind its first says another.
-abbrev S : ℕ → List ℕ
-S h = 100 ∷ h ∷ 3 ∷ 2 ∷ 4 ∷ 8 ∷ 2 ∷ 10 ∷ 12 ∷ 4 ∷ 9 ∷ 20 ∷ 15 ∷ 20 ∷ 7 ∷ 15 ∷ 30 ∷ []
+-- Document 01's input of the program is the text of "the set list S", and says the words of S.
+abbrev S : List ℕ
+S = 100 ∷ 0 ∷ 3 ∷ 2 ∷ 4 ∷ 8 ∷ 2 ∷ 10 ∷ 12 ∷ 4 ∷ 9 ∷ 20 ∷ 15 ∷ 20 ∷ 7 ∷ 15 ∷ 30 ∷ []
 
 unfoldable pub example : List ℕ
 example = bytes "(slack 100)\n(rates 2 4 8)\n(task (period 10) (cycles 12) (energy 4 9 20))\n(task (period 15) (cycles 20) (energy 7 15 30))\n"
 
-pub example-text : IsTextOf (scriptOf (S 0)) example
+pub example-text : IsTextOf (scriptOf S) example
 unfolding example readText number more literal many scriptOf headKinds extraKinds
-example-text = is-read (scriptOf (S 0)) example (length example) refl .0
+example-text = is-read (scriptOf S) example (length example) refl .0
 
-pub example-words : words (scriptOf (S 0)) ≡ S 0
+pub example-words : words (scriptOf S) ≡ S
 unfolding words scriptOf headKinds extraKinds
 example-words = refl
 
-unfoldable with-idle : List ℕ
-with-idle = bytes "(slack 100)\n(idle 12)\n(rates 2 4 8)\n(task (period 10) (cycles 12) (energy 4 9 20))\n(task (period 15) (cycles 20) (energy 7 15 30))\n"
+-- A text with an idle line, where the energy at the slower rate is e.
+unfoldable pub idle-910 : List ℕ
+idle-910 = bytes "(slack 100)\n(idle 10)\n(rates 1 9)\n(task (period 100) (cycles 90) (energy 910 200))\n"
 
-idle-text : IsTextOf (scriptOf (S 12)) with-idle
-unfolding with-idle readText number more literal many scriptOf headKinds extraKinds
-idle-text = is-read (scriptOf (S 12)) with-idle (length with-idle) refl .0
+unfoldable pub idle-899 : List ℕ
+idle-899 = bytes "(slack 100)\n(idle 10)\n(rates 1 9)\n(task (period 100) (cycles 90) (energy 899 200))\n"
 
-idle-words : words (scriptOf (S 12)) ≡ S 12
-unfolding words scriptOf headKinds extraKinds
-idle-words = refl
+pub record IdleLine (e : ℕ) (t : List ℕ) : Type 0 where
+  pub text : IsTextOf (scriptOf (slow-or-fast 10 e)) t
+  pub words-are : words (scriptOf (slow-or-fast 10 e)) ≡ slow-or-fast 10 e
+
+pub idle-line-910 : IdleLine 910 idle-910
+unfolding idle-910 slow-or-fast readText number more literal many words scriptOf headKinds extraKinds
+idle-line-910 = record { text = is-read (scriptOf (slow-or-fast 10 910)) idle-910 (length idle-910) refl .0; words-are = refl }
+
+pub idle-line-899 : IdleLine 899 idle-899
+unfolding idle-899 slow-or-fast readText number more literal many words scriptOf headKinds extraKinds
+idle-line-899 = record { text = is-read (scriptOf (slow-or-fast 10 899)) idle-899 (length idle-899) refl .0; words-are = refl }
 
 -- A text for each chip, and the words that it says: at 33 MHz a million cycles take 31 ticks, the last not all used.
 unfoldable pub xscale : List ℕ
