@@ -1,6 +1,6 @@
--- The bracketed text (document 01, 'The bracketed text'; document 02, notes 2 and 4): the one text of a script, which texts
--- are well formed, where another departs, and the words that a script says. A script is what stands in a text, form by
--- form; it is not yet a task set: "Ranges are not judged by the reader."
+-- The bracketed text (document 01, 'The bracketed text'; document 02, notes 2 and 4): the one text of a script, which
+-- texts are well formed, where another departs, and the words that a script says. A script is what stands in a text,
+-- form by form; it is not yet a task set: "Ranges are not judged by the reader."
 use Prim.Native.Nat.{ℕ, zero, suc, _+_, _/_, _%_, _^_, _≤_, _<_}
 use Prim.Native.Char.{code}
 use Prim.Native.String as Str
