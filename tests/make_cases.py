@@ -10,7 +10,7 @@ order of the records is that of the groups in make, below.
 
 One record a line, one space between items, each line ended by byte 10:
 
-    c NAME K w1 .. wK               the set checks on the list of K words
+    c NAME K w1 .. wK               checks 2, 3 and 4 on the list of K words
     w NAME K w1 .. wK J p1 .. pJ    the walk of that set with the plan of J words
     p NAME K w1 .. wK J A           the planner on that set, J words lent for the
                                     plan and A working words

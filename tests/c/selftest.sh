@@ -1,5 +1,5 @@
 #!/usr/bin/env bash
-# Shows that the C test can fail: bash tests/c/selftest.sh (about a minute, so no part of the gate)
+# Shows that the C test can fail: bash tests/c/selftest.sh (about two minutes, so no part of the gate)
 # The reference takes the archive's place (standin.c), as it is and then with one error planted at a time; as it is no
 # call may depart, and with an error some call must.
 set -eu
