@@ -10,7 +10,7 @@ use Rattle.selection.specs.Plan.{Fitting}
 use Rattle.layout.specs.Words.{taskCount}
 use Rattle.layout.specs.declared.Layout.the-variants.{Ordinary}
 use Rattle.taskset.specs.Quantities.{problem, workNeeded}
-use Rattle.taskset.specs.Refusals.{number, second, Accepts, Refuses, _▹_, wordChecks, energyChecks, hyperCheck, workCheck, roomCheck, noneCheck, planCheck, readyChecks, plannerChecks, walkChecks}
+use Rattle.taskset.specs.Refusals.{number, second, Accepts, Refuses, _▹_, wordChecks, idleChecks, hyperCheck, workCheck, roomCheck, noneCheck, planCheck, readyChecks, plannerChecks, walkChecks}
 use Rattle.taskset.specs.Calls.{SetAfter}
 use Rattle.taskset.specs.declared.Refusal.{Refusal}
 use Rattle.taskset.specs.declared.Refusal.the-variants.{TooShort}
@@ -80,7 +80,7 @@ ready-refused s r h = refuses-before (readyChecks s planLent workLent) (noneChec
 pub more-room : (s : List ℕ) (p w p′ w′ m n l : ℕ) → p ≤ p′ → w ≤ w′
     → SetAfter (readyChecks s p w) Ordinary s (Good m n l) → SetAfter (readyChecks s p′ w′) Ordinary s (Good m n l)
 more-room s p w p′ w′ m n l a b h =
-    let set = energyChecks Ordinary s ▹ hyperCheck Ordinary s in
+    let set = idleChecks Ordinary s ▹ hyperCheck Ordinary s in
     let five = workCheck (workNeeded s) w in
     let six = roomCheck (taskCount Ordinary s) p in (
       accepts-next (set ▹ workCheck (workNeeded s) w′) (roomCheck (taskCount Ordinary s) p′)

@@ -11,7 +11,7 @@ use Rattle.selection.specs.Plan.{Fitting}
 use Rattle.layout.specs.Words.{headKinds, extraKinds, taskCount}
 use Rattle.layout.specs.declared.Layout.the-variants.{Ordinary}
 use Rattle.taskset.specs.Quantities.{hyperPeriod, problem, walkTasks, workNeeded}
-use Rattle.taskset.specs.Refusals.{Accepts, Refuses, _▹_, wordChecks, idleCheck, energyChecks, hyperCheck, workCheck, roomCheck, noneCheck, readyChecks, plannerChecks}
+use Rattle.taskset.specs.Refusals.{Accepts, Refuses, _▹_, wordChecks, idleCheck, idleChecks, hyperCheck, workCheck, roomCheck, noneCheck, readyChecks, plannerChecks}
 use Rattle.taskset.specs.Calls.{walkValues, outcomeValues, Selected, PlannerGives}
 use Rattle.taskset.specs.declared.PlannerAnswer.the-variants.{Planned}
 use Rattle.taskset.specs.declared.WalkAnswer.the-variants.{Kept}
@@ -39,7 +39,7 @@ module _ (s P out lent words words′ : List ℕ) (unit load hyper energy busy i
       let before = plannerChecks s (length lent) (length words) in
       let a = gives .0 in
       let two = wordChecks Ordinary s in
-      let ten = energyChecks Ordinary s in
+      let ten = idleChecks Ordinary s in
       let set = ten ▹ hyperCheck Ordinary s in
       let five = set ▹ workCheck (workNeeded s) workLent in
       accepts-next (readyChecks s planLent workLent) (noneCheck (Fitting (problem s)))

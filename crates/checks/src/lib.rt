@@ -7,7 +7,7 @@ ghost use lib.ListN.{length};
 ghost use Rattle.numbers.specs.Search.{Found};
 ghost use Rattle.layout.specs.Words.{ratePlace, taskCountPlace, tasksPlace, mostRates, idlePlace, slack, idle, rate, period, cycles, energy, OutOfRange};
 ghost use Rattle.taskset.specs.Quantities.{jobTime};
-ghost use Rattle.taskset.specs.Refusals.{_▹_, wordChecks, idleCheck, energyChecks, hyperCheck};
+ghost use Rattle.taskset.specs.Refusals.{_▹_, wordChecks, idleCheck, idleChecks, hyperCheck};
 ghost use Rattle.taskset.specs.Calls.{CountsAfter, SetAfter};
 ghost use Rattle.taskset.proofs.Idle.{Below};
 ghost use Rattle.checks.specs.Steps.{frontKind, EndsFront, FrontPassed, Falls, HasTasks, Followed, OfTask, OfCounts, HasBelow};
@@ -225,7 +225,7 @@ fn check_idle(s: &[u32], layout: Layout, m: usize, n: usize) -> Shape
 
 // Checks 2, 3 and 10, in this order.
 fn check_energies(s: &[u32], layout: Layout) -> Shape
-    ensures { λ r. ⌜ CountsAfter (energyChecks layout (now (s .entry))) layout (now (s .entry)) r ⌝ }
+    ensures { λ r. ⌜ CountsAfter (idleChecks layout (now (s .entry))) layout (now (s .entry)) r ⌝ }
 {
     let shape = check_words(s, layout);
     match shape {
@@ -264,7 +264,7 @@ pub fn check_set(s: &[u32], layout: Layout) -> Checked
 
 // Checks 2, 3, 10 and 4, in this order: for whoever goes by energies.
 pub fn check_covered(s: &[u32], layout: Layout) -> Checked
-    ensures { λ r. ⌜ SetAfter (energyChecks layout (now (s .entry)) ▹ hyperCheck layout (now (s .entry))) layout (now (s .entry)) r ⌝ }
+    ensures { λ r. ⌜ SetAfter (idleChecks layout (now (s .entry)) ▹ hyperCheck layout (now (s .entry))) layout (now (s .entry)) r ⌝ }
 {
     let shape = check_energies(s, layout);
     match shape {

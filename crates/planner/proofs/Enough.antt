@@ -10,7 +10,7 @@ use Rattle.layout.specs.Words.{mostTasks, slack, taskCount}
 use Rattle.layout.specs.declared.Layout.the-variants.{Ordinary}
 use Rattle.layout.proofs.Whole.{IsWhole, whole-of, slack-in}
 use Rattle.taskset.specs.Quantities.{workNeeded}
-use Rattle.taskset.specs.Refusals.{number, second, Check, Accepts, _▹_, energyChecks, hyperCheck, workCheck, roomCheck, readyChecks}
+use Rattle.taskset.specs.Refusals.{number, second, Check, Accepts, _▹_, idleChecks, hyperCheck, workCheck, roomCheck, readyChecks}
 use Rattle.taskset.specs.Calls.{SetAfter}
 use Rattle.taskset.specs.declared.Refusal.{Refusal}
 use Rattle.taskset.specs.declared.Refusal.the-variants.{WorkShort, TooShort}
@@ -19,11 +19,11 @@ use Rattle.taskset.proofs.Checks.{no-word-fault, accepts-next, refuses-next, re
 
 -- A set of m rates, n tasks and hyper-period l has passed checks 2, 3, 10 and 4.
 pub record SetPassed (s : List ℕ) (m n l : ℕ) : Type 0 where
-  pub after : SetAfter (energyChecks Ordinary s ▹ hyperCheck Ordinary s) Ordinary s (Good m n l)
+  pub after : SetAfter (idleChecks Ordinary s ▹ hyperCheck Ordinary s) Ordinary s (Good m n l)
 
 module _ (s : List ℕ) (planLength workLength : ℕ) where
   abbrev set : List Check
-  set = energyChecks Ordinary s ▹ hyperCheck Ordinary s
+  set = idleChecks Ordinary s ▹ hyperCheck Ordinary s
 
   abbrev upTo5 : List Check
   upTo5 = set ▹ workCheck (workNeeded s) workLength

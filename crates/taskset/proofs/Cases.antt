@@ -20,7 +20,7 @@ use Rattle.selection.proofs.Compute.{trace, leastEnergy, choose, usedFrom, used
 use Rattle.layout.specs.Words.{slack, rateCount, taskCount, headKinds, extraKinds, kindIn, headKind, taskKind, kindAt, allows}
 use Rattle.layout.specs.declared.Layout.the-variants.{Ordinary}
 use Rattle.taskset.specs.Quantities.{hyperPeriod, problem, jobsEnergy, reportedEnergy, workNeeded}
-use Rattle.taskset.specs.Refusals.{number, second, Check, Accepts, _▹_, wordChecks, energyChecks, hyperCheck, workCheck, roomCheck, noneCheck, planCheck, readyChecks, plannerChecks, walkChecks}
+use Rattle.taskset.specs.Refusals.{number, second, Check, Accepts, _▹_, wordChecks, idleChecks, hyperCheck, workCheck, roomCheck, noneCheck, planCheck, readyChecks, plannerChecks, walkChecks}
 use Rattle.taskset.specs.Calls.{code, plannerValues, walkValues, SetAfter, PlannerGives, WalkAnswers}
 use Rattle.taskset.specs.DemandThree.{Keeps, PlanPromise}
 use Rattle.taskset.specs.declared.Refusal.{Refusal}
@@ -86,7 +86,7 @@ module _ (s : List ℕ) where
 
   -- The checks of the set that the planner makes, and their verdict.
   abbrev set : List Check
-  set = energyChecks Ordinary s ▹ hyperCheck Ordinary s
+  set = idleChecks Ordinary s ▹ hyperCheck Ordinary s
 
   abbrev checked : Checked
   checked = coveredOf Ordinary s
@@ -215,7 +215,7 @@ pub record Cases : Type 0 where
   rates-4-4 : Declined (with-rates 4 4 (9 ∷ [])) (NotAbove 4)
   -- "Two rates, periods 9,999,999 and 10,000,000: refusal 4, place 9. One period of 10,000,000 passes."
   periods-too-long : Declined (two-periods 9999999 10000000) (TooLong 10)
-  period-10000000 : SetAfter (energyChecks Ordinary (one-period 10000000) ▹ hyperCheck Ordinary (one-period 10000000)) Ordinary (one-period 10000000) (Good 2 1 10000000)
+  period-10000000 : SetAfter (idleChecks Ordinary (one-period 10000000) ▹ hyperCheck Ordinary (one-period 10000000)) Ordinary (one-period 10000000) (Good 2 1 10000000)
   -- A rate count of 9 and a task count of 33, refused where they stand; a list that ends before its last word; a word
   -- too many.
   bad-rate-count : Declined (100 ∷ 0 ∷ 9 ∷ 2 ∷ []) (BadWord 2)

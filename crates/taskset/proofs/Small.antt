@@ -13,7 +13,7 @@ use Rattle.selection.specs.Plan.{Fitting}
 use Rattle.selection.proofs.Bounds.{last-small, work-small}
 use Rattle.layout.specs.Words.{headSize, slack, rateCount, taskCount, wordCount, taskCountPlace, kindAt, allows}
 use Rattle.taskset.specs.Quantities.{workNeeded, problem}
-use Rattle.taskset.specs.Refusals.{IsBadWord, IsNotAbove, IsBelowIdle, IsTooLong, IsShort, IsBadPlan, Check, Accepts, Refuses, _▹_, wordChecks, idleCheck, energyChecks, hyperCheck, workCheck, roomCheck, noneCheck, planCheck, readyChecks, plannerChecks, walkChecks}
+use Rattle.taskset.specs.Refusals.{IsBadWord, IsNotAbove, IsBelowIdle, IsTooLong, IsShort, IsBadPlan, Check, Accepts, Refuses, _▹_, wordChecks, idleCheck, idleChecks, hyperCheck, workCheck, roomCheck, noneCheck, planCheck, readyChecks, plannerChecks, walkChecks}
 use Rattle.layout.specs.declared.Kind.{Kind}
 use Rattle.layout.specs.declared.Kind.the-variants.{RateCount, TaskCount}
 use Rattle.taskset.proofs.Checks.{no-word-fault, refuses-cases, passed}
@@ -130,14 +130,14 @@ module _ (s : List ℕ) where
       (λ a k h. omega (arith, too-long-small s (passed 2 (wordChecks Ordinary s) refl a) k h))
 
   abbrev net : List Check
-  net = energyChecks Ordinary s ▹ hyperCheck Ordinary s
+  net = idleChecks Ordinary s ▹ hyperCheck Ordinary s
 
   net-second-small : (n k : ℕ) → Refuses net n k → k < 2 ^ 32
   net-second-small =
-      next-small (energyChecks Ordinary s) (hyperCheck Ordinary s)
+      next-small (idleChecks Ordinary s) (hyperCheck Ordinary s)
       (next-small (wordChecks Ordinary s) (idleCheck Ordinary s) (words-second-small s)
       (λ a k h. omega (arith, below-idle-small s (passed 2 (wordChecks Ordinary s) refl a) k h)))
-      (λ a k h. omega (arith, too-long-small s (passed 2 (energyChecks Ordinary s) refl a) k h))
+      (λ a k h. omega (arith, too-long-small s (passed 2 (idleChecks Ordinary s) refl a) k h))
 
   -- The walk's refusals, and the planner's.
   pub walk-second-small : (P : List ℕ) (n k : ℕ) → Refuses (walkChecks s P) n k → k < 2 ^ 32

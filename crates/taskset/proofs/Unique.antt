@@ -14,7 +14,7 @@ use Rattle.layout.specs.Words.{slack, taskCount}
 use Rattle.layout.specs.declared.Layout.{Layout}
 use Rattle.layout.specs.declared.Layout.the-variants.{Ordinary}
 use Rattle.taskset.specs.Quantities.{problem, workNeeded}
-use Rattle.taskset.specs.Refusals.{number, second, IsShort, NoneOk, Check, Refuses, _▹_, wordChecks, idleCheck, energyChecks, hyperCheck, workCheck, roomCheck, noneCheck, planCheck, readyChecks, plannerChecks, walkChecks}
+use Rattle.taskset.specs.Refusals.{number, second, IsShort, NoneOk, Check, Refuses, _▹_, wordChecks, idleCheck, idleChecks, hyperCheck, workCheck, roomCheck, noneCheck, planCheck, readyChecks, plannerChecks, walkChecks}
 use Rattle.taskset.specs.Calls.{CopyGives, CountsAfter, SetAfter, Selected, PlannerGives, WalkAnswers}
 use Rattle.taskset.specs.declared.Refusal.{Refusal}
 use Rattle.taskset.specs.declared.Refusal.the-variants.{TextDeparts, BadWord, NotAbove, TooLong, WorkShort, TooShort, NoPlan, BadPlan, EnergyOver, BelowIdle}
@@ -93,11 +93,11 @@ word-single layout s = (lowest-single, (lowest-single, tt))
 pub set-single : (layout : Layout) (s : List ℕ) → AllSingle (wordChecks layout s ▹ hyperCheck layout s)
 set-single layout s = single-next (wordChecks layout s) (hyperCheck layout s) (word-single layout s) (too-long-single layout s)
 
-pub energy-single : (layout : Layout) (s : List ℕ) → AllSingle (energyChecks layout s)
+pub energy-single : (layout : Layout) (s : List ℕ) → AllSingle (idleChecks layout s)
 energy-single layout s = single-next (wordChecks layout s) (idleCheck layout s) (word-single layout s) lowest-single
 
-pub net-single : (layout : Layout) (s : List ℕ) → AllSingle (energyChecks layout s ▹ hyperCheck layout s)
-net-single layout s = single-next (energyChecks layout s) (hyperCheck layout s) (energy-single layout s) (too-long-single layout s)
+pub net-single : (layout : Layout) (s : List ℕ) → AllSingle (idleChecks layout s ▹ hyperCheck layout s)
+net-single layout s = single-next (idleChecks layout s) (hyperCheck layout s) (energy-single layout s) (too-long-single layout s)
 
 pub ready-single : (s : List ℕ) (planLength workLength : ℕ) → AllSingle (readyChecks s planLength workLength)
 ready-single s pl wl =
@@ -106,7 +106,7 @@ ready-single s pl wl =
     (short-single (taskCount Ordinary s) pl)
   where
     set : List Check
-    set = energyChecks Ordinary s ▹ hyperCheck Ordinary s
+    set = idleChecks Ordinary s ▹ hyperCheck Ordinary s
 
 pub planner-single : (s : List ℕ) (planLength workLength : ℕ) → AllSingle (plannerChecks s planLength workLength)
 planner-single s pl wl =

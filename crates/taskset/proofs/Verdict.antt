@@ -16,7 +16,7 @@ use Rattle.numbers.proofs.Search.{first, first-from, first-holds, first-before}
 use Rattle.layout.specs.Words.{word, idle, rateCount, taskCount, ratePlace, taskCountPlace, periodPlace, energyPlace, wordCount, period, energy, kindAt, allows, WordFault}
 use Rattle.layout.specs.declared.Layout.{Layout}
 use Rattle.taskset.specs.Quantities.{hyperLimit, jobTime, hyperPeriod}
-use Rattle.taskset.specs.Refusals.{IsBadWord, RateFault, IsNotAbove, IsBelowIdle, PassesLimit, IsTooLong, number, second, Check, _▹_, idleCheck, hyperCheck, wordChecks, energyChecks}
+use Rattle.taskset.specs.Refusals.{IsBadWord, RateFault, IsNotAbove, IsBelowIdle, PassesLimit, IsTooLong, number, second, Check, _▹_, idleCheck, hyperCheck, wordChecks, idleChecks}
 use Rattle.taskset.specs.Calls.{CountsAfter, SetAfter}
 use Rattle.taskset.specs.declared.Refusal.the-variants.{BadWord, NotAbove, TooLong, BelowIdle}
 use Rattle.taskset.specs.declared.Shape.{Shape}
@@ -192,7 +192,7 @@ module _ (layout : Layout) (s : List ℕ) where
       answer {x} e h = subst (CountsAfter (wordChecks layout s) layout s) (sym e) h
 
   -- 10 after 2 and 3.
-  cover-shape : (x : Shape) → CountsAfter (wordChecks layout s) layout s x → CountsAfter (energyChecks layout s) layout s (coverOf x)
+  cover-shape : (x : Shape) → CountsAfter (wordChecks layout s) layout s x → CountsAfter (idleChecks layout s) layout s (coverOf x)
   unfolding coverOf
   cover-shape (Whole m n) h =
       ⊎-elim
@@ -203,8 +203,8 @@ module _ (layout : Layout) (s : List ℕ) where
       (accepts-next (wordChecks layout s) (idleCheck layout s) (h .0) (covered-passes layout s (none-below d)), h .1, h .2))
       (lt-or-le firstTask (taskCount layout s))
     where
-      answer : {x : Shape} → coverOf (Whole m n) ≡ x → CountsAfter (energyChecks layout s) layout s x → CountsAfter (energyChecks layout s) layout s (coverOf (Whole m n))
-      answer {x} e w = subst (CountsAfter (energyChecks layout s) layout s) (sym e) w
+      answer : {x : Shape} → coverOf (Whole m n) ≡ x → CountsAfter (idleChecks layout s) layout s x → CountsAfter (idleChecks layout s) layout s (coverOf (Whole m n))
+      answer {x} e w = subst (CountsAfter (idleChecks layout s) layout s) (sym e) w
   cover-shape (NotWhole r) h = refuses-before (wordChecks layout s) (idleCheck layout s) (number r) (second r) h
 
   -- 4 after any checks.
@@ -227,6 +227,6 @@ module _ (layout : Layout) (s : List ℕ) where
   unfolding checkedOf
   checked-answers = after-shape (wordChecks layout s) shapeOf shape-answers
 
-  pub covered-answers : SetAfter (energyChecks layout s ▹ hyperCheck layout s) layout s coveredOf
+  pub covered-answers : SetAfter (idleChecks layout s ▹ hyperCheck layout s) layout s coveredOf
   unfolding coveredOf
-  covered-answers = after-shape (energyChecks layout s) (coverOf shapeOf) (cover-shape shapeOf shape-answers)
+  covered-answers = after-shape (idleChecks layout s) (coverOf shapeOf) (cover-shape shapeOf shape-answers)

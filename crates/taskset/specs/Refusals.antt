@@ -154,13 +154,13 @@ abbrev pub wordChecks : Layout → List ℕ → List Check
 wordChecks layout s = wordCheck layout s ∷ rateCheck layout s ∷ []
 
 -- 10, "after 3, before 4, and never by walk or writer": with which every call goes on that goes by energies.
-abbrev pub energyChecks : Layout → List ℕ → List Check
-energyChecks layout s = wordChecks layout s ▹ idleCheck layout s
+abbrev pub idleChecks : Layout → List ℕ → List Check
+idleChecks layout s = wordChecks layout s ▹ idleCheck layout s
 
 -- "Planner: 2, 3, 4, 5, 6, 7", and 10 after 3. The lengths are those of the plan list and the working list.
 abbrev pub readyChecks : List ℕ → ℕ → ℕ → List Check
 readyChecks s planLength workLength =
-    energyChecks Ordinary s ▹ hyperCheck Ordinary s ▹ workCheck (workNeeded s) workLength ▹ roomCheck (taskCount Ordinary s) planLength
+    idleChecks Ordinary s ▹ hyperCheck Ordinary s ▹ workCheck (workNeeded s) workLength ▹ roomCheck (taskCount Ordinary s) planLength
 
 abbrev pub plannerChecks : List ℕ → ℕ → ℕ → List Check
 plannerChecks s planLength workLength = readyChecks s planLength workLength ▹ noneCheck (Fitting (problem s))

@@ -1,7 +1,7 @@
 -- Checks 2, 3 and 10, then 4.
 -- Assumes nothing.
 use mathlib.Core.Path.{refl, subst}
-use Rattle.taskset.specs.Refusals.{number, second, energyChecks, hyperCheck}
+use Rattle.taskset.specs.Refusals.{number, second, idleChecks, hyperCheck}
 use Rattle.taskset.specs.Calls.{CountsAfter}
 use Rattle.taskset.proofs.Checks.{refuses-before, passed}
 use Rattle.checks.proofs.Judging.{has-tasks, after}
@@ -22,23 +22,23 @@ check-hyper-requires : tie.Need-check-hyper-requires
 check-hyper-requires c κs =
     let sh = c .before in
     let a = sh .before .before .before .before .args in
-    let shape = subst (CountsAfter (energyChecks (a .layout) (a .s .now)) (a .layout) (a .s .now)) (sh .shape2 .given .1) (sh .before .before .check-energies .ensures) in
-    has-tasks (a .layout) (a .s .now) _ _ (passed 2 (energyChecks (a .layout) (a .s .now)) refl (shape .0)) (shape .1) (shape .2)
+    let shape = subst (CountsAfter (idleChecks (a .layout) (a .s .now)) (a .layout) (a .s .now)) (sh .shape2 .given .1) (sh .before .before .check-energies .ensures) in
+    has-tasks (a .layout) (a .s .now) _ _ (passed 2 (idleChecks (a .layout) (a .s .now)) refl (shape .0)) (shape .1) (shape .2)
 
 returns : tie.Need-returns
 returns c =
     let sh = c .before in
     let a = sh .before .before .before .before .args in
     let r = sh .shape .given .0 .0 in
-    let shape = subst (CountsAfter (energyChecks (a .layout) (a .s .now)) (a .layout) (a .s .now)) (sh .shape .given .1) (sh .before .before .check-energies .ensures) in
-    refuses-before (energyChecks (a .layout) (a .s .now)) (hyperCheck (a .layout) (a .s .now)) (number r) (second r) shape
+    let shape = subst (CountsAfter (idleChecks (a .layout) (a .s .now)) (a .layout) (a .s .now)) (sh .shape .given .1) (sh .before .before .check-energies .ensures) in
+    refuses-before (idleChecks (a .layout) (a .s .now)) (hyperCheck (a .layout) (a .s .now)) (number r) (second r) shape
 
 returns-2 : tie.Need-returns-2
 returns-2 c =
     let sh = c .before .before in
     let a = sh .before .before .before .before .args in
-    let shape = subst (CountsAfter (energyChecks (a .layout) (a .s .now)) (a .layout) (a .s .now)) (sh .shape2 .given .1) (sh .before .before .check-energies .ensures) in
-    after (energyChecks (a .layout) (a .s .now)) (a .layout) (a .s .now) (shape .0) (c .check-hyper .result) (c .check-hyper .ensures)
+    let shape = subst (CountsAfter (idleChecks (a .layout) (a .s .now)) (a .layout) (a .s .now)) (sh .shape2 .given .1) (sh .before .before .check-energies .ensures) in
+    after (idleChecks (a .layout) (a .s .now)) (a .layout) (a .s .now) (shape .0) (c .check-hyper .result) (c .check-hyper .ensures)
 
 pub check-covered-spec : {M : Type 1} → statement M
 check-covered-spec =

@@ -5,7 +5,7 @@ use Rattle.layout.specs.declared.Layout.the-variants.{Ordinary}
 use Rattle.selection.specs.Plan.{workWords}
 use Rattle.layout.specs.Words.{slack}
 use Rattle.taskset.specs.Calls.{SetAfter}
-use Rattle.taskset.specs.Refusals.{_▹_, energyChecks, hyperCheck}
+use Rattle.taskset.specs.Refusals.{_▹_, idleChecks, hyperCheck}
 use Rattle.planner.proofs.Enough.{SetPassed, set-refused, slack-range, tasks-few, some-words, work-short, plan-short, is-ready}
 use borrow.Author.Needs.{needs}
 use Rattle.planner.proofs.ready.Statement.{statement}
@@ -22,7 +22,7 @@ passed : (g : tie.After-checked2)
     → SetPassed (start g .args .set .now) (g .checked2 .given .0 .0) (g .checked2 .given .0 .1 .0) (g .checked2 .given .0 .1 .1 .0)
 passed g =
     let s = start g .args .set .now in
-    record { after = subst (SetAfter (energyChecks Ordinary s ▹ hyperCheck Ordinary s) Ordinary s) (g .checked2 .given .1) (g .before .before .check-covered .ensures) }
+    record { after = subst (SetAfter (idleChecks Ordinary s ▹ hyperCheck Ordinary s) Ordinary s) (g .checked2 .given .1) (g .before .before .check-covered .ensures) }
 
 -- The working words needed, by the slack that was read.
 needed : (w : tie.After-work-needed)
@@ -70,7 +70,7 @@ refused c =
     let a = r .before .before .before .before .args in
     let s = a .set .now in
     set-refused _ (a .plan-len) (a .work-len) (r .checked .given .0 .0)
-    (subst (SetAfter (energyChecks Ordinary s ▹ hyperCheck Ordinary s) Ordinary s) (r .checked .given .1)
+    (subst (SetAfter (idleChecks Ordinary s ▹ hyperCheck Ordinary s) Ordinary s) (r .checked .given .1)
     (r .before .before .check-covered .ensures))
 
 all-passed : tie.Need-returns-4
