@@ -3,7 +3,7 @@ and two relaxed bounds below it.
 
 A set is given here by its options: for each task the pairs (load, energy) at its
 rates. A plan fits when its loads add up to at most L. With an idle energy H the
-energy of an option is what the jobs draw above it, and a plan's own energy is H x L
+energy of an option is what the jobs draw above it, and a plan's energy is H x L
 more: the plan of the least sum is the same, and so is what is said of it here.
 """
 

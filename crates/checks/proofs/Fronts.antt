@@ -1,6 +1,6 @@
 -- Check 2 in two searches: up to the task count, and behind it, task by task.
 -- Assumes nothing.
-use Prim.Native.Nat.{ℕ, _+_, _*_, _≤_, _<_, zero-le}
+use Prim.Native.Nat.{ℕ, _+_, _≤_, _<_, zero-le}
 use mathlib.Core.Path.{_≡_, refl, sym, ap, _∙_}
 use mathlib.Core.Bool.{false}
 use mathlib.Core.List.{List}
@@ -13,7 +13,7 @@ use borrow.Author.Tests.{lt-ltb, le-ltb}
 use Rattle.numbers.specs.Search.{Found}
 use Rattle.numbers.proofs.Searches.{none-more}
 use Rattle.numbers.proofs.Tests.{lt-or-le}
-use Rattle.layout.specs.Words.{rateCount, taskCount, taskCountPlace, tasksPlace, periodPlace, taskSize, taskKind, wordCount, kindAt, allows, OutOfRange}
+use Rattle.layout.specs.Words.{rateCount, taskCountPlace, tasksPlace, periodPlace, taskSize, taskKind, kindAt, allows, OutOfRange}
 use Rattle.layout.specs.declared.Kind.the-variants.{LeftOver}
 use Rattle.layout.specs.declared.Layout.{Layout}
 use Rattle.layout.proofs.Places.{kind-past, kind-task}
@@ -32,9 +32,6 @@ module _ (layout : Layout) (s : List ℕ) (q : ℕ) where
   not-left : allows s q LeftOver ≡ false
   unfolding allows
   not-left = refl
-
-  past-ends : taskCountPlace layout (rateCount layout s) < q → EndsFront layout s q
-  past-ends h = rw (front-past h) not-left
 
 module _ (layout : Layout) (s : List ℕ) {b : ℕ} (found : Found (EndsFront layout s) 0 (length s) b) where
   before : (j : ℕ) → j < b → j ≤ taskCountPlace layout (rateCount layout s) → OutOfRange layout s j → ⊥

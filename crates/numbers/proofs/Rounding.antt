@@ -21,9 +21,6 @@ ceil-over a b h = omega (arith, div-mul-le-self (a + (b - 1)) b)
 pub ceil-small : (a b : ℕ) → 0 < b → ceil a b ≤ a
 ceil-small a b h = ceil-least a b a h (omega (arith, mul-le-mul-right a h))
 
-pub ceil-one : (a : ℕ) → ceil a 1 ≡ a
-ceil-one a = omega arith
-
 pub ceil-positive : (a b : ℕ) → 0 < a → 0 < b → 1 ≤ ceil a b
 ceil-positive a b p q =
     ⊎-elim

@@ -5,7 +5,6 @@ use mathlib.Core.Path.{_≡_, refl, sym, subst}
 use mathlib.Core.Bool.{Bool, true, false, cond}
 use mathlib.Core.Logic.{_⊎_, ⊎-elim}
 use native.Mathlib.Nat.{eq-or-lt-of-le}
-use native.Mathlib.Numerals.{add-one}
 use native.Mathlib.Omega.{arith}
 use Rattle.numbers.specs.Numbers.{Lowest}
 use Rattle.numbers.proofs.Tests.{lt-or-le}
@@ -36,25 +35,6 @@ abbrev pub first : (ℕ → Bool) → ℕ → ℕ → ℕ
 first test lo hi = seek test lo (hi - lo)
 
 module _ (test : ℕ → Bool) where
-  -- a turn of the loop that goes on, the turn that leaves it, and its end
-  pub first-pass : (j n : ℕ) → j < n → test j ≡ false → first test j n ≡ first test (j + 1) n
-  unfolding seek
-  first-pass j n h e =
-      let q : n - j ≡ suc (n - (j + 1)) = omega arith in
-      rw (q, add-one j, e)
-
-  pub first-hit : (j n : ℕ) → j < n → test j ≡ true → first test j n ≡ j
-  unfolding seek
-  first-hit j n h e =
-      let q : n - j ≡ suc (n - (j + 1)) = omega arith in
-      rw (q, e)
-
-  pub first-end : (j n : ℕ) → n ≤ j → first test j n ≡ j
-  unfolding seek
-  first-end j n h =
-      let q : n - j ≡ 0 = omega arith in
-      rw q
-
   -- what the result r of a search of n numbers from j on says
   record Sought (j n r : ℕ) : Type 0 where
     from : j ≤ r

@@ -9,7 +9,7 @@ use mathlib.Core.List.{List}
 use native.Mathlib.Nat.{le-of-suc-le-suc, lt-of-not-le}
 use native.Mathlib.Numerals.{add-one}
 use native.Mathlib.Omega.{arith}
-use borrow.Author.Tests.{lt-leb, lt-ltb, le-ltb}
+use borrow.Author.Tests.{lt-leb}
 use lib.ListN.{getD}
 use Rattle.selection.specs.Plan.{Problem, roundedTask}
 use Rattle.selection.proofs.Table.{leastOf, leastOf-cap, firstOf, firstOf-is, IsFirst, via, best, best-cap, Follows}
@@ -62,19 +62,6 @@ module _ (cost load : ℕ → ℕ → ℕ) (M C : ℕ) where
   least-step i e r l h =
       let o : offer i e r ≡ min C (entry i (e - cost i r) + load i r) = rw (spend-some cost i r e l h) refl in
       rw (add-one r) (omega (arith, leastOf-cap C (offer i e) r))
-
-  -- The lowest rate number changes only where the load gets smaller.
-  pub rate-same : (i e r : ℕ) → leastTo i e (r + 1) ≡ leastTo i e r → rateTo i e (r + 1) ≡ rateTo i e r
-  unfolding leastTo rateTo firstOf leastOf
-  rate-same i e r h =
-      let k = rw (add-one r) at h in
-      rw (add-one r, le-ltb (offer i e r) (leastTo i e r) (omega arith)) refl
-
-  pub rate-new : (i e r : ℕ) → leastTo i e (r + 1) < leastTo i e r → rateTo i e (r + 1) ≡ r
-  unfolding leastTo rateTo firstOf leastOf
-  rate-new i e r h =
-      let k = rw (add-one r) at h in
-      rw (add-one r, lt-ltb (offer i e r) (leastTo i e r) (omega arith)) refl
 
   -- ---- the way back
   -- Task i runs at the lowest rate number with the least load, and the rest goes back from what that leaves.

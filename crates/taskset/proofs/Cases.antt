@@ -1,5 +1,6 @@
 -- The cases of document 01's 'Either side of an edge', gathered in one record and proved together of the definitions:
--- every marked one, each of the call's whole answer, and the unmarked refusals of a set; with document 02's.
+-- every marked one, each of the call's whole answer, and the unmarked refusals of a set; with document 02's. Of its note
+-- 4: "Later places move up by one; document 01's example lists .. hold 0 there", so that a quoted place 3 is 4 here.
 -- Assumes nothing.
 use Prim.Native.Nat.{ℕ, _*_, _^_, _≤_, _<_}
 use mathlib.Core.Path.{_≡_, refl, sym, _∙_, subst}

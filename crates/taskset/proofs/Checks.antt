@@ -1,4 +1,5 @@
--- Laws on the order of checks, and that every cause can be decided and holds with at most one second number.
+-- Laws on the order of checks; that where a check passes its fault stands nowhere; and that every cause holds with at
+-- most one second number.
 -- Assumes nothing.
 use Prim.Native.Nat.{ℕ, _-_}
 use mathlib.Core.Path.{_≡_, refl, sym, ap, subst, _∙_}

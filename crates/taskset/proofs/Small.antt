@@ -129,11 +129,11 @@ module _ (s : List ℕ) where
       next-small (wordChecks Ordinary s) (hyperCheck Ordinary s) (words-second-small s)
       (λ a k h. omega (arith, too-long-small s (passed 2 (wordChecks Ordinary s) refl a) k h))
 
-  abbrev net : List Check
-  net = idleChecks Ordinary s ▹ hyperCheck Ordinary s
+  abbrev covered : List Check
+  covered = idleChecks Ordinary s ▹ hyperCheck Ordinary s
 
-  net-second-small : (n k : ℕ) → Refuses net n k → k < 2 ^ 32
-  net-second-small =
+  covered-second-small : (n k : ℕ) → Refuses covered n k → k < 2 ^ 32
+  covered-second-small =
       next-small (idleChecks Ordinary s) (hyperCheck Ordinary s)
       (next-small (wordChecks Ordinary s) (idleCheck Ordinary s) (words-second-small s)
       (λ a k h. omega (arith, below-idle-small s (passed 2 (wordChecks Ordinary s) refl a) k h)))
@@ -146,13 +146,13 @@ module _ (s : List ℕ) where
 
   module _ (planLength workLength : ℕ) where
     abbrev upTo5 : List Check
-    upTo5 = net ▹ workCheck (workNeeded s) workLength
+    upTo5 = covered ▹ workCheck (workNeeded s) workLength
 
     ready-second-small : (n k : ℕ) → Refuses (readyChecks s planLength workLength) n k → k < 2 ^ 32
     ready-second-small =
         next-small upTo5 (roomCheck (taskCount Ordinary s) planLength)
-        (next-small net (workCheck (workNeeded s) workLength) net-second-small
-        (λ a k h. omega (arith, work-short-small s (passed 2 net refl a) workLength k h)))
+        (next-small covered (workCheck (workNeeded s) workLength) covered-second-small
+        (λ a k h. omega (arith, work-short-small s (passed 2 covered refl a) workLength k h)))
         (λ a k h. omega (arith, plan-short-small s (passed 2 upTo5 refl a) planLength k h))
 
     pub planner-second-small : (n k : ℕ) → Refuses (plannerChecks s planLength workLength) n k → k < 2 ^ 32

@@ -93,16 +93,16 @@ word-single layout s = (lowest-single, (lowest-single, tt))
 pub set-single : (layout : Layout) (s : List ℕ) → AllSingle (wordChecks layout s ▹ hyperCheck layout s)
 set-single layout s = single-next (wordChecks layout s) (hyperCheck layout s) (word-single layout s) (too-long-single layout s)
 
-pub energy-single : (layout : Layout) (s : List ℕ) → AllSingle (idleChecks layout s)
-energy-single layout s = single-next (wordChecks layout s) (idleCheck layout s) (word-single layout s) lowest-single
+pub idle-single : (layout : Layout) (s : List ℕ) → AllSingle (idleChecks layout s)
+idle-single layout s = single-next (wordChecks layout s) (idleCheck layout s) (word-single layout s) lowest-single
 
-pub net-single : (layout : Layout) (s : List ℕ) → AllSingle (idleChecks layout s ▹ hyperCheck layout s)
-net-single layout s = single-next (idleChecks layout s) (hyperCheck layout s) (energy-single layout s) (too-long-single layout s)
+pub covered-single : (layout : Layout) (s : List ℕ) → AllSingle (idleChecks layout s ▹ hyperCheck layout s)
+covered-single layout s = single-next (idleChecks layout s) (hyperCheck layout s) (idle-single layout s) (too-long-single layout s)
 
 pub ready-single : (s : List ℕ) (planLength workLength : ℕ) → AllSingle (readyChecks s planLength workLength)
 ready-single s pl wl =
     single-next (set ▹ workCheck (workNeeded s) wl) (roomCheck (taskCount Ordinary s) pl)
-    (single-next set (workCheck (workNeeded s) wl) (net-single Ordinary s) (short-single (workNeeded s) wl))
+    (single-next set (workCheck (workNeeded s) wl) (covered-single Ordinary s) (short-single (workNeeded s) wl))
     (short-single (taskCount Ordinary s) pl)
   where
     set : List Check

@@ -2,7 +2,7 @@
 -- example, a text for each chip, idle lines, both sides of refusal 9, and where texts depart.
 -- Assumes nothing.
 use Prim.Native.Nat.{ℕ, _-_, _^_, _≤_, _<_}
-use mathlib.Core.Path.{_≡_, refl, _∙_, subst}
+use mathlib.Core.Path.{_≡_, refl, ap, _∙_, subst}
 use mathlib.Core.List.{List, [], _∷_, _++_}
 use mathlib.Core.Bool.{true}
 use mathlib.Core.Option.{Option, none, some}
@@ -14,17 +14,22 @@ use lib.Dec.{leb}
 use borrow.Author.Tests.{leb-true}
 use Rattle.numbers.specs.Numbers.{each, joined}
 use Rattle.numbers.proofs.Lists.{each-length, each-at, every, every-at}
+use Rattle.numbers.proofs.Search.{seek}
 use Rattle.numbers.proofs.Tests.{lt-or-le}
-use Rattle.layout.specs.Words.{headKinds, extraKinds, mostEnergy, energy}
+use Rattle.layout.specs.Words.{headKinds, extraKinds, kindIn, headKind, taskKind, kindAt, allows, mostEnergy, energy}
 use Rattle.layout.specs.declared.Layout.the-variants.{Ordinary}
 use Rattle.chips.specs.Chips.{megahertz, milliwatts, chipRates, chipEnergies, idleFigures}
 use Rattle.chips.specs.declared.Chip.{Chip}
 use Rattle.chips.specs.declared.Chip.the-variants.{Xscale, Ppc405lp}
-use Rattle.taskset.specs.Refusals.{Accepts, Refuses}
+use Rattle.taskset.specs.Refusals.{Accepts, Refuses, wordChecks, roomCheck}
+use Rattle.taskset.specs.Calls.{CountsAfter}
+use Rattle.taskset.specs.declared.Shape.the-variants.{Whole}
+use Rattle.taskset.proofs.Checks.{accepts-next}
+use Rattle.taskset.proofs.Verdict.{isBad, isFall, shapeOf, shape-answers}
 use Rattle.taskset.proofs.Cases.{chip-set, slow-or-fast}
 use Rattle.text.specs.Text.{Clock, rates, chip, Script, bytes, digits, decimal, scriptText, TaskLineOk, ScriptOk, IsTextOf}
 use Rattle.text.specs.Text.{WellFormed, FirstBad, ratesOf, headWords, words, scriptOf}
-use Rattle.text.specs.Calls.{WorksOut, HasOver, readerChecks}
+use Rattle.text.specs.Calls.{WorksOut, HasOver, readerChecks, writerChecks}
 use Rattle.text.proofs.Reading.{literal, more, number, many, readText}
 use Rattle.text.proofs.Pieces.{no-first-bad}
 use Rattle.text.proofs.Copies.{is-read, is-refused, NoneOver, takes}
@@ -62,6 +67,18 @@ idle-line-910 = record { text = is-read (scriptOf (slow-or-fast 10 910)) idle-91
 pub idle-line-899 : IdleLine 899 idle-899
 unfolding idle-899 slow-or-fast readText number more literal many words scriptOf headKinds extraKinds
 idle-line-899 = record { text = is-read (scriptOf (slow-or-fast 10 899)) idle-899 (length idle-899) refl .0; words-are = refl }
+
+-- "10, .. never by walk or writer": the writer takes the second list, which the planner refuses with 10.
+shape-899 : shapeOf Ordinary (slow-or-fast 10 899) ≡ Whole 2 1
+unfolding slow-or-fast shapeOf isBad isFall headKinds extraKinds kindIn kindAt headKind taskKind allows seek
+shape-899 = refl
+
+pub not-by-writer : (lent : ℕ) → length idle-899 ≤ lent → Accepts (writerChecks (slow-or-fast 10 899) lent)
+not-by-writer lent room =
+    let s = slow-or-fast 10 899 in
+    let passes = subst (CountsAfter (wordChecks Ordinary s) Ordinary s) shape-899 (shape-answers Ordinary s) .0 in
+    accepts-next (wordChecks Ordinary s) (roomCheck (length (scriptText (scriptOf s))) lent) passes
+    (λ k h. omega (arith, h .0, ap length (idle-line-899 .text .text)))
 
 -- A text for each chip, and the words that it says: at 33 MHz a million cycles take 31 ticks, the last not all used.
 unfoldable pub xscale : List ℕ

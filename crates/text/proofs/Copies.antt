@@ -16,7 +16,7 @@ use Rattle.taskset.specs.Calls.{Copied}
 use Rattle.taskset.proofs.Unique.{refusal-unique, short-single, single-next, word-single, copy-unique}
 use Rattle.taskset.proofs.Copied.{SameCopied, copied-one}
 use Rattle.text.specs.Text.{Script, scriptText, IsTextOf, WellFormed, FirstBad, words, scriptOf}
-use Rattle.text.specs.Calls.{WorksOut, HasOver, energyCheck, wordsCheck, readerChecks, ReaderGives}
+use Rattle.text.specs.Calls.{WorksOut, HasOver, overCheck, wordsCheck, readerChecks, ReaderGives}
 use Rattle.text.specs.Calls.{writerChecks, WriterGives}
 use Rattle.text.proofs.Reading.{Res, got, bad, readText}
 use Rattle.text.proofs.Pieces.{first-bad-one, no-first-bad}
@@ -48,7 +48,7 @@ one-script s r t h k = let e : got s (length t) ≡ got r (length t) = sym (read
 abbrev pub NoneOver : Script → Type 0
 NoneOver s = WorksOut (s .clock) → (k : ℕ) → HasOver s k → ⊥
 
-pub none-refused : (s : Script) (t : List ℕ) → IsTextOf s t → NoneOver s → Passes (energyCheck t)
+pub none-refused : (s : Script) (t : List ℕ) → IsTextOf s t → NoneOver s → Passes (overCheck t)
 none-refused s t is none k h =
     let same : h .0 ≡ s = one-script (h .0) s t (h .1) is in
     none (subst (λ (r : Script). WorksOut (r .clock)) same (h .2)) k (subst (λ (r : Script). HasOver r k) same (h .3 .here))

@@ -30,7 +30,7 @@ use Rattle.taskset.proofs.Idle.{Covered, covered-passes}
 use Rattle.taskset.proofs.Sets.{words-pass}
 use Rattle.text.specs.Text.{TaskLine, chip, Script, energyCount, TaskLineOk, ScriptOk, IsTextOf}
 use Rattle.text.specs.Text.{idleOf, headWords, extraWords, taskWords, words}
-use Rattle.text.specs.Calls.{HasOver, energyCheck}
+use Rattle.text.specs.Calls.{HasOver, overCheck}
 use Rattle.text.proofs.Sizes.{task-size, words-size}
 use Rattle.text.proofs.Copies.{NoneOver}
 
@@ -155,7 +155,7 @@ module _ (c : Chip) (g : ℕ) (o : Option ℕ) (ts : List TaskLine) (ok : Script
 
 -- ---- which checks it passes
 -- Where no task is the first with an energy over the largest, none has one.
-pub passes-over : (s : Script) (t : List ℕ) → IsTextOf s t → Passes (energyCheck t) → NoneOver s
+pub passes-over : (s : Script) (t : List ℕ) → IsTextOf s t → Passes (overCheck t) → NoneOver s
 passes-over s t is pass w = no-lowest (HasOver s) (λ k l. pass k (s, is, w, l))
 
 -- The idle energy that the list has is in its range: the chip's own is.

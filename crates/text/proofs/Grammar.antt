@@ -17,7 +17,7 @@ use Rattle.text.specs.Text.{TaskLine, Clock, rates, chip, Script, bytes,
 use Rattle.text.specs.Text.{chipName, clockText, idleText, scriptText}
 use Rattle.text.specs.Text.{Word, Between, IdleOk, ClockOk, energyCount, TaskLineOk, ScriptOk, IsTextOf, WellFormed, FirstBad}
 use Rattle.text.proofs.Reading.{Res, got, bad, later, seq, skip, upTo, field, numbers, starts, both}
-use Rattle.text.proofs.Reading.{mkTask, mkScript, readEnergies, readTask, readTasks, moreTasks, readName}
+use Rattle.text.proofs.Reading.{mkTask, mkScript, readEnergies, readTask, readTasks, readName}
 use Rattle.text.proofs.Reading.{noIdleLine, readIdle, readHead, readChip, readClock, readScript, readText, readAt}
 use Rattle.text.proofs.Pieces.{Good, Piece, seq-piece, Form, Right, whole-exact, whole-right, first-bad-same}
 use Rattle.text.proofs.Literals.{literal-piece, Any}
@@ -121,9 +121,6 @@ module _ (m : ℕ) where
 
   pub tasks-piece : Piece (joined taskText) (Between (TaskLineOk m) 1 32) (λ r. starts 40 r ≡ false) (readTasks m)
   tasks-piece = many-piece task-piece 40 (λ r. starts 40 r ≡ false) (λ xs d r f. tt) (λ a d r. refl) (λ r f. f) some-task 1 31
-
-  pub more-tasks-piece : Piece (joined taskText) (Between (TaskLineOk m) 0 31) (λ r. starts 40 r ≡ false) (moreTasks m)
-  more-tasks-piece = many-piece task-piece 40 (λ r. starts 40 r ≡ false) (λ xs d r f. tt) (λ a d r. refl) (λ r f. f) some-task 0 31
 
   some-tasks : (ts : List TaskLine) × Between (TaskLineOk m) 1 32 ts
   some-tasks = (some-task .0 ∷ [], record { least = omega arith; most = omega arith; each = (some-task .1, tt) })
@@ -316,6 +313,3 @@ dom-of {A} {text} {Dom} {F} {read} P s at i a e = go (read (drop at s)) (P .good
     go : (x : Res A) → Good text Dom (drop at s) x → later at x ≡ got a i → Dom a
     go (got b n) g q = let z : b ≡ a = cc in subst Dom z (g .0)
     go (bad o) g q = let z : _≡_ {A = ℕ} 0 1 = cc in absurd (omega arith)
-
-pub so-many : (m k : ℕ) (s : List ℕ) (at i : ℕ) (xs : List ℕ) → readAt (numbers m k) s at ≡ got xs i → Between Word m (m + k) xs
-so-many m k = dom-of (numbers-piece m k)

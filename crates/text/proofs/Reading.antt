@@ -124,9 +124,6 @@ readTask m =
     (λ _. seq both (field (bytes ") (cycles "))
     (λ _. skip (bytes ")") (upTo (readEnergies m) (bytes ")\n"))))
 
-abbrev pub moreTasks : ℕ → List ℕ → Res (List TaskLine)
-moreTasks m = many (readTask m) 40 0 31
-
 abbrev pub readTasks : ℕ → List ℕ → Res (List TaskLine)
 readTasks m = many (readTask m) 40 1 31
 

@@ -121,12 +121,6 @@ chip-passes c g o ts t d d′ n is gives slack-in idle-in lines-in =
     list-passes c g o ts (is .script) slack-in idle-in lines-in
     (passes-over (chipScript c g o ts) t is (passed 9 (readerChecks t (length d)) refl (gives .0)))
 
--- Without an idle line it passes check 10 as well, whatever its numbers are: each energy that is worked out is at least
--- what the chip draws in that time when it waits.
-pub chip-above-idle : (c : Chip) (g : ℕ) (ts : List TaskLine) (t : List ℕ) → IsTextOf (chipScript c g none ts) t
-    → Passes (idleCheck Ordinary (words (chipScript c g none ts)))
-chip-above-idle c g ts t is = own-passes c g ts (is .script)
-
 -- And so the writer takes it, wherever the buffer has room for its text; what it writes then reads back as that list
 -- (words-then-read).
 pub chip-written : (c : Chip) (g : ℕ) (o : Option ℕ) (ts : List TaskLine) (t d d′ : List ℕ) (n : ℕ)
@@ -137,3 +131,9 @@ chip-written c g o ts t d d′ n is gives slack-in idle-in lines-in lent room =
     let ws : List ℕ = words (chipScript c g o ts) in
     accepts-next (wordChecks Ordinary ws) (roomCheck (length (scriptText (scriptOf ws))) lent)
     (chip-passes c g o ts t d d′ n is gives slack-in idle-in lines-in) (λ k h. omega (arith, h .0))
+
+-- A chip's text without an idle line gives a list that passes check 10 too, whatever its numbers are: each energy that
+-- is worked out is at least what the chip draws in that time when it waits.
+pub chip-above-idle : (c : Chip) (g : ℕ) (ts : List TaskLine) (t : List ℕ) → IsTextOf (chipScript c g none ts) t
+    → Passes (idleCheck Ordinary (words (chipScript c g none ts)))
+chip-above-idle c g ts t is = own-passes c g ts (is .script)

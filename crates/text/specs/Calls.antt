@@ -33,14 +33,14 @@ pub record HasOver (s : Script) (k : ℕ) : Type 0 where
   pub rate-to : rate ≤ length (ratesOf (s .clock))
   pub over : mostEnergy < energy Ordinary (words s) (k - 1) rate
 
-abbrev pub energyCheck : List ℕ → Check
-energyCheck t = check 9 (λ k. (s : Script) × IsTextOf s t × WorksOut (s .clock) × Lowest (HasOver s) k)
+abbrev pub overCheck : List ℕ → Check
+overCheck t = check 9 (λ k. (s : Script) × IsTextOf s t × WorksOut (s .clock) × Lowest (HasOver s) k)
 
 abbrev pub wordsCheck : List ℕ → ℕ → Check
 wordsCheck t lent = check 6 (λ k. (s : Script) × IsTextOf s t × IsShort (length (words s)) lent k)
 
 abbrev pub readerChecks : List ℕ → ℕ → List Check
-readerChecks t lent = (formCheck t ∷ []) ▹ energyCheck t ▹ wordsCheck t lent
+readerChecks t lent = (formCheck t ∷ []) ▹ overCheck t ▹ wordsCheck t lent
 
 -- t is the text, d the list as lent, d′ as given back: a success writes the words of the text's script, a refusal
 -- nothing.
