@@ -42,6 +42,8 @@ class Case:
         # Whether every task can have its cheapest rate.
         self.easy = sum(min(row, key=lambda pair: (pair[1], pair[0]))[0] for row in options) <= self.L
         self.least, self.seconds = o.optimum(options, self.L, folder, LIMIT, RUNS)
+        # The search that idle.py goes by finds the same.
+        assert self.least is None or self.least == o.search(options, self.L)[0], words
         self.relaxed = o.relaxed(options, self.L)
         self.tighter = o.relaxed(o.possible(options, self.L), self.L)
         theirs = o.relaxed_by_glpsol(folder)
