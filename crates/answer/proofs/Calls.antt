@@ -10,7 +10,8 @@ use Rattle.selection.specs.Plan.{Fitting}
 use Rattle.layout.specs.Words.{taskCount}
 use Rattle.layout.specs.declared.Layout.the-variants.{Ordinary}
 use Rattle.taskset.specs.Quantities.{problem, workNeeded}
-use Rattle.taskset.specs.Refusals.{number, second, Accepts, Refuses, _▹_, wordChecks, idleChecks, hyperCheck, workCheck, roomCheck, noneCheck, planCheck, readyChecks, plannerChecks, walkChecks}
+use Rattle.taskset.specs.Refusals.{number, second, Accepts, Refuses, _▹_, wordChecks, idleChecks, hyperCheck, workCheck}
+use Rattle.taskset.specs.Refusals.{roomCheck, noneCheck, planCheck, readyChecks, plannerChecks, walkChecks}
 use Rattle.taskset.specs.Calls.{SetAfter}
 use Rattle.taskset.specs.declared.Refusal.{Refusal}
 use Rattle.taskset.specs.declared.Refusal.the-variants.{TooShort}

@@ -11,7 +11,8 @@ use Rattle.selection.specs.Plan.{Fitting}
 use Rattle.layout.specs.Words.{headKinds, extraKinds, taskCount}
 use Rattle.layout.specs.declared.Layout.the-variants.{Ordinary}
 use Rattle.taskset.specs.Quantities.{hyperPeriod, problem, walkTasks, workNeeded}
-use Rattle.taskset.specs.Refusals.{Accepts, Refuses, _▹_, wordChecks, idleCheck, idleChecks, hyperCheck, workCheck, roomCheck, noneCheck, readyChecks, plannerChecks}
+use Rattle.taskset.specs.Refusals.{Accepts, Refuses, _▹_, wordChecks, idleCheck, idleChecks, hyperCheck, workCheck}
+use Rattle.taskset.specs.Refusals.{roomCheck, noneCheck, readyChecks, plannerChecks}
 use Rattle.taskset.specs.Calls.{walkValues, outcomeValues, Selected, PlannerGives}
 use Rattle.taskset.specs.declared.PlannerAnswer.the-variants.{Planned}
 use Rattle.taskset.specs.declared.WalkAnswer.the-variants.{Kept}
@@ -22,7 +23,8 @@ use Rattle.chips.specs.declared.Chip.the-variants.{Ppc405lp}
 use Rattle.text.specs.Text.{bytes, scriptText, IsTextOf, words, scriptOf}
 use Rattle.text.proofs.Copies.{takes}
 use Rattle.text.proofs.Sizes.{words-length}
-use Rattle.text.proofs.Cases.{example, example-text, example-words, idle-910, idle-899, idle-line-910, idle-line-899, ppc405lp, underChip, chips, ppc405lp-within, tooMuch, overs}
+use Rattle.text.proofs.Cases.{example, example-text, example-words, idle-910, idle-899, idle-line-910, idle-line-899}
+use Rattle.text.proofs.Cases.{ppc405lp, underChip, chips, ppc405lp-within, tooMuch, overs}
 use Rattle.lines.specs.Lines.{planLine, rateLines, walkLine}
 use Rattle.lines.proofs.Example.{printed, printed-lines, chip-printed, chip-lines, refused-9-2, idle-printed, idle-lines, refused-10-8}
 use Rattle.answer.specs.Answer.{workLent, planLent, setLent, PrintsPlan, Read, Prints, unread, refused, planned}

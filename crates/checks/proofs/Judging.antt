@@ -9,8 +9,11 @@ use native.Mathlib.Omega.{arith}
 use lib.ListN.{length}
 use Rattle.numbers.specs.Numbers.{running}
 use Rattle.numbers.proofs.Tests.{bool-cases, lt-or-le}
-use Rattle.layout.specs.Words.{headSize, mostRates, mostTasks, word, idle, rateCount, taskCount, wordCount, ratePlace, taskCountPlace, periodPlace, energyPlace, period, energy, kindAt, allows, OutOfRange, WordFault}
-use Rattle.taskset.specs.Refusals.{number, second, IsBadWord, RateFault, IsBelowIdle, IsTooLong, Check, Passes, Accepts, _▹_, wordCheck, wordChecks, idleCheck, hyperCheck}
+use Rattle.layout.specs.Words.{headSize, mostRates, mostTasks, word, idle, rateCount, taskCount, wordCount, ratePlace}
+use Rattle.layout.specs.Words.{taskCountPlace, periodPlace, energyPlace, period, energy, kindAt, allows, OutOfRange}
+use Rattle.layout.specs.Words.{WordFault}
+use Rattle.taskset.specs.Refusals.{number, second, IsBadWord, RateFault, IsBelowIdle, IsTooLong, Check, Passes, Accepts}
+use Rattle.taskset.specs.Refusals.{_▹_, wordCheck, wordChecks, idleCheck, hyperCheck}
 use Rattle.taskset.specs.Calls.{CountsAfter, SetAfter}
 use Rattle.numbers.specs.Search.{Found}
 use Rattle.taskset.specs.Quantities.{jobTime}
@@ -131,7 +134,8 @@ module _ {layout : Layout} {s : List ℕ} {m n : ℕ} (o : OfCounts layout m n s
   )
 
 -- What it asks, from check 2.
-pub of-counts : (layout : Layout) (s : List ℕ) (m n : ℕ) → Passes (wordCheck layout s) → m ≡ rateCount layout s → n ≡ taskCount layout s
+pub of-counts : (layout : Layout) (s : List ℕ) (m n : ℕ) → Passes (wordCheck layout s) → m ≡ rateCount layout s
+    → n ≡ taskCount layout s
     → OfCounts layout m n s
 of-counts layout s m n pass a b = record { whole = whole-of layout s (no-word-fault layout s pass); counted = a; numbered = b }
 

@@ -81,7 +81,8 @@ energy-positive c cycles r w a b =
     mul-le-mul {n₁ = 1} {m₁ = 1} (power-range c r a b .0) time
 
 -- At no rate is it below what the chip's idle ticks draw in that time.
-pub energy-above-idle : (c : Chip) (cycles r : ℕ) → 1 ≤ r → r ≤ chipCount c → chipIdle c * jobTicks cycles (chipRate c r) ≤ chipEnergy c cycles r
+pub energy-above-idle : (c : Chip) (cycles r : ℕ) → 1 ≤ r → r ≤ chipCount c
+    → chipIdle c * jobTicks cycles (chipRate c r) ≤ chipEnergy c cycles r
 energy-above-idle c cycles r a b =
     mul-le-mul-right (jobTicks cycles (chipRate c r))
     (entry-at (chipIdle c) 5000 (milliwatts c) (powers-above-idle c) (r - 1) (omega (arith, powers-as-many c)) .least)

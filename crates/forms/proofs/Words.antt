@@ -85,7 +85,8 @@ task-words k s at i t e = go k (dom-of (task-piece (energiesIn k)) s at i t e)
 
 -- The rates and the tasks stand in their places, and the counts and the head go in front of them, from the back to the
 -- front.
-pub set-words : (s : Script) (ws d e : List ℕ) (h k m n : ℕ) → ws ≡ headWords s → h ≡ headSize Ordinary → k ≡ taskCountPlace Ordinary m
+pub set-words : (s : Script) (ws d e : List ℕ) (h k m n : ℕ) → ws ≡ headWords s → h ≡ headSize Ordinary
+    → k ≡ taskCountPlace Ordinary m
     → length (ratesOf (s .clock)) ≡ m → length (s .tasks) ≡ n → tasksPlace Ordinary m ≤ length d
     → e ≡ written (tasksPlace Ordinary m) (joined (taskWords (s .clock)) (s .tasks)) (written (h + 1) (ratesOf (s .clock)) d)
     → stored 0 ws (set (set e k n) h m) ≡ written 0 (words s) d

@@ -7,7 +7,8 @@ use mathlib.Core.List.{List}
 use native.Mathlib.Bridge.{le-by-compare, IsLe}
 use native.Mathlib.Nat.{mul-le-mul}
 use native.Mathlib.Omega.{arith}
-use Rattle.layout.specs.Words.{headKinds, extraKinds, headSize, extraSize, mostRates, mostTasks, mostWords, slackPlace, idlePlace, taskSize, periodPlace, word, kindIn, headKind, allows}
+use Rattle.layout.specs.Words.{headKinds, extraKinds, headSize, extraSize, mostRates, mostTasks, mostWords}
+use Rattle.layout.specs.Words.{slackPlace, idlePlace, taskSize, periodPlace, word, kindIn, headKind, allows}
 use Rattle.layout.specs.declared.Layout.{Layout}
 use Rattle.layout.specs.declared.Layout.the-variants.{Ordinary}
 use Rattle.layout.specs.declared.Kind.the-variants.{Slack, Idle}

@@ -10,7 +10,11 @@ use native.Mathlib.Nat.{div-add-mod', div-lt-iff-lt-mul, mod-lt}
 use native.Mathlib.Omega.{arith}
 use lib.ListN.{length}
 use Rattle.numbers.proofs.Tests.{bool-cases, lt-or-le, between-true, true-between}
-use Rattle.layout.specs.Words.{headSize, extraKinds, extraSize, mostRates, mostTasks, mostIdle, longestPeriod, slack, slackPlace, idle, idlePlace, rateCount, taskCount, ratePlace, taskCountPlace, tasksPlace, periodPlace, cyclesPlace, energyPlace, taskSize, wordCount, rate, period, cycles, energy, kindIn, headKind, taskKind, kindAt, allows, WordFault}
+use Rattle.layout.specs.Words.{headSize, extraKinds, extraSize, mostRates, mostTasks, mostIdle, longestPeriod}
+use Rattle.layout.specs.Words.{slack, slackPlace, idle, idlePlace, rateCount, taskCount, ratePlace}
+use Rattle.layout.specs.Words.{taskCountPlace, tasksPlace, periodPlace, cyclesPlace, energyPlace, taskSize}
+use Rattle.layout.specs.Words.{wordCount, rate, period, cycles, energy, kindIn, headKind, taskKind, kindAt}
+use Rattle.layout.specs.Words.{allows, WordFault}
 use Rattle.layout.specs.declared.Layout.{Layout}
 use Rattle.layout.specs.declared.Kind.{Kind}
 use Rattle.layout.specs.declared.Kind.the-variants.{RateCount, Rate, TaskCount, Period, Cycles, Energy, LeftOver}

@@ -105,7 +105,8 @@ module _ {layout : Layout} {m l t : ℕ} {s : List ℕ} (g : TaskGiven layout m 
       pub drawn-fits : x ≡ jobTime layout s t r → y ≡ energy layout s t r → h ≡ idle s → h * x ≤ y
       drawn-fits x-is y-is h-is = rw (h-is, x-is, y-is) (g .covered t r (g .of-task .task) from rate-number)
 
-      pub energy-fits : x ≡ jobTime layout s t r → y ≡ energy layout s t r → h ≡ idle s → l / p * (y - h * x) ≤ hyperLimit * 1000000
+      pub energy-fits : x ≡ jobTime layout s t r → y ≡ energy layout s t r → h ≡ idle s
+          → l / p * (y - h * x) ≤ hyperLimit * 1000000
       energy-fits x-is y-is h-is =
           rw (g .hyper, p-is, h-is, x-is, y-is) (task-net-small layout s set-is t r (g .of-task .task) from rate-number)
 

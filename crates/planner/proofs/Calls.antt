@@ -184,13 +184,15 @@ module _ {s plan work : List ℕ} {m n l : ℕ} (prepared : Prepared s plan work
                 )
 
             -- What is added for idle ticks, h of them a tick, fits.
-            pub energy-fits : {h : ℕ} → h ≡ idle s → c .energy + h * l ≤ mostTasks * (hyperLimit * 1000000) + mostIdle * hyperLimit
+            pub energy-fits : {h : ℕ} → h ≡ idle s
+                → c .energy + h * l ≤ mostTasks * (hyperLimit * 1000000) + mostIdle * hyperLimit
             energy-fits e =
                 rw (e, good .3, energy-is)
                 (energy-small Ordinary s set (take n plan′) (plan-same chosenFrom (problem s) same (take n plan′) plan-is)
                 (hyperPeriod Ordinary s - planLoad (problem s) (take n plan′)) (omega arith))
 
-            selected : {e : ℕ} → e ≡ reportedEnergy s (take n plan′) → Selected s (take n plan′) (plannerValues (Planned (c .unit) (c .load) l e))
+            selected : {e : ℕ} → e ≡ reportedEnergy s (take n plan′)
+                → Selected s (take n plan′) (plannerValues (Planned (c .unit) (c .load) l e))
             selected energy = record {
               exponent = chose .exponent;
               planned =
@@ -219,7 +221,8 @@ module _ {s plan work : List ℕ} {m n l : ℕ} (prepared : Prepared s plan work
                 let high : getD plan′ t 0 ≤ rateCount Ordinary s = omega (arith, at, good .1, plan-is .below t (omega (arith, good .2))) in
                 record { from-1 = low; to-m = high; place = omega arith }
 
-            pub chosen-given : {h : ℕ} → h ≡ idle s → PlannerCall s plan work plan′ work′ (Planned (c .unit) (c .load) l (c .energy + h * l))
+            pub chosen-given : {h : ℕ} → h ≡ idle s
+                → PlannerCall s plan work plan′ work′ (Planned (c .unit) (c .load) l (c .energy + h * l))
             chosen-given {h} e =
                 let energy : c .energy + h * l ≡ reportedEnergy s (take n plan′) = rw (e, good .3) energy-is in
                 called s plan work plan′ work′ (Planned (c .unit) (c .load) l (c .energy + h * l))

@@ -21,7 +21,9 @@ use Rattle.selection.proofs.Compute.{trace, leastEnergy, choose, usedFrom, used
 use Rattle.layout.specs.Words.{slack, rateCount, taskCount, headKinds, extraKinds, kindIn, headKind, taskKind, kindAt, allows}
 use Rattle.layout.specs.declared.Layout.the-variants.{Ordinary}
 use Rattle.taskset.specs.Quantities.{hyperPeriod, problem, jobsEnergy, reportedEnergy, workNeeded}
-use Rattle.taskset.specs.Refusals.{number, second, Check, Accepts, _▹_, wordChecks, idleChecks, hyperCheck, workCheck, roomCheck, noneCheck, planCheck, readyChecks, plannerChecks, walkChecks}
+use Rattle.taskset.specs.Refusals.{number, second, Check, Accepts, _▹_, wordChecks, idleChecks, hyperCheck}
+use Rattle.taskset.specs.Refusals.{workCheck, roomCheck, noneCheck, planCheck, readyChecks, plannerChecks}
+use Rattle.taskset.specs.Refusals.{walkChecks}
 use Rattle.taskset.specs.Calls.{code, plannerValues, walkValues, SetAfter, PlannerGives, WalkAnswers}
 use Rattle.taskset.specs.DemandThree.{Keeps, PlanPromise}
 use Rattle.taskset.specs.declared.Refusal.{Refusal}
@@ -31,7 +33,8 @@ use Rattle.taskset.specs.declared.Checked.the-variants.{Good, Refused as
 use Rattle.taskset.specs.declared.PlannerAnswer.the-variants.{Planned, Refused as NotPlanned}
 use Rattle.taskset.specs.declared.WalkAnswer.the-variants.{Kept, Missed, Refused as NotWalked}
 use Rattle.taskset.proofs.Checks.{nothing, same, refuses-early, refuses-before, accepts-next, refuses-next, passed}
-use Rattle.taskset.proofs.Verdict.{isBad, isFall, isOver, isBelow, hasBelow, shapeOf, coverOf, afterShape, checkedOf, coveredOf, checked-answers, covered-answers}
+use Rattle.taskset.proofs.Verdict.{isBad, isFall, isOver, isBelow, hasBelow, shapeOf, coverOf, afterShape}
+use Rattle.taskset.proofs.Verdict.{checkedOf, coveredOf, checked-answers, covered-answers}
 use Rattle.taskset.proofs.PlanVerdict.{isUnfit, planVerdict, PlanSays, plan-verdict-says}
 use Rattle.taskset.proofs.Sets.{IsSet, set-of, falling}
 use Rattle.taskset.proofs.DemandThree.{walk-owes}
@@ -299,21 +302,26 @@ cases = record {
   long-bad-plan = plan-refused (S 100) 3 2 30 refl (1 ∷ 1 ∷ 9 ∷ 9 ∷ []) 2 refl;
   plan-list-1 = λ plan work p q. plan-short (S 100) 3 2 30 refl plan work (omega arith) (omega arith);
   tie = planned even-tasks 2 2 4 refl (2 ∷ 1 ∷ []) 0 1 4 6 (le-by-compare _ _ tt) (le-by-compare _ _ tt) refl refl refl refl refl refl;
-  idle-counts = planned (slow-or-fast 10 910) 2 1 100 refl (1 ∷ []) 0 1 90 1010 (le-by-compare _ _ tt) (le-by-compare _ _ tt) refl refl refl refl refl refl;
+  idle-counts = planned (slow-or-fast 10 910) 2 1 100 refl (1 ∷ []) 0 1 90 1010
+      (le-by-compare _ _ tt) (le-by-compare _ _ tt) refl refl refl refl refl refl;
   walk-idle = (walks (slow-or-fast 10 910) 2 1 100 refl (1 ∷ []) refl, refl);
   jobs-alone = (refl, refl, refl, walk-owes (slow-or-fast 10 910) (2 ∷ []) (Kept 10 90 0) (walks (slow-or-fast 10 910) 2 1 100 refl (2 ∷ []) refl, refl) .0);
   jobs-alone-false = λ h. let bound : 1000 * 910 ≤ 1100 * 200 = h in omega arith;
-  idle-nothing = planned (slow-or-fast 0 910) 2 1 100 refl (2 ∷ []) 3 8 10 200 (le-by-compare _ _ tt) (le-by-compare _ _ tt) refl refl refl refl refl refl;
-  idle-equal = planned (slow-or-fast 10 900) 2 1 100 refl (1 ∷ []) 0 1 90 1000 (le-by-compare _ _ tt) (le-by-compare _ _ tt) refl refl refl refl refl refl;
+  idle-nothing = planned (slow-or-fast 0 910) 2 1 100 refl (2 ∷ []) 3 8 10 200
+      (le-by-compare _ _ tt) (le-by-compare _ _ tt) refl refl refl refl refl refl;
+  idle-equal = planned (slow-or-fast 10 900) 2 1 100 refl (1 ∷ []) 0 1 90 1000
+      (le-by-compare _ _ tt) (le-by-compare _ _ tt) refl refl refl refl refl refl;
   idle-above = set-refused (slow-or-fast 10 899) (BelowIdle 8) refl;
-  nothing-left = planned (idle-tasks 10 10 40 20 40 20) 2 2 10 refl (2 ∷ 2 ∷ []) 0 1 4 100 (le-by-compare _ _ tt) (le-by-compare _ _ tt) refl refl refl refl refl refl;
+  nothing-left = planned (idle-tasks 10 10 40 20 40 20) 2 2 10 refl (2 ∷ 2 ∷ []) 0 1 4 100
+      (le-by-compare _ _ tt) (le-by-compare _ _ tt) refl refl refl refl refl refl;
   first-task = set-refused (idle-tasks 10 10 40 19 39 20) (BelowIdle 9) refl;
   second-task = set-refused (idle-tasks 10 10 40 20 39 20) (BelowIdle 12) refl;
   before-4 = set-refused (idle-tasks 9999999 10000000 40 20 39 20) (BelowIdle 12) refl;
   after-4 = set-refused (idle-tasks 9999999 10000000 40 20 40 20) (TooLong 10) refl;
   not-by-walk = (walks (idle-tasks 10 10 40 20 39 20) 2 2 10 refl (1 ∷ 1 ∷ []) refl, refl);
   idle-1001 = set-refused (slow-or-fast 1001 910) (BadWord 1) refl;
-  planned-chip = planned chip-set 4 2 40 refl (2 ∷ 2 ∷ []) 7 128 20 1680 (le-by-compare _ _ tt) (le-by-compare _ _ tt) refl refl refl refl refl refl;
+  planned-chip = planned chip-set 4 2 40 refl (2 ∷ 2 ∷ []) 7 128 20 1680
+      (le-by-compare _ _ tt) (le-by-compare _ _ tt) refl refl refl refl refl refl;
   walk-chip = (walks chip-set 4 2 40 refl (2 ∷ 2 ∷ []) refl, refl);
   plan-3-3 = (refl, refl, walk-owes (S 100) (3 ∷ 3 ∷ []) (Kept 12 18 0) (walks (S 100) 3 2 30 refl (3 ∷ 3 ∷ []) refl, refl) .0);
   plan-3-3-stopped = λ p.

@@ -15,7 +15,8 @@ use Rattle.numbers.proofs.Tests.{and-true}
 use Rattle.numbers.proofs.Search.{lowest-unique, no-lowest}
 use Rattle.layout.specs.Words.{rateCount, periodPlace, WordFault}
 use Rattle.layout.specs.declared.Layout.{Layout}
-use Rattle.taskset.specs.Refusals.{IsBadWord, RateFault, IsNotAbove, EnergyFault, IsBelowIdle, PassesLimit, IsTooLong, PlanFault, IsBadPlan, Check, Passes, Accepts, Refuses, _▹_}
+use Rattle.taskset.specs.Refusals.{IsBadWord, RateFault, IsNotAbove, EnergyFault, IsBelowIdle, PassesLimit}
+use Rattle.taskset.specs.Refusals.{IsTooLong, PlanFault, IsBadPlan, Check, Passes, Accepts, Refuses, _▹_}
 
 -- ---- lists of checks
 pub accepts-join : (cs ds : List Check) → Accepts cs → Accepts ds → Accepts (cs ++ ds)

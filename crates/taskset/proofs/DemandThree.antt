@@ -47,7 +47,8 @@ module _ (s : List ℕ) (set : IsSet Ordinary s) where
 
   -- A plan given keeps demand 3's promise: selection bounds what every plan costs over H × L, and every plan that keeps
   -- its deadlines costs that besides.
-  pub plan-given : Covered Ordinary s → (P : List ℕ) (unit load hyper energy : ℕ) → Selected s P (plannerValues (Planned unit load hyper energy)) → PlanPromise s P energy
+  pub plan-given : Covered Ordinary s → (P : List ℕ) (unit load hyper energy : ℕ)
+      → Selected s P (plannerValues (Planned unit load hyper energy)) → PlanPromise s P energy
   plan-given covered P unit load hyper energy c =
       let e = c .values-are in
       let own : energy ≡ reportedEnergy s P = cc in

@@ -106,7 +106,8 @@ module _ (layout : Layout) (s : List ℕ) (covered : Covered layout s) where
 
 -- THE TWO ARE ONE BUT FOR A CONSTANT: of a list that passes 10, the energy reported of every plan that fits is the energy
 -- that selection goes by and H × L.
-pub reported-is : (s : List ℕ) → Covered Ordinary s → (P : List ℕ) → IsPlan (problem s) P → planLoad (problem s) P ≤ hyperPeriod Ordinary s
+pub reported-is : (s : List ℕ) → Covered Ordinary s → (P : List ℕ) → IsPlan (problem s) P
+    → planLoad (problem s) P ≤ hyperPeriod Ordinary s
     → reportedEnergy s P ≡ planEnergy (problem s) P + idle s * hyperPeriod Ordinary s
 reported-is s covered P plan fits =
     let free : planLoad (problem s) P + (hyperPeriod Ordinary s - planLoad (problem s) P) ≡ hyperPeriod Ordinary s = omega arith in

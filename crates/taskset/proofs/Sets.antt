@@ -19,7 +19,8 @@ use Rattle.schedule.proofs.Periodic.{Regular, keeps-iff-fits, tasks-regular, ta
 use Rattle.selection.specs.Plan.{IsPlan, planLoad}
 use Rattle.selection.proofs.Fastest.{Falling}
 use Rattle.layout.specs.Words.{mostTasks, mostIdle, headSize, word, idle, rateCount, taskCount, ratePlace, rate, period, energy}
-use Rattle.taskset.specs.Quantities.{hyperLimit, jobTime, hyperPeriod, taskLoad, taskEnergy, netEnergy, taskNet, problemOf, endlessTasks}
+use Rattle.taskset.specs.Quantities.{hyperLimit, jobTime, hyperPeriod, taskLoad, taskEnergy, netEnergy, taskNet}
+use Rattle.taskset.specs.Quantities.{problemOf, endlessTasks}
 use Rattle.taskset.specs.Refusals.{RateFault, PassesLimit, Passes, Accepts, _▹_, wordCheck, rateCheck, wordChecks, hyperCheck}
 use Rattle.taskset.proofs.Checks.{accepts-next, no-word-fault, no-rate-fault, none-passes}
 use Rattle.layout.proofs.Whole.{IsWhole, whole-of, whole-iff, idle-in}
@@ -118,7 +119,8 @@ module _ (layout : Layout) (s : List ℕ) where
         let jobs : hyperPeriod layout s / period layout s t ≤ hyperLimit = omega (arith, div-le-self (hyperPeriod layout s) (period layout s t), set .hyper-range .1) in
         omega (arith, mul-le-mul jobs (set .whole .energy-range t r l a b .1))
 
-    pub task-net-small : (t r : ℕ) → t < taskCount layout s → 1 ≤ r → r ≤ rateCount layout s → taskNet layout s t r ≤ hyperLimit * 1000000
+    pub task-net-small : (t r : ℕ) → t < taskCount layout s → 1 ≤ r → r ≤ rateCount layout s
+        → taskNet layout s t r ≤ hyperLimit * 1000000
     task-net-small t r l a b =
         let less : netEnergy layout s t r ≤ energy layout s t r = omega arith in
         omega (arith, task-energy-small t r l a b, mul-le-mul-left (hyperPeriod layout s / period layout s t) less)

@@ -13,7 +13,10 @@ use Rattle.selection.specs.Plan.{Fitting}
 use Rattle.selection.proofs.Bounds.{last-small, work-small}
 use Rattle.layout.specs.Words.{headSize, slack, rateCount, taskCount, wordCount, taskCountPlace, kindAt, allows}
 use Rattle.taskset.specs.Quantities.{workNeeded, problem}
-use Rattle.taskset.specs.Refusals.{IsBadWord, IsNotAbove, IsBelowIdle, IsTooLong, IsShort, IsBadPlan, Check, Accepts, Refuses, _▹_, wordChecks, idleCheck, idleChecks, hyperCheck, workCheck, roomCheck, noneCheck, planCheck, readyChecks, plannerChecks, walkChecks}
+use Rattle.taskset.specs.Refusals.{IsBadWord, IsNotAbove, IsBelowIdle, IsTooLong, IsShort, IsBadPlan, Check}
+use Rattle.taskset.specs.Refusals.{Accepts, Refuses, _▹_, wordChecks, idleCheck, idleChecks, hyperCheck}
+use Rattle.taskset.specs.Refusals.{workCheck, roomCheck, noneCheck, planCheck, readyChecks, plannerChecks}
+use Rattle.taskset.specs.Refusals.{walkChecks}
 use Rattle.layout.specs.declared.Kind.{Kind}
 use Rattle.layout.specs.declared.Kind.the-variants.{RateCount, TaskCount}
 use Rattle.taskset.proofs.Checks.{no-word-fault, refuses-cases, passed}

@@ -14,10 +14,13 @@ use Rattle.layout.specs.Words.{slack, taskCount}
 use Rattle.layout.specs.declared.Layout.{Layout}
 use Rattle.layout.specs.declared.Layout.the-variants.{Ordinary}
 use Rattle.taskset.specs.Quantities.{problem, workNeeded}
-use Rattle.taskset.specs.Refusals.{number, second, IsShort, NoneOk, Check, Refuses, _▹_, wordChecks, idleCheck, idleChecks, hyperCheck, workCheck, roomCheck, noneCheck, planCheck, readyChecks, plannerChecks, walkChecks}
+use Rattle.taskset.specs.Refusals.{number, second, IsShort, NoneOk, Check, Refuses, _▹_, wordChecks, idleCheck}
+use Rattle.taskset.specs.Refusals.{idleChecks, hyperCheck, workCheck, roomCheck, noneCheck, planCheck}
+use Rattle.taskset.specs.Refusals.{readyChecks, plannerChecks, walkChecks}
 use Rattle.taskset.specs.Calls.{CopyGives, CountsAfter, SetAfter, Selected, PlannerGives, WalkAnswers}
 use Rattle.taskset.specs.declared.Refusal.{Refusal}
-use Rattle.taskset.specs.declared.Refusal.the-variants.{TextDeparts, BadWord, NotAbove, TooLong, WorkShort, TooShort, NoPlan, BadPlan, EnergyOver, BelowIdle}
+use Rattle.taskset.specs.declared.Refusal.the-variants.{TextDeparts, BadWord, NotAbove, TooLong, WorkShort}
+use Rattle.taskset.specs.declared.Refusal.the-variants.{TooShort, NoPlan, BadPlan, EnergyOver, BelowIdle}
 use Rattle.taskset.specs.declared.Shape.{Shape}
 use Rattle.taskset.specs.declared.Shape.the-variants.{Whole, Refused as NotWhole}
 use Rattle.taskset.specs.declared.Checked.{Checked}

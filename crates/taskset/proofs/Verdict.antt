@@ -13,10 +13,12 @@ use lib.ListN.{length}
 use Rattle.numbers.specs.Numbers.{running}
 use Rattle.numbers.proofs.Tests.{lt-or-le, cond-true, cond-false}
 use Rattle.numbers.proofs.Search.{first, first-from, first-holds, first-before}
-use Rattle.layout.specs.Words.{word, idle, rateCount, taskCount, ratePlace, taskCountPlace, periodPlace, energyPlace, wordCount, period, energy, kindAt, allows, WordFault}
+use Rattle.layout.specs.Words.{word, idle, rateCount, taskCount, ratePlace, taskCountPlace, periodPlace, energyPlace}
+use Rattle.layout.specs.Words.{wordCount, period, energy, kindAt, allows, WordFault}
 use Rattle.layout.specs.declared.Layout.{Layout}
 use Rattle.taskset.specs.Quantities.{hyperLimit, jobTime, hyperPeriod}
-use Rattle.taskset.specs.Refusals.{IsBadWord, RateFault, IsNotAbove, IsBelowIdle, PassesLimit, IsTooLong, number, second, Check, _▹_, idleCheck, hyperCheck, wordChecks, idleChecks}
+use Rattle.taskset.specs.Refusals.{IsBadWord, RateFault, IsNotAbove, IsBelowIdle, PassesLimit, IsTooLong, number}
+use Rattle.taskset.specs.Refusals.{second, Check, _▹_, idleCheck, hyperCheck, wordChecks, idleChecks}
 use Rattle.taskset.specs.Calls.{CountsAfter, SetAfter}
 use Rattle.taskset.specs.declared.Refusal.the-variants.{BadWord, NotAbove, TooLong, BelowIdle}
 use Rattle.taskset.specs.declared.Shape.{Shape}
@@ -140,7 +142,8 @@ module _ (layout : Layout) (s : List ℕ) where
       ltb-false (firstRate t) (suc (rateCount layout s)) (first-before hasBelow 0 (taskCount layout s) t (omega arith) l) in
       rates-above t r a (omega arith) h
 
-  below-idle : firstTask < taskCount layout s → IsBelowIdle layout s (energyPlace layout (rateCount layout s) firstTask (firstRate firstTask))
+  below-idle : firstTask < taskCount layout s
+      → IsBelowIdle layout s (energyPlace layout (rateCount layout s) firstTask (firstRate firstTask))
   unfolding isBelow hasBelow
   below-idle h =
       let some = ltb-true _ _ (first-holds hasBelow 0 (taskCount layout s) h) in
@@ -192,7 +195,8 @@ module _ (layout : Layout) (s : List ℕ) where
       answer {x} e h = subst (CountsAfter (wordChecks layout s) layout s) (sym e) h
 
   -- 10 after 2 and 3.
-  cover-shape : (x : Shape) → CountsAfter (wordChecks layout s) layout s x → CountsAfter (idleChecks layout s) layout s (coverOf x)
+  cover-shape : (x : Shape) → CountsAfter (wordChecks layout s) layout s x
+      → CountsAfter (idleChecks layout s) layout s (coverOf x)
   unfolding coverOf
   cover-shape (Whole m n) h =
       ⊎-elim
@@ -203,12 +207,14 @@ module _ (layout : Layout) (s : List ℕ) where
       (accepts-next (wordChecks layout s) (idleCheck layout s) (h .0) (covered-passes layout s (none-below d)), h .1, h .2))
       (lt-or-le firstTask (taskCount layout s))
     where
-      answer : {x : Shape} → coverOf (Whole m n) ≡ x → CountsAfter (idleChecks layout s) layout s x → CountsAfter (idleChecks layout s) layout s (coverOf (Whole m n))
+      answer : {x : Shape} → coverOf (Whole m n) ≡ x → CountsAfter (idleChecks layout s) layout s x
+          → CountsAfter (idleChecks layout s) layout s (coverOf (Whole m n))
       answer {x} e w = subst (CountsAfter (idleChecks layout s) layout s) (sym e) w
   cover-shape (NotWhole r) h = refuses-before (wordChecks layout s) (idleCheck layout s) (number r) (second r) h
 
   -- 4 after any checks.
-  after-shape : (cs : List Check) (x : Shape) → CountsAfter cs layout s x → SetAfter (cs ▹ hyperCheck layout s) layout s (afterShape x)
+  after-shape : (cs : List Check) (x : Shape) → CountsAfter cs layout s x
+      → SetAfter (cs ▹ hyperCheck layout s) layout s (afterShape x)
   unfolding afterShape
   after-shape cs (Whole m n) h =
       ⊎-elim
@@ -218,7 +224,8 @@ module _ (layout : Layout) (s : List ℕ) where
       answer (cond-false _ _ _ (le-ltb _ _ d)) (accepts-next cs (hyperCheck layout s) (h .0) (λ q w. limit-pass d (w .0) (w .1 .here)), h .1, h .2, refl))
       (lt-or-le firstOver (taskCount layout s))
     where
-      answer : {x : Checked} → afterShape (Whole m n) ≡ x → SetAfter (cs ▹ hyperCheck layout s) layout s x → SetAfter (cs ▹ hyperCheck layout s) layout s (afterShape (Whole m n))
+      answer : {x : Checked} → afterShape (Whole m n) ≡ x → SetAfter (cs ▹ hyperCheck layout s) layout s x
+          → SetAfter (cs ▹ hyperCheck layout s) layout s (afterShape (Whole m n))
       answer {x} e w = subst (SetAfter (cs ▹ hyperCheck layout s) layout s) (sym e) w
   after-shape cs (NotWhole r) h = refuses-before cs (hyperCheck layout s) (number r) (second r) h
 

@@ -13,7 +13,8 @@ use Rattle.layout.specs.declared.Layout.{Layout}
 use Rattle.layout.specs.declared.Layout.the-variants.{Ordinary}
 use Rattle.taskset.specs.Quantities.{hyperLimit, jobTime, problem, workNeeded}
 use Rattle.taskset.specs.declared.Refusal.{Refusal}
-use Rattle.taskset.specs.declared.Refusal.the-variants.{TextDeparts, BadWord, NotAbove, TooLong, WorkShort, TooShort, NoPlan, BadPlan, EnergyOver, BelowIdle}
+use Rattle.taskset.specs.declared.Refusal.the-variants.{TextDeparts, BadWord, NotAbove, TooLong, WorkShort}
+use Rattle.taskset.specs.declared.Refusal.the-variants.{TooShort, NoPlan, BadPlan, EnergyOver, BelowIdle}
 
 -- The column 'Number', and the column 'Returned with it'; of document 02, "9, an energy worked out here is over
 -- 1,000,000, with the first such task's number", and "10, an energy below H × job time, with the first such energy's

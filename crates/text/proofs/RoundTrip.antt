@@ -10,7 +10,8 @@ use lib.ListN.{length, drop, drop-of-length-le}
 use lib.Seq.{drop-cons}
 use Rattle.numbers.specs.Numbers.{each, joined}
 use Rattle.numbers.proofs.Lists.{each-length, each-all}
-use Rattle.layout.specs.Words.{headKinds, extraKinds, headSize, extraSize, word, slack, idle, rateCount, taskCountPlace, taskCount, taskSize, periodPlace, rate, energy}
+use Rattle.layout.specs.Words.{headKinds, extraKinds, headSize, extraSize, word, slack, idle, rateCount, taskCountPlace}
+use Rattle.layout.specs.Words.{taskCount, taskSize, periodPlace, rate, energy}
 use Rattle.layout.proofs.Whole.{IsWhole, in-list, slack-in, idle-in}
 use Rattle.layout.specs.declared.Layout.the-variants.{Ordinary}
 use Rattle.text.specs.Text.{rates, Word, IdleOk, TaskLineOk, ScriptOk, idleOf, headWords, extraWords, taskWords, words}

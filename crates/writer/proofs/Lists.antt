@@ -9,7 +9,8 @@ use native.Mathlib.Omega.{arith}
 use lib.ListN.{length, getD, take, drop, length-append}
 use Rattle.numbers.specs.Numbers.{each, joined}
 use Rattle.numbers.proofs.Lists.{each-length, each-at}
-use Rattle.layout.specs.Words.{slackPlace, idlePlace, headSize, mostRates, mostTasks, word, idle, rateCount, taskCount, ratePlace, taskCountPlace, taskSize, energyPlace, rate, energy}
+use Rattle.layout.specs.Words.{slackPlace, idlePlace, headSize, mostRates, mostTasks, word, idle, rateCount, taskCount}
+use Rattle.layout.specs.Words.{ratePlace, taskCountPlace, taskSize, energyPlace, rate, energy}
 use Rattle.layout.specs.declared.Layout.the-variants.{Ordinary}
 use Rattle.layout.proofs.Layouts.{idle-in-head}
 use Rattle.layout.proofs.Whole.{in-list}

@@ -6,7 +6,8 @@ use Rattle.layout.specs.Words.{mostTasks, mostIdle}
 use Rattle.layout.specs.declared.Layout.the-variants.{Ordinary}
 use Rattle.taskset.specs.Quantities.{hyperLimit}
 use Rattle.options.proofs.Filling.{both-none}
-use Rattle.planner.proofs.Calls.{Prepared, hyper-fits, words-given, tasks-given, sum-given, none-fits, choice-ready, energy-fits, chosen-given}
+use Rattle.planner.proofs.Calls.{Prepared, hyper-fits, words-given, tasks-given, sum-given, none-fits}
+use Rattle.planner.proofs.Calls.{choice-ready, energy-fits, chosen-given}
 use borrow.Author.Needs.{needs}
 use Rattle.planner.proofs.plan_checked.Statement.{statement}
 use Rattle.planner.proofs.plan_checked.Tie as tie
@@ -62,7 +63,8 @@ idle-of-requires : tie.Need-idle-of-requires
 idle-of-requires c κs = words-given (prepared (start (put (summed (slacked (chosen c))))))
 
 -- With the idle energy of every tick the energy is the one reported, and small.
-fits : (c : tie.After-idle-of) → chosen (c .before) .choose .result .energy + c .idle-of .result * start (put (summed (slacked (chosen (c .before))))) .args .hyper
+fits : (c : tie.After-idle-of)
+    → chosen (c .before) .choose .result .energy + c .idle-of .result * start (put (summed (slacked (chosen (c .before))))) .args .hyper
     ≤ mostTasks * (hyperLimit * 1000000) + mostIdle * hyperLimit
 fits c =
     let e = chosen (c .before) in

@@ -25,7 +25,8 @@ same : (c : tie.Then1) → bytes "(idle " ++ (decimal (c .before .idle-of .resul
     ≡ idleLine (scriptOf (now (start (c .before) .args .w)) .idle)
 same c = idle-some _ _ (c .before .idle-of .ensures) (above c)
 
-fits : (c : tie.Then1) → length (bytes "(idle " ++ (decimal (c .before .idle-of .result) ++ bytes ")\n")) ≤ length (now (start (c .before) .args .buf))
+fits : (c : tie.Then1)
+    → length (bytes "(idle " ++ (decimal (c .before .idle-of .result) ++ bytes ")\n")) ≤ length (now (start (c .before) .args .buf))
 fits c = omega (arith, ap length (same c), start (c .before) .pre .1)
 
 idle-of-requires : tie.Need-idle-of-requires
