@@ -15,7 +15,8 @@ use Rattle.selection.specs.Plan.{IsPlan, planLoad, planEnergy}
 use Rattle.layout.specs.Words.{idle, rateCount, taskCount, taskSize, energyPlace, period, energy}
 use Rattle.layout.specs.declared.Layout.{Layout}
 use Rattle.layout.specs.declared.Layout.the-variants.{Ordinary}
-use Rattle.taskset.specs.Quantities.{jobTime, hyperPeriod, taskLoad, taskEnergy, taskNet, problem, reportedEnergy}
+use Rattle.taskset.specs.Quantities.{jobTime, hyperPeriod, taskLoad, taskEnergy, netEnergy, taskNet, problem}
+use Rattle.taskset.specs.Quantities.{jobsEnergy, reportedEnergy}
 use Rattle.taskset.specs.Refusals.{IsBelowIdle, Passes, idleCheck}
 use Rattle.taskset.proofs.Checks.{no-energy-fault}
 
@@ -117,3 +118,11 @@ reported-is s covered P plan fits =
       ap (λ (x : ℕ). idle s * x) free,
       mul-add (idle s) (planLoad (problem s) P) (hyperPeriod Ordinary s - planLoad (problem s) P),
     )
+
+-- Where idle ticks draw nothing, both are document 01's own: the energy per job, and the sum of the task energies.
+module _ (s : List ℕ) (nothing : idle s ≡ 0) where
+  pub net-without : (layout : Layout) (t r : ℕ) → netEnergy layout s t r ≡ energy layout s t r
+  net-without layout t r = rw nothing (omega arith)
+
+  pub reported-without : (P : List ℕ) → reportedEnergy s P ≡ jobsEnergy s P
+  reported-without P = rw nothing (omega arith)
