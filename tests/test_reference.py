@@ -739,6 +739,19 @@ def chip_errors():
         same('chip misread: ' + name, seen, True)
 
 
+def departures(kind):
+    """The two tests of where texts of a kind depart: at an offset, and which bytes go on behind a text."""
+    def at(name, text, offset):
+        same('%s, %s' % (kind, name), r.read_text(text, 1000), refused(1, offset))
+        same('%s, %s, the usual way' % (kind, name), plain_reader(text), offset)
+
+    def goes_on(name, text, bytes_):
+        found = bytes(byte for byte in range(256) if r.all_after(states_after(text), byte))
+        same('%s, after %s' % (kind, name), found, bytes_)
+
+    return at, goes_on
+
+
 def chip_offsets():
     """Where texts with a chip, and with what is not one, depart; and which bytes go on."""
     slack, rates = b'(slack 1)\n', b'(rates 1 2)\n'
@@ -746,15 +759,7 @@ def chip_offsets():
     bare = b'(task (period 1) (cycles 1))\n'
     given = b'(task (period 1) (cycles 1) (energy 1 1))\n'
 
-    def at(name, text, offset):
-        same('chip text, ' + name, r.read_text(text, 1000), refused(1, offset))
-        same('chip text, %s, the usual way' % name, plain_reader(text), offset)
-
-    def goes_on(name, text, bytes_):
-        states = states_after(text)
-        found = bytes(byte for byte in range(256)
-                      if any(r.next_states(state, byte) for state in states))
-        same('chip text, after ' + name, found, bytes_)
+    at, goes_on = departures('chip text')
 
     for label, line, name in (('xscale', xscale, b'xscale'), ('ppc405lp', ppc405lp, b'ppc405lp')):
         text = slack + line + bare
@@ -1100,13 +1105,7 @@ def idle_offsets():
     given = b'(task (period 1) (cycles 1) (energy 1 1))\n'
     bare = b'(task (period 1) (cycles 1))\n'
 
-    def at(name, text, offset):
-        same('idle text, ' + name, r.read_text(text, 1000), refused(1, offset))
-        same('idle text, %s, the usual way' % name, plain_reader(text), offset)
-
-    def goes_on(name, text, bytes_):
-        found = bytes(byte for byte in range(256) if r.all_after(states_after(text), byte))
-        same('idle text, after ' + name, found, bytes_)
+    at, goes_on = departures('idle text')
 
     for label, line, task in (('rates', rates, given), ('xscale', b'(chip xscale)\n', bare),
                               ('ppc405lp', b'(chip ppc405lp)\n', bare)):

@@ -121,7 +121,8 @@ idle-plan =
 
 pub idle-example-printed : Prints idle-910 idle-printed
 idle-example-printed =
-    planned (scriptOf (slow-or-fast 10 910)) (1 ∷ []) 1 90 100 1010 90 10 0 (read-script (slow-or-fast 10 910) idle-910 (idle-line-910 .text))
+    planned (scriptOf (slow-or-fast 10 910)) (1 ∷ []) 1 90 100 1010 90 10 0
+    (read-script (slow-or-fast 10 910) idle-910 (idle-line-910 .text))
     (subst (λ (w : List ℕ). PrintsPlan w (1 ∷ []) idle-printed 1 90 100 1010 90 10 0) (sym (idle-line-910 .words-are)) idle-plan)
 
 below : Refuses (plannerChecks (slow-or-fast 10 899) planLent workLent) 10 8
@@ -130,7 +131,8 @@ below =
     let work : List ℕ = replicate workLent 0 in
     let refuses : Refuses (plannerChecks (slow-or-fast 10 899) (length plan) (length work)) 10 8 = cases .idle-above plan work .0 in
     subst (λ (w : ℕ). Refuses (plannerChecks (slow-or-fast 10 899) planLent w) 10 8) (length-replicate {A = ℕ} workLent 0)
-    (subst (λ (p : ℕ). Refuses (plannerChecks (slow-or-fast 10 899) p (length work)) 10 8) (length-replicate {A = ℕ} planLent 0) refuses)
+    (subst (λ (p : ℕ). Refuses (plannerChecks (slow-or-fast 10 899) p (length work)) 10 8)
+    (length-replicate {A = ℕ} planLent 0) refuses)
 
 pub below-printed : Prints idle-899 (bytes "(refused 10 8)\n")
 below-printed =

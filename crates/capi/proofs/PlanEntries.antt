@@ -105,7 +105,8 @@ module _ (s plan work d : List ℕ) where
         let energy-is : energy ≡ reportedEnergy s P = cc in
         let load-read : resultAt d′ 1 ≡ load = read 1 (omega arith) (omega (arith, load-is, fits .fits, set .hyper-range .1)) in
         let hyper-read : resultAt d′ 2 ≡ hyper = read 2 (omega arith) (omega (arith, hyper-is, set .hyper-range .1)) in
-        let energy-read : resultAt d′ 3 ≡ energy = read 3 (omega arith) (omega (arith, energy-is, energy-small Ordinary s set P (fits .plan) (hyperPeriod Ordinary s - planLoad (problem s) P) (omega arith))) in
+        let energy-read : resultAt d′ 3 ≡ energy = read 3 (omega arith)
+        (omega (arith, energy-is, energy-small Ordinary s set P (fits .plan) (hyperPeriod Ordinary s - planLoad (problem s) P) (omega arith))) in
         record {
           gives = inl (Planned unit load hyper energy, accepted, c .gives, refl, bytes);
           numbers = λ z. c .numbers;

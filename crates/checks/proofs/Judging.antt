@@ -114,7 +114,8 @@ module _ {layout : Layout} {s : List ℕ} {m n : ℕ} (o : OfCounts layout m n s
     pub below-idle : CountsAfter (idleCheck layout s ∷ []) layout s (NotWhole (BelowIdle (energyPlace layout m t r)))
     below-idle =
         let first : IsBelowIdle layout s (energyPlace layout (rateCount layout s) t r) =
-        first-below layout s t r (omega (arith, o .numbered)) (rates .from) (omega (arith, low, o .counted)) (rates .hit (omega (arith, low)))
+        first-below layout s t r (omega (arith, o .numbered)) (rates .from) (omega (arith, low, o .counted))
+        (rates .hit (omega (arith, low)))
         (λ u l q a b x. tasks .none u (omega arith) l (q, a, omega (arith, o .counted), x))
         (λ q a l x. rates .none q a l x) in
         inl (refl, subst (λ (x : ℕ). IsBelowIdle layout s (energyPlace layout x t r)) (sym (o .counted)) first)

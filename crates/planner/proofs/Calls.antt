@@ -172,7 +172,13 @@ module _ {s plan work : List ℕ} {m n l : ℕ} (prepared : Prepared s plan work
             plan-is = chose .planned .chosen .ok .plan
 
             fits-set : planLoad (problem s) (take n plan′) ≤ hyperPeriod Ordinary s
-            fits-set = omega (arith, chose .planned .chosen .ok .fits, load-same chosenFrom (problem s) same (take n plan′) plan-is, good .3)
+            fits-set = omega (
+              arith,
+              chose .planned .chosen .ok .fits,
+              load-same chosenFrom (problem s) same
+                  (take n plan′) plan-is,
+              good .3,
+            )
 
             energy-is : c .energy + idle s * hyperPeriod Ordinary s ≡ reportedEnergy s (take n plan′)
             energy-is =

@@ -100,8 +100,12 @@ module _ (s : List ℕ) where
 
   -- A refusal of checks 2, 3, 10 or 4 is the planner's, whatever is lent.
   set-refused : (r : Refusal) → checked ≡ NotGood r → Declined s r
-  set-refused r e plan work =
-      (refuses-early set (plannerChecks s (length plan) (length work)) (same (same (same (same nothing)))) (number r) (second r) (answered (NotGood r) e), refl, refl)
+  set-refused r e plan work = (
+    refuses-early set (plannerChecks s (length plan) (length work)) (same (same (same (same nothing)))) (number r)
+        (second r) (answered (NotGood r) e),
+    refl,
+    refl,
+  )
 
   module _ (m n l : ℕ) (e : checked ≡ Good m n l) where
     passes : Accepts set
@@ -113,7 +117,8 @@ module _ (s : List ℕ) where
     -- Too few working words.
     work-short : (plan work : List ℕ) → length work < workNeeded s → PlannerGives s plan work plan work (NotPlanned (WorkShort (workNeeded s)))
     work-short plan work h = (
-      refuses-early (set ▹ workCheck (workNeeded s) (length work)) (plannerChecks s (length plan) (length work)) (same (same (same (same (same nothing))))) 5 (workNeeded s)
+      refuses-early (set ▹ workCheck (workNeeded s) (length work)) (plannerChecks s (length plan) (length work))
+          (same (same (same (same (same nothing))))) 5 (workNeeded s)
           (refuses-next set (workCheck (workNeeded s) (length work)) (workNeeded s) passes (h, refl)),
       refl,
       refl,
@@ -132,7 +137,8 @@ module _ (s : List ℕ) where
 
     -- A plan, where just the words needed are lent.
     planned : (P : List ℕ) (a unit load energy : ℕ) → 1 ≤ rateCount Ordinary s → planLoad (problem s) (fastest (problem s)) ≤ L → length P ≡ taskCount Ordinary s
-        → usedExponent (problem s) (slack s) ≡ a → choose (problem s) (2 ^ a) ≡ P → 2 ^ a ≡ unit → planLoad (problem s) P ≡ load → reportedEnergy s P ≡ energy
+        → usedExponent (problem s) (slack s) ≡ a → choose (problem s) (2 ^ a) ≡ P → 2 ^ a ≡ unit
+        → planLoad (problem s) P ≡ load → reportedEnergy s P ≡ energy
         → (plan work : List ℕ) → length plan ≡ taskCount Ordinary s → length work ≡ workNeeded s
         → PlannerGives s plan work P (replicate (workNeeded s) 0) (Planned unit load l energy)
     planned P a unit load energy some-rate fits size used chosen u w j plan work p q =
@@ -305,7 +311,13 @@ cases = record {
   idle-counts = planned (slow-or-fast 10 910) 2 1 100 refl (1 ∷ []) 0 1 90 1010
       (le-by-compare _ _ tt) (le-by-compare _ _ tt) refl refl refl refl refl refl;
   walk-idle = (walks (slow-or-fast 10 910) 2 1 100 refl (1 ∷ []) refl, refl);
-  jobs-alone = (refl, refl, refl, walk-owes (slow-or-fast 10 910) (2 ∷ []) (Kept 10 90 0) (walks (slow-or-fast 10 910) 2 1 100 refl (2 ∷ []) refl, refl) .0);
+  jobs-alone = (
+    refl,
+    refl,
+    refl,
+    walk-owes (slow-or-fast 10 910) (2 ∷ []) (Kept 10 90 0)
+        (walks (slow-or-fast 10 910) 2 1 100 refl (2 ∷ []) refl, refl) .0,
+  );
   jobs-alone-false = λ h. let bound : 1000 * 910 ≤ 1100 * 200 = h in omega arith;
   idle-nothing = planned (slow-or-fast 0 910) 2 1 100 refl (2 ∷ []) 3 8 10 200
       (le-by-compare _ _ tt) (le-by-compare _ _ tt) refl refl refl refl refl refl;

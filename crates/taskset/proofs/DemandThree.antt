@@ -60,7 +60,8 @@ module _ (s : List ℕ) (set : IsSet Ordinary s) where
             let other = keeps-iff-fits Q .0 k in
             rw (own, reported-is s covered P (mine .plan) (mine .fits), reported-is s covered Q (other .plan) (other .fits))
             (more-on-both (slack s) (planEnergy (problem s) P) (planEnergy (problem s) Q) (idle s * hyperPeriod Ordinary s)
-            (planned-within (Fitting (problem s)) (problem s) (slack s) (c .exponent) (slack-in Ordinary s (set .whole) .1) P (c .planned) Q other));
+            (planned-within (Fitting (problem s)) (problem s) (slack s) (c .exponent)
+            (slack-in Ordinary s (set .whole) .1) P (c .planned) Q other));
       }
 
   -- No plan fits exactly when no plan keeps every deadline for ever.
@@ -122,7 +123,8 @@ module _ (s plan work : List ℕ) where
   answer-owes plan′ work′ (Planned unit load hyper energy) g =
       let ready = accepts-but-last before (noneCheck (Fitting (problem s))) (g .0) in
       rw (g .1 .2 .front)
-      (plan-given s (ready-set s (length plan) (length work) ready) (ready-covered s (length plan) (length work) ready) (g .1 .0) unit load hyper energy (g .1 .1))
+      (plan-given s (ready-set s (length plan) (length work) ready)
+      (ready-covered s (length plan) (length work) ready) (g .1 .0) unit load hyper energy (g .1 .1))
   answer-owes plan′ work′ (NotPlanned r) g =
       let owes = refusal-owes s before (ready-set s (length plan) (length work)) (ready-not-7 s (length plan) (length work)) (number r) (second r) (g .0) in
       (owes .0, (λ w. owes .1 w .0))

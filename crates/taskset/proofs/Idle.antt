@@ -100,7 +100,8 @@ module _ (layout : Layout) (s : List ℕ) (covered : Covered layout s) where
       whole-energy (hyperPeriod layout s / period layout s t) (energy layout s t r) (idle s) (jobTime layout s t r) (covered t r l a b)
 
   pub energies-are : (P : List ℕ) → ((t : ℕ) → t < taskCount layout s → 1 ≤ getD P t 0) → ((t : ℕ) → t < taskCount layout s → getD P t 0 ≤ rateCount layout s)
-      → total (taskEnergy layout s) (taskCount layout s) P ≡ total (taskNet layout s) (taskCount layout s) P + idle s * total (taskLoad layout s) (taskCount layout s) P
+      → total (taskEnergy layout s) (taskCount layout s) P
+      ≡ total (taskNet layout s) (taskCount layout s) P + idle s * total (taskLoad layout s) (taskCount layout s) P
   energies-are P above below =
       total-shared (taskEnergy layout s) (taskNet layout s) (taskLoad layout s) (idle s) (taskCount layout s) P
       (λ t l. task-energy-is t (getD P t 0) l (above t l) (below t l))

@@ -127,13 +127,15 @@ module _ (layout : Layout) (s : List ℕ) where
 
     -- With at most 1,000 microjoules for each idle tick.
     pub energy-small : (P : List ℕ) → IsPlan (problemOf layout s) P → (free : ℕ) → free ≤ hyperPeriod layout s
-        → total (taskEnergy layout s) (taskCount layout s) P + idle s * free ≤ mostTasks * (hyperLimit * 1000000) + mostIdle * hyperLimit
+        → total (taskEnergy layout s) (taskCount layout s) P + idle s * free
+        ≤ mostTasks * (hyperLimit * 1000000) + mostIdle * hyperLimit
     energy-small P p free few =
         omega (
           arith,
           total-bound (taskEnergy layout s) (hyperLimit * 1000000) (taskCount layout s) P (λ t l. task-energy-small t (getD P t 0) l (p .above t l) (p .below t l)),
           set .whole .tasks-range .1,
-          mul-le-mul {n₁ = idle s} {m₁ = free} {n₂ = mostIdle} {m₂ = hyperLimit} (idle-in layout s (set .whole)) (omega (arith, set .hyper-range .1)),
+          mul-le-mul {n₁ = idle s} {m₁ = free} {n₂ = mostIdle} {m₂ = hyperLimit} (idle-in layout s (set .whole))
+              (omega (arith, set .hyper-range .1)),
         )
 
     -- The walk's tasks under a list of rate numbers.

@@ -117,7 +117,8 @@ over-by-cycles c g o ts t is k h = over-iff c g o ts (is .script) k h
 -- one, its periods and its cycles are in their ranges: of what the tables bring nothing is refused.
 pub chip-passes : (c : Chip) (g : ℕ) (o : Option ℕ) (ts : List TaskLine) (t d d′ : List ℕ) (n : ℕ)
     → let s : Script = chipScript c g o ts in
-    IsTextOf s t → ReaderGives t d d′ (Wrote n) → (1 ≤ g) × (g ≤ 1000) → IdleIn o → All LineIn ts → Accepts (wordChecks Ordinary (words s))
+    IsTextOf s t → ReaderGives t d d′ (Wrote n) → (1 ≤ g) × (g ≤ 1000) → IdleIn o → All LineIn ts → Accepts
+    (wordChecks Ordinary (words s))
 chip-passes c g o ts t d d′ n is gives slack-in idle-in lines-in =
     list-passes c g o ts (is .script) slack-in idle-in lines-in
     (passes-over (chipScript c g o ts) t is (passed 9 (readerChecks t (length d)) refl (gives .0)))

@@ -73,8 +73,12 @@ loop-less c = omega arith
 
 passed : tie.Need-loop-again Inv-loop μ-loop
 passed c =
-    let e = c .before in
-    (omega arith, omega arith, none-more (omega arith) (at-loop e .loop .inv .2) (λ h. omega (arith, c .if1 .left, e .energy-of .ensures, drawn e)))
+    let e = c .before in (
+      omega arith,
+      omega arith,
+      none-more (omega arith) (at-loop e .loop .inv .2)
+          (λ h. omega (arith, c .if1 .left, e .energy-of .ensures, drawn e)),
+    )
 
 returns-2 : tie.Need-returns-2 Inv-loop μ-loop
 returns-2 c = found-end (omega arith) (c .before .loop .inv .2) (omega arith)

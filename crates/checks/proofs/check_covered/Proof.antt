@@ -22,7 +22,8 @@ check-hyper-requires : tie.Need-check-hyper-requires
 check-hyper-requires c κs =
     let sh = c .before in
     let a = sh .before .before .before .before .args in
-    let shape = subst (CountsAfter (idleChecks (a .layout) (a .s .now)) (a .layout) (a .s .now)) (sh .shape2 .given .1) (sh .before .before .check-energies .ensures) in
+    let shape = subst (CountsAfter (idleChecks (a .layout) (a .s .now)) (a .layout) (a .s .now))
+    (sh .shape2 .given .1) (sh .before .before .check-energies .ensures) in
     has-tasks (a .layout) (a .s .now) _ _ (passed 2 (idleChecks (a .layout) (a .s .now)) refl (shape .0)) (shape .1) (shape .2)
 
 returns : tie.Need-returns
@@ -30,14 +31,16 @@ returns c =
     let sh = c .before in
     let a = sh .before .before .before .before .args in
     let r = sh .shape .given .0 .0 in
-    let shape = subst (CountsAfter (idleChecks (a .layout) (a .s .now)) (a .layout) (a .s .now)) (sh .shape .given .1) (sh .before .before .check-energies .ensures) in
+    let shape = subst (CountsAfter (idleChecks (a .layout) (a .s .now)) (a .layout) (a .s .now))
+    (sh .shape .given .1) (sh .before .before .check-energies .ensures) in
     refuses-before (idleChecks (a .layout) (a .s .now)) (hyperCheck (a .layout) (a .s .now)) (number r) (second r) shape
 
 returns-2 : tie.Need-returns-2
 returns-2 c =
     let sh = c .before .before in
     let a = sh .before .before .before .before .args in
-    let shape = subst (CountsAfter (idleChecks (a .layout) (a .s .now)) (a .layout) (a .s .now)) (sh .shape2 .given .1) (sh .before .before .check-energies .ensures) in
+    let shape = subst (CountsAfter (idleChecks (a .layout) (a .s .now)) (a .layout) (a .s .now))
+    (sh .shape2 .given .1) (sh .before .before .check-energies .ensures) in
     after (idleChecks (a .layout) (a .s .now)) (a .layout) (a .s .now) (shape .0) (c .check-hyper .result) (c .check-hyper .ensures)
 
 pub check-covered-spec : {M : Type 1} → statement M

@@ -22,7 +22,8 @@ check-idle-requires : tie.Need-check-idle-requires
 check-idle-requires c κs =
     let sh = c .before in
     let a = sh .before .before .before .before .args in
-    let shape = subst (CountsAfter (wordChecks (a .layout) (a .s .now)) (a .layout) (a .s .now)) (sh .shape2 .given .1) (sh .before .before .check-words .ensures) in
+    let shape = subst (CountsAfter (wordChecks (a .layout) (a .s .now)) (a .layout) (a .s .now))
+    (sh .shape2 .given .1) (sh .before .before .check-words .ensures) in
     of-counts (a .layout) (a .s .now) _ _ (passed 2 (wordChecks (a .layout) (a .s .now)) refl (shape .0)) (shape .1) (shape .2)
 
 returns : tie.Need-returns
@@ -30,15 +31,18 @@ returns c =
     let sh = c .before in
     let a = sh .before .before .before .before .args in
     let r = sh .shape .given .0 .0 in
-    let shape = subst (CountsAfter (wordChecks (a .layout) (a .s .now)) (a .layout) (a .s .now)) (sh .shape .given .1) (sh .before .before .check-words .ensures) in
+    let shape = subst (CountsAfter (wordChecks (a .layout) (a .s .now)) (a .layout) (a .s .now))
+    (sh .shape .given .1) (sh .before .before .check-words .ensures) in
     refuses-before (wordChecks (a .layout) (a .s .now)) (idleCheck (a .layout) (a .s .now)) (number r) (second r) shape
 
 returns-2 : tie.Need-returns-2
 returns-2 c =
     let sh = c .before .before in
     let a = sh .before .before .before .before .args in
-    let shape = subst (CountsAfter (wordChecks (a .layout) (a .s .now)) (a .layout) (a .s .now)) (sh .shape2 .given .1) (sh .before .before .check-words .ensures) in
-    after-counts (wordChecks (a .layout) (a .s .now)) (idleCheck (a .layout) (a .s .now)) (a .layout) (a .s .now) (shape .0) (c .check-idle .result) (c .check-idle .ensures)
+    let shape = subst (CountsAfter (wordChecks (a .layout) (a .s .now)) (a .layout) (a .s .now))
+    (sh .shape2 .given .1) (sh .before .before .check-words .ensures) in
+    after-counts (wordChecks (a .layout) (a .s .now)) (idleCheck (a .layout) (a .s .now)) (a .layout) (a .s .now)
+    (shape .0) (c .check-idle .result) (c .check-idle .ensures)
 
 pub check-energies-spec : {M : Type 1} → statement M
 check-energies-spec =

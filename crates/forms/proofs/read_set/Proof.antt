@@ -318,7 +318,8 @@ set-read c =
     (clock k .item) in
     gives {a = s} {i = n .lines .given .0 .1 .0} (is-read n)
     (ap (λ (v : Said). got v (n .lines .given .0 .1 .0)) (sym (said-is s _ _ _ _ (clock k .shows) m (tasks n .shows) size)))
-    (set-words s (head k .slack ∷ c .before .idle-energy .result ∷ []) (now (first k .args .out)) (tasks-call n .tasks .last .1 .1 .0) _ _ _ _
+    (set-words s (head k .slack ∷ c .before .idle-energy .result ∷ []) (now (first k .args .out))
+    (tasks-call n .tasks .last .1 .1 .0) _ _ _ _
     (ap (λ (h : ℕ). head k .slack ∷ h ∷ []) (c .before .idle-energy .ensures ∙ idle k))
     (head-call (front-of k) .head-size .ensures) (c .before .before .task-count-place .ensures)
     m (tasks n .shows) (omega (arith, sizes r, first k .pre))

@@ -11,7 +11,8 @@ use Rattle.options.proofs.put_task.Statement.{statement}
 use Rattle.options.proofs.put_task.Tie as tie
 
 abbrev Inv-loop : tie.InvT-loop
-Inv-loop loads₀ energies₀ set layout m hyper t jobs h r₀ loads energies r = (1 ≤ r) × (r ≤ m + 1) × LaidBoth layout set m t r loads energies
+Inv-loop loads₀ energies₀ set layout m hyper t jobs h r₀ loads energies r =
+    (1 ≤ r) × (r ≤ m + 1) × LaidBoth layout set m t r loads energies
 
 abbrev μ-loop : tie.MeasureT-loop
 μ-loop loads₀ energies₀ set layout m hyper t jobs h r₀ loads energies r = m + 1 - r
