@@ -49,8 +49,8 @@ module _ (s : List ℕ) (accepts : Accepts (plannerChecks s planLent workLent)) 
     pub plan-length : length P ≤ mostTasks
     plan-length = omega (arith, is-plan .size, tasks-few)
 
-    -- Demand 3.
-    pub promise : PlanPromise s P energy
+    -- Demand 3, with note 5's margin.
+    pub promise : PlanPromise s P unit energy
     promise = plan-given s is-set (ready-covered s planLent workLent ready) P unit load hyper energy selected
 
     -- After a plan the walk is kept: there is no other line.

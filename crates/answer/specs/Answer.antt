@@ -64,11 +64,12 @@ RespondGives t d d′ (NotCopied r) =
     (out : List ℕ) × Prints t out × Refuses (outputChecks (length out) (length d)) (number r) (second r) × (d′ ≡ d)
 
 -- The call's contract: the above; and demand 3 of whatever it prints: a plan keeps every deadline for ever, its energy
--- is its own and within the slack of the least; and the planner's refusal is 7 exactly when the checks before 7 pass
--- and no plan keeps every deadline for ever.
+-- is its own and within the slack of the least, and with the unit printed within note 5's margin; and the planner's
+-- refusal is 7 exactly when the checks before 7 pass and no plan keeps every deadline for ever.
 pub record Responds (t d d′ : List ℕ) (a : CopyAnswer) : Type 0 where
   pub gives : RespondGives t d d′ a
   pub promise : (s : Script) (P out : List ℕ) (unit load hyper energy busy idle preempted : ℕ)
-      → IsTextOf s t → PrintsPlan (words s) P out unit load hyper energy busy idle preempted → PlanPromise (words s) P energy
+      → IsTextOf s t → PrintsPlan (words s) P out unit load hyper energy busy idle preempted
+      → PlanPromise (words s) P unit energy
   pub seven-iff : (s : Script) → IsTextOf s t
       → Refuses (plannerChecks (words s) planLent workLent) 7 0 ↔ (Accepts (readyChecks (words s) planLent workLent) × NoneKeeps (words s))

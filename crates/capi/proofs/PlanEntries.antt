@@ -20,6 +20,7 @@ use Rattle.taskset.proofs.Checks.{Without, without-by, accepts-but-last, accept
 use Rattle.taskset.proofs.Sets.{IsSet, energy-small}
 use Rattle.taskset.proofs.Small.{planner-second-small}
 use Rattle.taskset.proofs.DemandThree.{refusal-owes, ready-set}
+use Rattle.taskset.proofs.Margin.{unit-small, margin-small}
 use Rattle.planner.specs.Answers.{PlannerCall}
 use Rattle.capi.specs.Entry.{resultBytes, resultAt, resultSize, beforeSeven, planEntryChecks, PlanEntry}
 use Rattle.capi.proofs.Bytes.{result-value}
@@ -58,6 +59,7 @@ module _ (s plan work d : List ℕ) where
           gives = inr (r, h, e, (p, w), refl);
           numbers = λ z. absurd (none z);
           promise = λ z. absurd (none z);
+          margin-fits = λ z. absurd (none z);
           load-is = λ z. absurd (none z);
           hyper-is = λ z. absurd (none z);
           seven-iff = ((λ z. owes .0 (omega (arith, e))), (λ n. let both = owes .1 n in omega (arith, e, both .0, both .1)));
@@ -100,17 +102,24 @@ module _ (s plan work d : List ℕ) where
         let P = c .gives .1 .0 in
         let values = c .gives .1 .1 .values-are in
         let fits = c .gives .1 .1 .planned .chosen .ok in
+        let small = margin-small s set P (c .gives .1 .1 .exponent) (c .gives .1 .1 .planned) in
+        let unit-is : unit ≡ 2 ^ c .gives .1 .1 .exponent = cc in
         let load-is : load ≡ planLoad (problem s) P = cc in
         let hyper-is : hyper ≡ hyperPeriod Ordinary s = cc in
         let energy-is : energy ≡ reportedEnergy s P = cc in
+        let unit-read : resultAt d′ 0 ≡ unit = read 0 (omega arith)
+        (omega (arith, unit-is, unit-small s set P (c .gives .1 .1 .exponent) (c .gives .1 .1 .planned))) in
         let load-read : resultAt d′ 1 ≡ load = read 1 (omega arith) (omega (arith, load-is, fits .fits, set .hyper-range .1)) in
         let hyper-read : resultAt d′ 2 ≡ hyper = read 2 (omega arith) (omega (arith, hyper-is, set .hyper-range .1)) in
         let energy-read : resultAt d′ 3 ≡ energy = read 3 (omega arith)
         (omega (arith, energy-is, energy-small Ordinary s set P (fits .plan) (hyperPeriod Ordinary s - planLoad (problem s) P) (omega arith))) in
+        let promise-read : PlanPromise s (take (taskCount Ordinary s) plan′) (resultAt d′ 0) (resultAt d′ 3) =
+        rw (unit-read, energy-read) (c .owes) in
         record {
           gives = inl (Planned unit load hyper energy, accepted, c .gives, refl, bytes);
           numbers = λ z. c .numbers;
-          promise = λ z. subst (PlanPromise s (take (taskCount Ordinary s) plan′)) (sym energy-read) (c .owes);
+          promise = λ z. promise-read;
+          margin-fits = λ z. rw (unit-read, unit-is) (omega (arith, small));
           load-is = λ z. load-read ∙ load-is ∙ ap (planLoad (problem s)) (sym (c .gives .1 .2 .front));
           hyper-is = λ z. hyper-read ∙ hyper-is;
           seven-iff = ((λ z. absurd (omega arith)), (λ n. absurd (n .1 (take (taskCount Ordinary s) plan′) (c .owes .keeps))));

@@ -60,8 +60,8 @@ chosen-least Ok p d P c = record { plan = P; ok = c .ok; reached = refl; least =
 module _ (Ok : List ℕ → Type 0) (p : Problem) where
   -- ---- the bounds on the energy
   -- Note 5: the chosen plan's energy exceeds that of any Ok plan by at most N × (unit - 1).
-  pub margin : (d : ℕ) → 0 < d → (P : List ℕ) → IsChosenOf Ok p d P → (Q : List ℕ) → Ok Q → planEnergy p P ≤ planEnergy p Q + p .count * (d - 1)
-  margin d pos P c Q f = omega (arith, rounded-covers p d pos P, rounded-over p d pos Q, mul-le-mul-left d (c .least-energy Q f))
+  pub within-margin : (d : ℕ) → 0 < d → (P : List ℕ) → IsChosenOf Ok p d P → (Q : List ℕ) → Ok Q → planEnergy p P ≤ planEnergy p Q + p .count * (d - 1)
+  within-margin d pos P c Q f = omega (arith, rounded-covers p d pos P, rounded-over p d pos Q, mul-le-mul-left d (c .least-energy Q f))
 
   -- Document 000, Lemma 2: where G × k(d) reaches 2,000 × N, or the unit is 1, the chosen plan is within the slack of
   -- every Ok plan.
@@ -69,7 +69,7 @@ module _ (Ok : List ℕ → Type 0) (p : Problem) where
       → (Q : List ℕ) → Ok Q → 1000 * planEnergy p P ≤ (1000 + G) * planEnergy p Q
   within-slack G d pos small P c (inl one) Q f =
       let m : p .count * (d - 1) ≡ 0 = rw one (omega arith) in
-      omega (arith, margin d pos P c Q f)
+      omega (arith, within-margin d pos P c Q f)
   within-slack G d pos small P c (inr stop) Q f =
       let n : ℕ = p .count in
       let over : d * rounded p d P ≤ planEnergy p Q + n * d
@@ -79,13 +79,34 @@ module _ (Ok : List ℕ → Type 0) (p : Problem) where
       pred-le : (d : ℕ) → d - 1 ≤ d
       pred-le d = omega arith
 
-  -- Demand 3's bound, for the unit used and the plan chosen.
-  pub planned-within : (G a : ℕ) → G ≤ 1000 → (P : List ℕ) → IsPlannedOf Ok p G a P → (Q : List ℕ) → Ok Q → 1000 * planEnergy p P ≤ (1000 + G) * planEnergy p Q
-  planned-within G a small P h Q f = within-slack G (2 ^ a) (power-positive a) small P (h .chosen) (stop (h .used .stops)) Q f
+  -- The unit used is 1, or qualifies with the chosen plan's own rounded energy.
+  stopped : (G a : ℕ) (P : List ℕ) → IsPlannedOf Ok p G a P → (2 ^ a ≡ 1) ⊎ (threshold p ≤ G * rounded p (2 ^ a) P)
+  stopped G a P h = stop (h .used .stops)
     where
       stop : (a ≡ 0) ⊎ QualifiesOf Ok p G (2 ^ a) → (2 ^ a ≡ 1) ⊎ (threshold p ≤ G * rounded p (2 ^ a) P)
       stop (inl z) = inl (rw z refl)
       stop (inr q) = inr (rw (least-unique Ok p (2 ^ a) (rounded p (2 ^ a) P) (q .0) (chosen-least Ok p (2 ^ a) P (h .chosen)) (q .1)) (q .2))
+
+  -- Demand 3's bound, for the unit used and the plan chosen.
+  pub planned-within : (G a : ℕ) → G ≤ 1000 → (P : List ℕ) → IsPlannedOf Ok p G a P → (Q : List ℕ) → Ok Q → 1000 * planEnergy p P ≤ (1000 + G) * planEnergy p Q
+  planned-within G a small P h Q f = within-slack G (2 ^ a) (power-positive a) small P (h .chosen) (stopped G a P h) Q f
+
+  -- With a slack of at most 500 note 5's margin is no more than the slack allows: than G / (1000 + G) of the energy.
+  pub margin-in-slack : (G a : ℕ) → G ≤ 500 → (P : List ℕ) → IsPlannedOf Ok p G a P → p .count * (2 ^ a - 1) * (1000 + G) ≤ planEnergy p P * G
+  margin-in-slack G a small P h = at (2 ^ a) (power-positive a) (stopped G a P h)
+    where
+      at : (d : ℕ) → 0 < d → (d ≡ 1) ⊎ (threshold p ≤ G * rounded p d P) → p .count * (d - 1) * (1000 + G) ≤ planEnergy p P * G
+      at d pos (inl one) = let none : p .count * (d - 1) ≡ 0 = rw one (omega arith) in rw none (omega arith)
+      at d pos (inr stop) =
+          let m : ℕ = p .count * (d - 1) in
+          let less : d - 1 ≤ d = omega arith in
+          omega (
+            arith,
+            mul-le-mul-left G (rounded-over p d pos P),
+            mul-le-mul-left d stop,
+            mul-le-mul-left (p .count) less,
+            mul-le-mul-right m small,
+          )
 
   -- ---- the rounded energies stay small
   -- k(d) is at most 2 × k(2d).

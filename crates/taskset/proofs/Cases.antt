@@ -2,13 +2,13 @@
 -- every marked one, each of the call's whole answer, and the unmarked refusals of a set; with document 02's. Of its note
 -- 4: "Later places move up by one; document 01's example lists .. hold 0 there", so that a quoted place 3 is 4 here.
 -- Assumes nothing.
-use Prim.Native.Nat.{ℕ, _*_, _^_, _≤_, _<_}
+use Prim.Native.Nat.{ℕ, _+_, _*_, _^_, _≤_, _<_}
 use mathlib.Core.Path.{_≡_, refl, sym, _∙_, subst}
 use mathlib.Core.Option.{none, some}
 use mathlib.Core.List.{List, [], _∷_, append-nil}
 use native.Mathlib.Bridge.{le-by-compare, IsLe}
 use native.Mathlib.Omega.{arith}
-use lib.ListN.{length, replicate, drop-of-length-le}
+use lib.ListN.{length, replicate, length-replicate, drop-of-length-le}
 use lib.Seq.{take-all}
 use Rattle.numbers.specs.Numbers.{total, gcdIn, gcd, lcm, running}
 use Rattle.numbers.proofs.Search.{seek}
@@ -25,7 +25,7 @@ use Rattle.taskset.specs.Refusals.{number, second, Check, Accepts, _▹_
 use Rattle.taskset.specs.Refusals.{workCheck, roomCheck, noneCheck, planCheck, readyChecks, plannerChecks}
 use Rattle.taskset.specs.Refusals.{walkChecks}
 use Rattle.taskset.specs.Calls.{code, plannerValues, walkValues, SetAfter, PlannerGives, WalkAnswers}
-use Rattle.taskset.specs.DemandThree.{Keeps, PlanPromise}
+use Rattle.taskset.specs.DemandThree.{Keeps, margin, IsLeast, PlanPromise}
 use Rattle.taskset.specs.declared.Refusal.{Refusal}
 use Rattle.taskset.specs.declared.Refusal.the-variants.{BadWord, NotAbove, TooLong, WorkShort, TooShort, NoPlan, BadPlan, BelowIdle}
 use Rattle.taskset.specs.declared.Checked.{Checked}
@@ -37,7 +37,8 @@ use Rattle.taskset.proofs.Verdict.{isBad, isFall, isOver, isBelow, hasB
 use Rattle.taskset.proofs.Verdict.{checkedOf, coveredOf, checked-answers, covered-answers}
 use Rattle.taskset.proofs.PlanVerdict.{isUnfit, planVerdict, PlanSays, plan-verdict-says}
 use Rattle.taskset.proofs.Sets.{IsSet, set-of, falling}
-use Rattle.taskset.proofs.DemandThree.{walk-owes}
+use Rattle.taskset.proofs.DemandThree.{answer-owes, walk-owes}
+use Rattle.taskset.proofs.Margin.{allowance, margin-reached}
 
 -- "The set list S", with slack G.
 unfoldable pub S : ℕ → List ℕ
@@ -74,6 +75,14 @@ slow-or-fast h e = 100 ∷ h ∷ 2 ∷ 1 ∷ 9 ∷ 1 ∷ 100 ∷ 90 ∷ e ∷ 20
 -- Idle energy 10, two rates, two tasks whose jobs take 4 and 2 ticks; periods p and q.
 idle-tasks : ℕ → ℕ → ℕ → ℕ → ℕ → ℕ → List ℕ
 idle-tasks p q a b c d = 100 ∷ 10 ∷ 2 ∷ 1 ∷ 2 ∷ 2 ∷ p ∷ 4 ∷ a ∷ b ∷ q ∷ 4 ∷ c ∷ d ∷ []
+
+-- Slack 1,000, idle energy h, rates 1 2, one task of period 10 and 10 cycles with energies e and f: its jobs take 10 ticks
+-- or 5. And two such tasks of period 20.
+two-energies : ℕ → ℕ → ℕ → List ℕ
+two-energies h e f = 1000 ∷ h ∷ 2 ∷ 1 ∷ 2 ∷ 1 ∷ 10 ∷ 10 ∷ e ∷ f ∷ []
+
+twice : ℕ → ℕ → List ℕ
+twice e f = 1000 ∷ 0 ∷ 2 ∷ 1 ∷ 2 ∷ 2 ∷ 20 ∷ 10 ∷ e ∷ f ∷ 20 ∷ 10 ∷ e ∷ f ∷ []
 
 -- Two rates and one task, with a last word that may be missing or be followed by more.
 with-rates : ℕ → ℕ → List ℕ → List ℕ
@@ -200,6 +209,27 @@ module _ (s : List ℕ) where
           let bad = subst (PlanSays (rateCount Ordinary s) (taskCount Ordinary s) P) v (plan-verdict-says (rateCount Ordinary s) (taskCount Ordinary s) P) in
           refuses-next walked (planCheck Ordinary s P) k (walk-answered (Good m n l) e .0) bad
 
+-- ---- a plan given, with just the words needed lent, and its promise
+abbrev Given : (s P : List ℕ) (unit load hyper energy : ℕ) → Type 0
+Given s P unit load hyper energy =
+    (plan work : List ℕ) → length plan ≡ taskCount Ordinary s → length work ≡ workNeeded s
+    → PlannerGives s plan work P (replicate (workNeeded s) 0) (Planned unit load hyper energy)
+
+module _ (s P : List ℕ) (unit load hyper energy : ℕ) (size : length P ≤ taskCount Ordinary s) (given : Given s P unit load hyper energy) where
+  promised : PlanPromise s P unit energy
+  promised =
+      let plan : List ℕ = replicate (taskCount Ordinary s) 0 in
+      let work : List ℕ = replicate (workNeeded s) 0 in
+      subst (λ (R : List ℕ). PlanPromise s R unit energy) (take-all (taskCount Ordinary s) P size)
+      (answer-owes s plan work P work (Planned unit load hyper energy)
+      (given plan work (length-replicate (taskCount Ordinary s) 0) (length-replicate (workNeeded s) 0)))
+
+  -- A plan whose walk is kept, with an energy that is just the margin below: it has the least.
+  least-by-margin : (Q : List ℕ) (busy idle preempted : ℕ) → WalkAnswers s Q (Kept busy idle preempted)
+      → energy ≡ reportedEnergy s Q + margin s unit → IsLeast s Q (reportedEnergy s Q)
+  least-by-margin Q busy idle preempted w =
+      margin-reached s P unit energy promised Q (walk-owes s Q (Kept busy idle preempted) w .0)
+
 -- ---- the cases
 pub record Cases : Type 0 where
   -- (M) "S: plan 2 1, unit 1, load 29, energy 41." (M) "S has W = 243".
@@ -265,6 +295,30 @@ pub record Cases : Type 0 where
   not-by-walk : WalkAnswers (idle-tasks 10 10 40 20 39 20) (1 ∷ 1 ∷ []) (Kept 8 2 0)
   -- "H in microjoules per tick, 0 to 1,000".
   idle-1001 : Declined (slow-or-fast 1001 910) (BadWord 1)
+  -- Document 02, note 5. With energies 33 and 64, at unit 32 both round to 2, and the lower load decides: plan 2, energy
+  -- 64, which is 31 above the least. So no smaller margin than 1 × (32 - 1) would hold; nor one of the jobs alone, with
+  -- idle energy.
+  margin-31 : (plan work : List ℕ) → length plan ≡ 1 → length work ≡ 10
+      → PlannerGives (two-energies 0 33 64) plan work (2 ∷ []) (replicate 10 0) (Planned 32 5 10 64)
+  margin-31-reached : (margin (two-energies 0 33 64) 32 ≡ 31) × IsLeast (two-energies 0 33 64) (1 ∷ []) 33
+  idle-margin : (plan work : List ℕ) → length plan ≡ 1 → length work ≡ 10
+      → PlannerGives (two-energies 1 43 69) plan work (2 ∷ []) (replicate 10 0) (Planned 32 5 10 74)
+  idle-margin-reached : (margin (two-energies 1 43 69) 32 ≡ 31) × IsLeast (two-energies 1 43 69) (1 ∷ []) 43
+  -- With 3 and 4 the unit is 2, the energy 4 and the least 3: at unit 2 nothing is 'the least'. Two such tasks together
+  -- cost 8, and 6 is the least: the margin counts every task.
+  unit-2 : (plan work : List ℕ) → length plan ≡ 1 → length work ≡ 10
+      → PlannerGives (two-energies 0 3 4) plan work (2 ∷ []) (replicate 10 0) (Planned 2 5 10 4)
+  unit-2-above : IsLeast (two-energies 0 3 4) (1 ∷ []) 3 × (IsLeast (two-energies 0 3 4) (2 ∷ []) 4 → ⊥)
+  both-tasks : (plan work : List ℕ) → length plan ≡ 2 → length work ≡ 27
+      → PlannerGives (twice 3 4) plan work (2 ∷ 2 ∷ []) (replicate 27 0) (Planned 2 10 20 8)
+  both-tasks-reached : (margin (twice 3 4) 2 ≡ 2) × IsLeast (twice 3 4) (1 ∷ 1 ∷ []) 6
+  -- "With unit 1 it is therefore the least there is": 41, for S.
+  pub least-41 : IsLeast (S 100) (2 ∷ 1 ∷ []) 41
+  -- Where the slack allows less than the margin: "one task whose task energy is 33 at every rate, with slack 1,000", 16
+  -- against 31; and where the margin does, 31 against 32.
+  unit-32 : (plan work : List ℕ) → length plan ≡ 1 → length work ≡ 10
+      → PlannerGives (two-energies 0 33 33) plan work (2 ∷ []) (replicate 10 0) (Planned 32 5 10 33)
+  allowances : (allowance (two-energies 0 33 33) 33 ≡ 16) × (margin (two-energies 0 33 33) 32 ≡ 31) × (allowance (two-energies 0 33 64) 64 ≡ 32)
   -- A chip's list: its plan, and the walk of it.
   pub planned-chip : (plan work : List ℕ) → length plan ≡ 2 → length work ≡ 51
       → PlannerGives chip-set plan work (2 ∷ 2 ∷ []) (replicate 51 0) (Planned 128 20 40 1680)
@@ -272,7 +326,7 @@ pub record Cases : Type 0 where
   -- Attempt 1, "A planner that gives every task the fastest rate": plan 3 3 for S has load 12 and energy 120. It fits;
   -- but plan 2 1 keeps every deadline for ever too, with 41, and demand 3's bound stops 120.
   pub plan-3-3 : (planLoad (problem (S 100)) (3 ∷ 3 ∷ []) ≡ 12) × (reportedEnergy (S 100) (3 ∷ 3 ∷ []) ≡ 120) × Keeps (S 100) (3 ∷ 3 ∷ [])
-  pub plan-3-3-stopped : PlanPromise (S 100) (3 ∷ 3 ∷ []) 120 → ⊥
+  pub plan-3-3-stopped : (unit : ℕ) → PlanPromise (S 100) (3 ∷ 3 ∷ []) unit 120 → ⊥
   -- What C is given: 0 and the values, or the refusal's number and second number in one.
   returns : (code (WorkShort 243) ≡ 21474836723) × (code (BadPlan 1) ≡ 34359738369)
   values : (plannerValues (Planned 1 29 30 41) ≡ 1 ∷ 29 ∷ 30 ∷ 41 ∷ []) × (walkValues (Kept 29 1 1) ≡ 1 ∷ 29 ∷ 1 ∷ 1 ∷ []) × (walkValues (Missed 15 2) ≡ 0 ∷ 15 ∷ 2 ∷ 0 ∷ [])
@@ -283,64 +337,107 @@ pub record Cases : Type 0 where
   empty-plan : WalkAnswers (S 100) [] (NotWalked (BadPlan 0))
 
 pub cases : Cases
-unfolding S one-task one-period two-periods chip-set even-tasks with-rates slow-or-fast idle-tasks checkedOf coveredOf shapeOf coverOf afterShape isBad isFall isOver isBelow hasBelow headKinds extraKinds kindIn kindAt headKind taskKind allows isUnfit planVerdict seek total gcdIn gcd lcm running fastest exponent usedExponent usedFrom leastEnergy cell best leastOf firstOf via spend trace choose IsLe
-cases = record {
-  planned-100 = planned (S 100) 3 2 30 refl (2 ∷ 1 ∷ []) 0 1 29 41 (le-by-compare _ _ tt) (le-by-compare _ _ tt) refl refl refl refl refl refl;
-  work-242 = λ plan work h. work-short (S 100) 3 2 30 refl plan work (omega arith);
-  planned-1000 = planned (S 1000) 3 2 30 refl (1 ∷ 2 ∷ []) 3 8 28 42 (le-by-compare _ _ tt) (le-by-compare _ _ tt) refl refl refl refl refl refl;
-  walk-of-1-1 = (walks (S 100) 3 2 30 refl (1 ∷ 1 ∷ []) refl, refl);
-  walk-of-2-1 = (walks (S 100) 3 2 30 refl (2 ∷ 1 ∷ []) refl, refl);
-  load-of-1-3 = refl;
-  walk-of-1-4 = plan-refused (S 100) 3 2 30 refl (1 ∷ 4 ∷ []) 1 refl;
-  cycles-60 = planned (one-task 60) 2 1 30 refl (2 ∷ []) 0 1 30 6 (le-by-compare _ _ tt) (le-by-compare _ _ tt) refl refl refl refl refl refl;
-  cycles-61 = no-plan (one-task 61) 2 1 30 refl (le-by-compare _ _ tt) (le-by-compare _ _ tt);
-  slack-0 = set-refused (S 0) (BadWord 0) refl;
-  empty = set-refused [] (BadWord 0) refl;
-  rates-4-4 = set-refused (with-rates 4 4 (9 ∷ [])) (NotAbove 4) refl;
-  periods-too-long = set-refused (two-periods 9999999 10000000) (TooLong 10) refl;
-  period-10000000 = answered (one-period 10000000) (Good 2 1 10000000) refl;
-  bad-rate-count = set-refused (100 ∷ 0 ∷ 9 ∷ 2 ∷ []) (BadWord 2) refl;
-  bad-task-count = set-refused (100 ∷ 0 ∷ 2 ∷ 2 ∷ 4 ∷ 33 ∷ 10 ∷ []) (BadWord 5) refl;
-  missing = set-refused (with-rates 2 4 []) (BadWord 9) refl;
-  left-over = set-refused (with-rates 2 4 (9 ∷ 1 ∷ [])) (BadWord 10) refl;
-  short-plan = plan-refused (S 100) 3 2 30 refl (1 ∷ []) 1 refl;
-  long-plan = plan-refused (S 100) 3 2 30 refl (1 ∷ 1 ∷ 1 ∷ []) 2 refl;
-  long-bad-plan = plan-refused (S 100) 3 2 30 refl (1 ∷ 1 ∷ 9 ∷ 9 ∷ []) 2 refl;
-  plan-list-1 = λ plan work p q. plan-short (S 100) 3 2 30 refl plan work (omega arith) (omega arith);
-  tie = planned even-tasks 2 2 4 refl (2 ∷ 1 ∷ []) 0 1 4 6 (le-by-compare _ _ tt) (le-by-compare _ _ tt) refl refl refl refl refl refl;
-  idle-counts = planned (slow-or-fast 10 910) 2 1 100 refl (1 ∷ []) 0 1 90 1010
-      (le-by-compare _ _ tt) (le-by-compare _ _ tt) refl refl refl refl refl refl;
-  walk-idle = (walks (slow-or-fast 10 910) 2 1 100 refl (1 ∷ []) refl, refl);
-  jobs-alone = (
-    refl,
-    refl,
-    refl,
-    walk-owes (slow-or-fast 10 910) (2 ∷ []) (Kept 10 90 0)
-        (walks (slow-or-fast 10 910) 2 1 100 refl (2 ∷ []) refl, refl) .0,
-  );
-  jobs-alone-false = λ h. let bound : 1000 * 910 ≤ 1100 * 200 = h in omega arith;
-  idle-nothing = planned (slow-or-fast 0 910) 2 1 100 refl (2 ∷ []) 3 8 10 200
-      (le-by-compare _ _ tt) (le-by-compare _ _ tt) refl refl refl refl refl refl;
-  idle-equal = planned (slow-or-fast 10 900) 2 1 100 refl (1 ∷ []) 0 1 90 1000
-      (le-by-compare _ _ tt) (le-by-compare _ _ tt) refl refl refl refl refl refl;
-  idle-above = set-refused (slow-or-fast 10 899) (BelowIdle 8) refl;
-  nothing-left = planned (idle-tasks 10 10 40 20 40 20) 2 2 10 refl (2 ∷ 2 ∷ []) 0 1 4 100
-      (le-by-compare _ _ tt) (le-by-compare _ _ tt) refl refl refl refl refl refl;
-  first-task = set-refused (idle-tasks 10 10 40 19 39 20) (BelowIdle 9) refl;
-  second-task = set-refused (idle-tasks 10 10 40 20 39 20) (BelowIdle 12) refl;
-  before-4 = set-refused (idle-tasks 9999999 10000000 40 20 39 20) (BelowIdle 12) refl;
-  after-4 = set-refused (idle-tasks 9999999 10000000 40 20 40 20) (TooLong 10) refl;
-  not-by-walk = (walks (idle-tasks 10 10 40 20 39 20) 2 2 10 refl (1 ∷ 1 ∷ []) refl, refl);
-  idle-1001 = set-refused (slow-or-fast 1001 910) (BadWord 1) refl;
-  planned-chip = planned chip-set 4 2 40 refl (2 ∷ 2 ∷ []) 7 128 20 1680
-      (le-by-compare _ _ tt) (le-by-compare _ _ tt) refl refl refl refl refl refl;
-  walk-chip = (walks chip-set 4 2 40 refl (2 ∷ 2 ∷ []) refl, refl);
-  plan-3-3 = (refl, refl, walk-owes (S 100) (3 ∷ 3 ∷ []) (Kept 12 18 0) (walks (S 100) 3 2 30 refl (3 ∷ 3 ∷ []) refl, refl) .0);
-  plan-3-3-stopped = λ p.
-      let other : Keeps (S 100) (2 ∷ 1 ∷ []) = walk-owes (S 100) (2 ∷ 1 ∷ []) (Kept 29 1 1) (walks (S 100) 3 2 30 refl (2 ∷ 1 ∷ []) refl, refl) .0 in
-      let bound : 1000 * 120 ≤ 1100 * 41 = p .within (2 ∷ 1 ∷ []) other in
-      omega arith;
-  returns = (refl, refl);
-  values = (refl, refl, refl);
-  empty-plan = plan-refused (S 100) 3 2 30 refl [] 0 refl;
-}
+unfolding S one-task one-period two-periods chip-set even-tasks with-rates slow-or-fast idle-tasks two-energies twice checkedOf coveredOf shapeOf coverOf afterShape isBad isFall isOver isBelow hasBelow headKinds extraKinds kindIn kindAt headKind taskKind allows isUnfit planVerdict seek total gcdIn gcd lcm running fastest exponent usedExponent usedFrom leastEnergy cell best leastOf firstOf via spend trace choose IsLe
+cases =
+    let by-33-64 : Given (two-energies 0 33 64) (2 ∷ []) 32 5 10 64
+    = planned (two-energies 0 33 64) 2 1 10 refl (2 ∷ []) 5 32 5 64
+    (le-by-compare _ _ tt) (le-by-compare _ _ tt) refl refl refl refl refl refl in
+    let by-43-69 : Given (two-energies 1 43 69) (2 ∷ []) 32 5 10 74
+    = planned (two-energies 1 43 69) 2 1 10 refl (2 ∷ []) 5 32 5 74
+    (le-by-compare _ _ tt) (le-by-compare _ _ tt) refl refl refl refl refl refl in
+    let by-3-4 : Given (two-energies 0 3 4) (2 ∷ []) 2 5 10 4
+    = planned (two-energies 0 3 4) 2 1 10 refl (2 ∷ []) 1 2 5 4
+    (le-by-compare _ _ tt) (le-by-compare _ _ tt) refl refl refl refl refl refl in
+    let by-twice : Given (twice 3 4) (2 ∷ 2 ∷ []) 2 10 20 8
+    = planned (twice 3 4) 2 2 20 refl (2 ∷ 2 ∷ []) 1 2 10 8
+    (le-by-compare _ _ tt) (le-by-compare _ _ tt) refl refl refl refl refl refl in
+    let of-S : Given (S 100) (2 ∷ 1 ∷ []) 1 29 30 41
+    = planned (S 100) 3 2 30 refl (2 ∷ 1 ∷ []) 0 1 29 41 (le-by-compare _ _ tt) (le-by-compare _ _ tt) refl refl refl refl refl refl in
+    record {
+      planned-100 = of-S;
+      work-242 = λ plan work h. work-short (S 100) 3 2 30 refl plan work (omega arith);
+      planned-1000 = planned (S 1000) 3 2 30 refl (1 ∷ 2 ∷ []) 3 8 28 42 (le-by-compare _ _ tt) (le-by-compare _ _ tt) refl refl refl refl refl refl;
+      walk-of-1-1 = (walks (S 100) 3 2 30 refl (1 ∷ 1 ∷ []) refl, refl);
+      walk-of-2-1 = (walks (S 100) 3 2 30 refl (2 ∷ 1 ∷ []) refl, refl);
+      load-of-1-3 = refl;
+      walk-of-1-4 = plan-refused (S 100) 3 2 30 refl (1 ∷ 4 ∷ []) 1 refl;
+      cycles-60 = planned (one-task 60) 2 1 30 refl (2 ∷ []) 0 1 30 6 (le-by-compare _ _ tt) (le-by-compare _ _ tt) refl refl refl refl refl refl;
+      cycles-61 = no-plan (one-task 61) 2 1 30 refl (le-by-compare _ _ tt) (le-by-compare _ _ tt);
+      slack-0 = set-refused (S 0) (BadWord 0) refl;
+      empty = set-refused [] (BadWord 0) refl;
+      rates-4-4 = set-refused (with-rates 4 4 (9 ∷ [])) (NotAbove 4) refl;
+      periods-too-long = set-refused (two-periods 9999999 10000000) (TooLong 10) refl;
+      period-10000000 = answered (one-period 10000000) (Good 2 1 10000000) refl;
+      bad-rate-count = set-refused (100 ∷ 0 ∷ 9 ∷ 2 ∷ []) (BadWord 2) refl;
+      bad-task-count = set-refused (100 ∷ 0 ∷ 2 ∷ 2 ∷ 4 ∷ 33 ∷ 10 ∷ []) (BadWord 5) refl;
+      missing = set-refused (with-rates 2 4 []) (BadWord 9) refl;
+      left-over = set-refused (with-rates 2 4 (9 ∷ 1 ∷ [])) (BadWord 10) refl;
+      short-plan = plan-refused (S 100) 3 2 30 refl (1 ∷ []) 1 refl;
+      long-plan = plan-refused (S 100) 3 2 30 refl (1 ∷ 1 ∷ 1 ∷ []) 2 refl;
+      long-bad-plan = plan-refused (S 100) 3 2 30 refl (1 ∷ 1 ∷ 9 ∷ 9 ∷ []) 2 refl;
+      plan-list-1 = λ plan work p q. plan-short (S 100) 3 2 30 refl plan work (omega arith) (omega arith);
+      tie = planned even-tasks 2 2 4 refl (2 ∷ 1 ∷ []) 0 1 4 6 (le-by-compare _ _ tt) (le-by-compare _ _ tt) refl refl refl refl refl refl;
+      idle-counts = planned (slow-or-fast 10 910) 2 1 100 refl (1 ∷ []) 0 1 90 1010
+          (le-by-compare _ _ tt) (le-by-compare _ _ tt) refl refl refl refl refl refl;
+      walk-idle = (walks (slow-or-fast 10 910) 2 1 100 refl (1 ∷ []) refl, refl);
+      jobs-alone = (
+        refl,
+        refl,
+        refl,
+        walk-owes (slow-or-fast 10 910) (2 ∷ []) (Kept 10 90 0)
+            (walks (slow-or-fast 10 910) 2 1 100 refl (2 ∷ []) refl, refl) .0,
+      );
+      jobs-alone-false = λ h. let bound : 1000 * 910 ≤ 1100 * 200 = h in omega arith;
+      idle-nothing = planned (slow-or-fast 0 910) 2 1 100 refl (2 ∷ []) 3 8 10 200
+          (le-by-compare _ _ tt) (le-by-compare _ _ tt) refl refl refl refl refl refl;
+      idle-equal = planned (slow-or-fast 10 900) 2 1 100 refl (1 ∷ []) 0 1 90 1000
+          (le-by-compare _ _ tt) (le-by-compare _ _ tt) refl refl refl refl refl refl;
+      idle-above = set-refused (slow-or-fast 10 899) (BelowIdle 8) refl;
+      nothing-left = planned (idle-tasks 10 10 40 20 40 20) 2 2 10 refl (2 ∷ 2 ∷ []) 0 1 4 100
+          (le-by-compare _ _ tt) (le-by-compare _ _ tt) refl refl refl refl refl refl;
+      first-task = set-refused (idle-tasks 10 10 40 19 39 20) (BelowIdle 9) refl;
+      second-task = set-refused (idle-tasks 10 10 40 20 39 20) (BelowIdle 12) refl;
+      before-4 = set-refused (idle-tasks 9999999 10000000 40 20 39 20) (BelowIdle 12) refl;
+      after-4 = set-refused (idle-tasks 9999999 10000000 40 20 40 20) (TooLong 10) refl;
+      not-by-walk = (walks (idle-tasks 10 10 40 20 39 20) 2 2 10 refl (1 ∷ 1 ∷ []) refl, refl);
+      idle-1001 = set-refused (slow-or-fast 1001 910) (BadWord 1) refl;
+      margin-31 = by-33-64;
+      margin-31-reached = (
+        refl,
+        least-by-margin (two-energies 0 33 64) (2 ∷ []) 32 5 10 64 (le-by-compare _ _ tt) by-33-64 (1 ∷ []) 10 0 0
+            (walks (two-energies 0 33 64) 2 1 10 refl (1 ∷ []) refl, refl) refl,
+      );
+      idle-margin = by-43-69;
+      idle-margin-reached = (
+        refl,
+        least-by-margin (two-energies 1 43 69) (2 ∷ []) 32 5 10 74 (le-by-compare _ _ tt) by-43-69 (1 ∷ []) 10 0 0
+            (walks (two-energies 1 43 69) 2 1 10 refl (1 ∷ []) refl, refl) refl,
+      );
+      unit-2 = by-3-4;
+      unit-2-above =
+          let cheaper : IsLeast (two-energies 0 3 4) (1 ∷ []) 3
+          = least-by-margin (two-energies 0 3 4) (2 ∷ []) 2 5 10 4 (le-by-compare _ _ tt) by-3-4 (1 ∷ []) 10 0 0
+          (walks (two-energies 0 3 4) 2 1 10 refl (1 ∷ []) refl, refl) refl in
+          (cheaper, (λ l. let below : 4 ≤ 3 = l .least (1 ∷ []) (cheaper .keeps) in omega arith));
+      both-tasks = by-twice;
+      both-tasks-reached = (
+        refl,
+        least-by-margin (twice 3 4) (2 ∷ 2 ∷ []) 2 10 20 8 (le-by-compare _ _ tt) by-twice (1 ∷ 1 ∷ []) 20 0 0
+            (walks (twice 3 4) 2 2 20 refl (1 ∷ 1 ∷ []) refl, refl) refl,
+      );
+      least-41 = promised (S 100) (2 ∷ 1 ∷ []) 1 29 30 41 (le-by-compare _ _ tt) of-S .least refl;
+      unit-32 = planned (two-energies 0 33 33) 2 1 10 refl (2 ∷ []) 5 32 5 33
+          (le-by-compare _ _ tt) (le-by-compare _ _ tt) refl refl refl refl refl refl;
+      allowances = (refl, refl, refl);
+      planned-chip = planned chip-set 4 2 40 refl (2 ∷ 2 ∷ []) 7 128 20 1680
+          (le-by-compare _ _ tt) (le-by-compare _ _ tt) refl refl refl refl refl refl;
+      walk-chip = (walks chip-set 4 2 40 refl (2 ∷ 2 ∷ []) refl, refl);
+      plan-3-3 = (refl, refl, walk-owes (S 100) (3 ∷ 3 ∷ []) (Kept 12 18 0) (walks (S 100) 3 2 30 refl (3 ∷ 3 ∷ []) refl, refl) .0);
+      plan-3-3-stopped = λ unit p.
+          let other : Keeps (S 100) (2 ∷ 1 ∷ []) = walk-owes (S 100) (2 ∷ 1 ∷ []) (Kept 29 1 1) (walks (S 100) 3 2 30 refl (2 ∷ 1 ∷ []) refl, refl) .0 in
+          let bound : 1000 * 120 ≤ 1100 * 41 = p .within (2 ∷ 1 ∷ []) other in
+          omega arith;
+      returns = (refl, refl);
+      values = (refl, refl, refl);
+      empty-plan = plan-refused (S 100) 3 2 30 refl [] 0 refl;
+    }

@@ -1,9 +1,9 @@
 -- DEMAND 3. For a set that passes checks 2, 3, 10 and 4, whatever document 01 selects keeps every deadline for ever, its
 -- energy is its own over the hyper-period, with its idle energy, and no plan that keeps every deadline for ever is cheaper
--- by more than the slack, with that plan's idle energy; and no plan fits exactly when no plan keeps every deadline for
--- ever. All of it is judged by the endless walk.
+-- by more than the slack, or by more than the margin of document 02's note 5, with that plan's idle energy; and no plan
+-- fits exactly when no plan keeps every deadline for ever. All of it is judged by the endless walk.
 -- Assumes nothing.
-use Prim.Native.Nat.{ℕ, _+_, _*_, _≤_, _<_}
+use Prim.Native.Nat.{ℕ, _+_, _-_, _*_, _^_, _≤_, _<_}
 use native.Mathlib.Nat.{mul-add, mul-le-mul-right}
 use mathlib.Core.Path.{_≡_, refl, sym, subst, _∙_}
 use mathlib.Core.Bool.{true, false, true≢false}
@@ -12,17 +12,18 @@ use mathlib.Core.Logic.{inl, inr, ⊎-elim, _↔_}
 use native.Mathlib.Omega.{arith}
 use lib.ListN.{length, getD}
 use Rattle.numbers.specs.Numbers.{between}
+use Rattle.numbers.proofs.Powers.{power-positive}
 use Rattle.numbers.proofs.Tests.{bool-cases, lt-or-le, between-true, true-between}
 use Rattle.schedule.specs.Walk.{KeepsForEver}
 use Rattle.schedule.specs.Counted.{Outcome, IsKept, walk, kept, missed}
 use Rattle.schedule.proofs.Finite.{kept-iff-keeps, kept-counts}
-use Rattle.selection.specs.Plan.{Fitting, IsPlan, planLoad, planEnergy}
-use Rattle.selection.proofs.Bounds.{planned-within}
+use Rattle.selection.specs.Plan.{Fitting, IsPlan, IsPlanned, planLoad, planEnergy}
+use Rattle.selection.proofs.Bounds.{planned-within, within-margin}
 use Rattle.layout.specs.Words.{slack, idle, rateCount, taskCount}
 use Rattle.taskset.specs.Quantities.{hyperPeriod, problem, endlessTasks, walkTasks, reportedEnergy}
 use Rattle.taskset.specs.Refusals.{number, second, Check, Accepts, Refuses, _▹_, NoneOk, PlanFault, IsBadPlan, noneCheck, readyChecks, walkChecks}
 use Rattle.taskset.specs.Calls.{plannerValues, Selected, PlannerGives, outcomeValues, WalkAnswers}
-use Rattle.taskset.specs.DemandThree.{Keeps, PlanPromise, NoneKeeps, PlannerOwes, WalkOwes}
+use Rattle.taskset.specs.DemandThree.{Keeps, margin, PlanPromise, NoneKeeps, PlannerOwes, WalkOwes}
 use Rattle.taskset.specs.declared.PlannerAnswer.{PlannerAnswer}
 use Rattle.taskset.specs.declared.PlannerAnswer.the-variants.{Planned, Refused as NotPlanned}
 use Rattle.taskset.specs.declared.WalkAnswer.{WalkAnswer}
@@ -45,23 +46,51 @@ module _ (s : List ℕ) (set : IsSet Ordinary s) where
     λ f. record { plan = f .plan; for-ever = keeps-iff-load Ordinary s set Q .1 (f .fits) },
   )
 
-  -- A plan given keeps demand 3's promise: selection bounds what every plan costs over H × L, and every plan that keeps
-  -- its deadlines costs that besides.
+  -- The plan selected, with 2 ^ a the unit used, of a set that passes 10. Selection bounds what every plan costs over
+  -- H × L, and every plan that keeps its deadlines costs that besides, this one too: so both bounds go over.
+  module _ (covered : Covered Ordinary s) (P : List ℕ) (a : ℕ) (planned : IsPlanned (problem s) (slack s) a P) where
+    reported : (Q : List ℕ) → Fitting (problem s) Q
+        → reportedEnergy s Q ≡ planEnergy (problem s) Q + idle s * hyperPeriod Ordinary s
+    reported Q f = reported-is s covered Q (f .plan) (f .fits)
+
+    in-slack : (Q : List ℕ) → Keeps s Q → 1000 * reportedEnergy s P ≤ (1000 + slack s) * reportedEnergy s Q
+    in-slack Q k =
+        let fits = keeps-iff-fits Q .0 k in
+        rw (reported P (planned .chosen .ok), reported Q fits)
+        (more-on-both (slack s) (planEnergy (problem s) P) (planEnergy (problem s) Q) (idle s * hyperPeriod Ordinary s)
+        (planned-within (Fitting (problem s)) (problem s) (slack s) a (slack-in Ordinary s (set .whole) .1) P planned Q fits))
+
+    -- Note 5's.
+    in-margin : (Q : List ℕ) → Keeps s Q → reportedEnergy s P ≤ reportedEnergy s Q + margin s (2 ^ a)
+    in-margin Q k =
+        let fits = keeps-iff-fits Q .0 k in
+        omega (
+          arith,
+          reported P (planned .chosen .ok),
+          reported Q fits,
+          within-margin (Fitting (problem s)) (problem s) (2 ^ a) (power-positive a) P (planned .chosen) Q fits,
+        )
+
+  -- A plan given keeps demand 3's promise, and note 5's.
   pub plan-given : Covered Ordinary s → (P : List ℕ) (unit load hyper energy : ℕ)
-      → Selected s P (plannerValues (Planned unit load hyper energy)) → PlanPromise s P energy
+      → Selected s P (plannerValues (Planned unit load hyper energy)) → PlanPromise s P unit energy
   plan-given covered P unit load hyper energy c =
       let e = c .values-are in
       let own : energy ≡ reportedEnergy s P = cc in
-      let mine = c .planned .chosen .ok in
+      let unit-is : unit ≡ 2 ^ c .exponent = cc in
+      let keeps = keeps-iff-fits P .1 (c .planned .chosen .ok) in
+      let bound : (Q : List ℕ) → Keeps s Q → energy ≤ reportedEnergy s Q + margin s unit
+      = λ Q k. rw (own, unit-is) (in-margin covered P (c .exponent) (c .planned) Q k) in
       record {
-        keeps = keeps-iff-fits P .1 mine;
+        keeps = keeps;
         own = own;
-        within = λ Q k.
-            let other = keeps-iff-fits Q .0 k in
-            rw (own, reported-is s covered P (mine .plan) (mine .fits), reported-is s covered Q (other .plan) (other .fits))
-            (more-on-both (slack s) (planEnergy (problem s) P) (planEnergy (problem s) Q) (idle s * hyperPeriod Ordinary s)
-            (planned-within (Fitting (problem s)) (problem s) (slack s) (c .exponent)
-            (slack-in Ordinary s (set .whole) .1) P (c .planned) Q other));
+        within = λ Q k. rw own (in-slack covered P (c .exponent) (c .planned) Q k);
+        from-1 = rw unit-is (power-positive (c .exponent));
+        within-margin = λ Q k. omega (arith, bound Q k);
+        least = λ one.
+            let none : unit - 1 ≡ 0 = omega arith in
+            let no-margin : margin s unit ≡ 0 = rw none (omega arith) in
+            record { keeps = keeps; own = own; least = λ Q k. omega (arith, bound Q k) };
       }
 
   -- No plan fits exactly when no plan keeps every deadline for ever.

@@ -5,6 +5,7 @@ pub mod Sets
 pub mod Idle
 pub mod Small
 pub mod DemandThree
+pub mod Margin
 pub mod Copied
 pub mod Writing
 pub mod Stores

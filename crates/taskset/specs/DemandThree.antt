@@ -1,6 +1,6 @@
 -- Demand 3 of the order, at the level of word lists. It is judged by the endless walk: `KeepsForEver` of the set's
 -- tasks under a plan.
-use Prim.Native.Nat.{ℕ, _+_, _*_, _≤_}
+use Prim.Native.Nat.{ℕ, _+_, _-_, _*_, _≤_}
 use mathlib.Core.Path.{_≡_}
 use mathlib.Core.List.{List}
 use mathlib.Core.Logic.{_↔_}
@@ -22,13 +22,28 @@ pub record Keeps (s Q : List ℕ) : Type 0 where
   pub plan : IsPlan (problem s) Q
   pub for-ever : KeepsForEver (endlessTasks Ordinary s Q)
 
--- Of a plan given with an energy: it keeps every deadline for ever; the energy is its own, with what is drawn in idle
--- ticks; and (1000 + slack) × the energy of every plan that keeps every deadline for ever is at least 1000 × the energy
--- returned: "the 1000 + slack comparison is made between such totals".
-pub record PlanPromise (s P : List ℕ) (energy : ℕ) : Type 0 where
+-- "at most N × (unit - 1)" (document 02, note 5).
+abbrev pub margin : List ℕ → ℕ → ℕ
+margin s unit = taskCount Ordinary s * (unit - 1)
+
+-- "the least there is": the energy of P, which keeps every deadline for ever, and at most that of every plan that does.
+pub record IsLeast (s P : List ℕ) (energy : ℕ) : Type 0 where
+  pub keeps : Keeps s P
+  pub own : energy ≡ reportedEnergy s P
+  pub least : (Q : List ℕ) → Keeps s Q → energy ≤ reportedEnergy s Q
+
+-- Of a plan given with a unit and an energy: it keeps every deadline for ever; the energy is its own, with what is drawn
+-- in idle ticks; and (1000 + slack) × the energy of every plan that keeps every deadline for ever is at least 1000 × the
+-- energy returned: "the 1000 + slack comparison is made between such totals". Of note 5: "the reported energy exceeds
+-- that of every plan that keeps its deadlines by at most N × (unit - 1). With unit 1 it is therefore the least there
+-- is". No unit is 0, so that unit - 1 is what it says.
+pub record PlanPromise (s P : List ℕ) (unit energy : ℕ) : Type 0 where
   pub keeps : Keeps s P
   pub own : energy ≡ reportedEnergy s P
   pub within : (Q : List ℕ) → Keeps s Q → 1000 * energy ≤ (1000 + slack s) * reportedEnergy s Q
+  pub from-1 : 1 ≤ unit
+  pub within-margin : (Q : List ℕ) → Keeps s Q → energy ≤ reportedEnergy s Q + margin s unit
+  pub least : unit ≡ 1 → IsLeast s P energy
 
 -- No plan keeps every deadline for ever.
 abbrev pub NoneKeeps : List ℕ → Type 0
@@ -38,7 +53,8 @@ NoneKeeps s = (Q : List ℕ) → Keeps s Q → ⊥
 -- its promise; and "Demand 3 allows 7 only where no plan keeps every deadline for ever": a refusal is 7 exactly when
 -- the checks before it pass and none does.
 abbrev pub PlannerOwes : (s plan work plan′ : List ℕ) → PlannerAnswer → Type 0
-PlannerOwes s plan work plan′ (Planned unit load hyper energy) = PlanPromise s (take (taskCount Ordinary s) plan′) energy
+PlannerOwes s plan work plan′ (Planned unit load hyper energy) =
+    PlanPromise s (take (taskCount Ordinary s) plan′) unit energy
 PlannerOwes s plan work plan′ (NotPlanned r) = (number r ≡ 7) ↔ (Accepts (readyChecks s (length plan) (length work)) × NoneKeeps s)
 
 -- What the walk owes with its answer: 'kept' if and only if the plan keeps every deadline for ever, and then busy is
