@@ -79,12 +79,12 @@ module _ (s : List ℕ) (set : IsSet Ordinary s) where
       let own : energy ≡ reportedEnergy s P = cc in
       let unit-is : unit ≡ 2 ^ c .exponent = cc in
       let keeps = keeps-iff-fits P .1 (c .planned .chosen .ok) in
-      let bound : (Q : List ℕ) → Keeps s Q → energy ≤ reportedEnergy s Q + margin s unit
-      = λ Q k. rw (own, unit-is) (in-margin covered P (c .exponent) (c .planned) Q k) in
+      let bound : (Q : List ℕ) → Keeps s Q → reportedEnergy s P ≤ reportedEnergy s Q + margin s unit
+      = λ Q k. rw unit-is (in-margin covered P (c .exponent) (c .planned) Q k) in
       record {
         keeps = keeps;
         own = own;
-        within = λ Q k. rw own (in-slack covered P (c .exponent) (c .planned) Q k);
+        within = λ Q k. omega (arith, in-slack covered P (c .exponent) (c .planned) Q k);
         from-1 = rw unit-is (power-positive (c .exponent));
         within-margin = λ Q k. omega (arith, bound Q k);
         least = λ one.
