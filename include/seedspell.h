@@ -112,7 +112,7 @@ uint64_t seedspell_walk(const uint32_t *set, size_t set_len, const uint32_t *pla
                         uint8_t *results, size_t results_len);
 
 /* The planner: a rate for each task, so that every deadline is kept for ever, at an energy over the hyper-period, of
- * jobs and of waiting together, that is within the slack of the least possible.
+ * jobs and of waiting together, that is within the slack of the least possible, and within a margin in microjoules.
  *
  * set, set_len          the set
  * plan, plan_len        receives the plan, at least N words: 32 are enough for every set
@@ -127,11 +127,17 @@ uint64_t seedspell_walk(const uint32_t *set, size_t set_len, const uint32_t *pla
  *                                               plan's load, at most L; the hyper-period L; the plan's energy over
  *                                               the hyper-period in microjoules: that of its jobs, as the set gives
  *                                               it, plus H x (L - load), which is drawn in the ticks in which no job
- *                                               runs. The plan keeps every deadline for ever, and (1,000 + slack) x
- *                                               the energy of any other that does is at least 1,000 x this one;
+ *                                               runs. The plan keeps every deadline for ever. If e is the energy of
+ *                                               any plan that does, (1,000 + slack) x e is at least 1,000 x this one,
+ *                                               and e + N x (unit - 1) is at least this one: with unit 1 this one is
+ *                                               the least there is;
  * or refuses: 2, 3, 10, 4, 5 with W, 6 with N for the plan list, 6 with 32 for the results, and then 7, in this order.
  * 7 is returned if and only if none of the others applies and no plan keeps every deadline for ever. On a refusal
  * nothing is changed.
+ *
+ * N x (unit - 1) is the margin: the energy exceeds that of any plan that keeps every deadline by at most so many
+ * microjoules. The unit is 1 to 2^49 and N at most 32, so that the margin is below 2^54: 64 bits hold it, 32 may not.
+ * It is 0 where the unit is 1, and nowhere else; only there may a host say 'least'.
  *
  * Whoever turns a rate number into a clock setting uses table entry number - 1, since rate numbers count from 1 and C's
  * tables from 0: a table of M settings has entries 0 to M - 1. */

@@ -11,7 +11,8 @@
 
    All arithmetic is in whole numbers. What is rounded is rounded up, so that no rounding makes a page promise too much.
    The energy is that of the jobs, as the set gives it, and what the set's idle energy comes to in the ticks in which no
-   job runs; the page has both apart, and says so where the set counts nothing for waiting. */
+   job runs; the page has both apart, and says so where the set counts nothing for waiting. How far it may lie above the
+   least possible is what the planner promises of it, and nothing narrower. */
 
 #include <ctype.h>
 #include <inttypes.h>
@@ -313,6 +314,41 @@ static uint64_t jobs_energy(uint64_t span)
     return energy;
 }
 
+/* The planner promises in two ways how far, in microjoules, its energy may lie above that of any plan that keeps every
+   deadline. By the margin; a unit is at least 1 and at most 2^49. */
+static uint64_t margin(uint64_t unit)
+{
+    return tasks() * (unit - 1);
+}
+
+/* By the slack G: 1,000 x the energy is at most (1,000 + G) x the other. Both are whole, so the part of a microjoule
+   that is dropped here promises nothing more. An energy is at most 3.2e14, a thousand of them far below 2^64. */
+static uint64_t allowance(uint64_t energy)
+{
+    return energy * set[0] / (1000 + set[0]);
+}
+
+/* The smaller of the two, with the promise that gives it, and what it is in hundredths of a per cent of the least, which
+   may be as low as energy - above. The allowance is at most half of the energy, so that this is above 0. That the
+   energy is the least is said at unit 1 alone, where it is promised, and never because energies look alike. */
+static void print_bound(uint64_t unit, uint64_t energy)
+{
+    uint64_t above = margin(unit) <= allowance(energy) ? margin(unit) : allowance(energy);
+    uint64_t per_cent = scaled(above, 10000, energy - above);
+
+    printf("              ");
+    if (unit == 1) {
+        printf("the least possible: the unit is 1\n");
+        return;
+    }
+    printf("at most %" PRIu64 " uJ (%" PRIu64 ".%02" PRIu64 " %%) above the least possible, ", above, per_cent / 100,
+           per_cent % 100);
+    if (above == margin(unit))
+        printf("by the margin: %" PRIu32 " x (%" PRIu64 " - 1)\n", tasks(), unit);
+    else
+        printf("by the slack: %" PRIu64 " x %" PRIu32 " / %" PRIu32 "\n", energy, set[0], 1000 + set[0]);
+}
+
 /* A job takes a tick at least and 1,000,000 microjoules at most, a tick without one takes less, and a day has at most
    8.64e10 ticks: so a day's energy is at most 8.64e16 microjoules. */
 static void print_battery_page(const uint64_t *planned, const uint64_t *walked, uint64_t tick)
@@ -331,8 +367,8 @@ static void print_battery_page(const uint64_t *planned, const uint64_t *walked, 
     printf("waiting       %" PRIu64 " uJ a hyper-period, %" PRIu32 " uJ an idle tick\n", idle_energy() * (span - load),
            idle_energy());
     printf("energy        %" PRIu64 " uJ a hyper-period, jobs and waiting together\n", energy);
+    print_bound(unit, energy);
     printf("              %" PRIu64 ".%06" PRIu64 " J a day\n", per_day / 1000000, per_day % 1000000);
-    printf("              within %" PRIu32 ".%" PRIu32 " %% of the least\n", set[0] / 10, set[0] % 10);
     if (idle_energy() == 0)
         printf("not counted   what waiting draws: the set has 0 for it\n");
 }
