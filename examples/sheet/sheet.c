@@ -328,8 +328,8 @@ static uint64_t allowance(uint64_t energy)
     return energy * set[0] / (1000 + set[0]);
 }
 
-/* The smaller of the two, with the promise that gives it, and what it is in hundredths of a per cent of the least, which
-   may be as low as energy - above. The allowance is at most half of the energy, so that this is above 0. That the
+/* The smaller of the two, with the promise that gives it, and what it is in hundredths of a per cent of the least,
+   which may be as low as energy - above. The allowance is at most half of the energy, so that this is above 0. That the
    energy is the least is said at unit 1 alone, where it is promised, and never because energies look alike. */
 static void print_bound(uint64_t unit, uint64_t energy)
 {
@@ -341,8 +341,8 @@ static void print_bound(uint64_t unit, uint64_t energy)
         printf("the least possible: the unit is 1\n");
         return;
     }
-    printf("at most %" PRIu64 " uJ (%" PRIu64 ".%02" PRIu64 " %%) above the least possible, ", above, per_cent / 100,
-           per_cent % 100);
+    printf("at most %" PRIu64 " microjoule%s (%" PRIu64 ".%02" PRIu64 " %%) above the least possible, ", above,
+           above == 1 ? "" : "s", per_cent / 100, per_cent % 100);
     if (above == margin(unit))
         printf("by the margin: %" PRIu32 " x (%" PRIu64 " - 1)\n", tasks(), unit);
     else
