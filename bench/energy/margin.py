@@ -16,8 +16,8 @@ per cent of the energy without it.
 
 Of every plan the load and the energy are worked out again, as in idle.py, and the
 least is that of optimum.py's search. Tried are both bounds, that a plan with unit 1
-has the least energy, that the margin is at most the allowance up to slack 500, and
-what the least energy says of whether the unit is 1.
+has the least energy, and that the margin is at most the allowance up to slack 500;
+and between what shares of the least energy the stopping rule has the margin.
 
 The first table has a line for each kind, number of tasks and idle energy, and one for
 all numbers of tasks together: by slack, with how many sets the unit is 1, and how many
@@ -63,11 +63,11 @@ class Case(i.Case):
         assert unit > 1 or energy == least, words
         assert energy <= least + allowance, words
         assert slack > 500 or margin <= allowance, words
-        # The unit is 1 where slack x the least rounded energy at unit 2 is below 2,000 N. That energy is at
-        # least half of the least one, less H x L, and at most N / 2 above this half.
+        # The stopping rule holds the margin between two shares of the least energy of jobs above waiting: twice
+        # the unit fell short, and the unit does not, unless it is 1; rounding adds at most the margin to a plan.
         above = least - idle * L
-        assert unit > 1 or slack * above < 4000 * N, words
-        assert unit == 1 or slack * (above + N) >= 4000 * N, words
+        assert slack * above < 4000 * (margin + N), words
+        assert unit == 1 or 2000 * N * unit <= slack * (above + margin), words
         self.bounds[slack] = Bounds(unit, energy, least, margin, allowance)
 
 
