@@ -122,20 +122,25 @@ def print_change(kind, N, slack, others, pairs):
         min(ratios), m.mean(ratios), max(ratios)))
 
 
-def main(arguments):
+def driver_sets_and_seed(script, arguments):
+    """What a script is called with, which its first line says."""
     if not 1 <= len(arguments) <= 3:
-        print('use: idle.py DRIVER [SETS [SEED]]', file=sys.stderr)
-        return 2
+        print('use: %s DRIVER [SETS [SEED]]' % script, file=sys.stderr)
+        sys.exit(2)
     sets, seed = m.sets_and_seed(arguments[1:])
     print('seed %d, %d sets a cell, idle energy %d a tick' % (seed, sets, w.IDLE))
+    return arguments[0], sets, seed
+
+
+def main(arguments):
+    driver, sets, seed = driver_sets_and_seed('idle.py', arguments)
     cells = m.cells_of(seed, sets, lambda *choice: Case(w.some_idle_set(*choice)))
     for cases in cells.values():
-        plan_all(arguments[0], cases, m.SLACKS, IDLES)
+        plan_all(driver, cases, m.SLACKS, IDLES)
     print_energies(cells)
     print()
     print_changes(cells)
-    return 0
 
 
 if __name__ == '__main__':
-    sys.exit(main(sys.argv[1:]))
+    main(sys.argv[1:])

@@ -134,20 +134,15 @@ def print_bounds(kinds):
 
 
 def main(arguments):
-    if not 1 <= len(arguments) <= 3:
-        print('use: margin.py DRIVER [SETS [SEED]]', file=sys.stderr)
-        return 2
-    sets, seed = m.sets_and_seed(arguments[1:])
-    print('seed %d, %d sets a cell, idle energy %d a tick' % (seed, sets, w.IDLE))
+    driver, sets, seed = i.driver_sets_and_seed('margin.py', arguments)
     kinds = kinds_of(seed, sets)
     for (_, idle), by_count in kinds.items():
         for cases in by_count.values():
-            i.plan_all(arguments[0], cases, SLACKS, (idle,))
+            i.plan_all(driver, cases, SLACKS, (idle,))
     print_counts(kinds)
     print()
     print_bounds(kinds)
-    return 0
 
 
 if __name__ == '__main__':
-    sys.exit(main(sys.argv[1:]))
+    main(sys.argv[1:])
