@@ -39,10 +39,10 @@ IDLES = (0, w.IDLE)
 class Case:
     """A set, the optimum by idle energy, and the plans by slack and idle energy."""
 
-    def __init__(self, words):
+    def __init__(self, words, idles=IDLES):
         self.words = words
         self.L = r.hyper_period(r.decode(words).tasks)
-        self.optimum = {idle: self.search(idle) for idle in IDLES}
+        self.optimum = {idle: self.search(idle) for idle in idles}
         self.plan = {}
 
     def list_with(self, slack, idle):
@@ -71,9 +71,9 @@ def charged(plan, idle):
     return jobs + idle * idle_ticks
 
 
-def plan_all(driver, cases):
-    for slack in m.SLACKS:
-        for idle in IDLES:
+def plan_all(driver, cases, slacks, idles):
+    for slack in slacks:
+        for idle in idles:
             lists = [case.list_with(slack, idle) for case in cases]
             for case, answer in zip(cases, m.answers_of(driver, lists, 1)):
                 case.take(slack, idle, answer)
@@ -122,20 +122,25 @@ def print_change(kind, N, slack, others, pairs):
         min(ratios), m.mean(ratios), max(ratios)))
 
 
-def main(arguments):
+def driver_sets_and_seed(script, arguments):
+    """What a script is called with, which its first line says."""
     if not 1 <= len(arguments) <= 3:
-        print('use: idle.py DRIVER [SETS [SEED]]', file=sys.stderr)
-        return 2
-    sets, seed = (list(map(int, arguments[1:])) + [256, 1][len(arguments) - 1:])
+        print('use: %s DRIVER [SETS [SEED]]' % script, file=sys.stderr)
+        sys.exit(2)
+    sets, seed = m.sets_and_seed(arguments[1:])
     print('seed %d, %d sets a cell, idle energy %d a tick' % (seed, sets, w.IDLE))
+    return arguments[0], sets, seed
+
+
+def main(arguments):
+    driver, sets, seed = driver_sets_and_seed('idle.py', arguments)
     cells = m.cells_of(seed, sets, lambda *choice: Case(w.some_idle_set(*choice)))
     for cases in cells.values():
-        plan_all(arguments[0], cases)
+        plan_all(driver, cases, m.SLACKS, IDLES)
     print_energies(cells)
     print()
     print_changes(cells)
-    return 0
 
 
 if __name__ == '__main__':
-    sys.exit(main(sys.argv[1:]))
+    main(sys.argv[1:])

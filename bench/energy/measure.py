@@ -135,12 +135,17 @@ def cells_of(seed, sets, make):
     return cells
 
 
+def sets_and_seed(words):
+    """The arguments that every bench here ends with: the sets of a cell, and the seed."""
+    return list(map(int, words)) + [256, 1][len(words):]
+
+
 def main(arguments):
     if not 2 <= len(arguments) <= 4:
         print('use: measure.py DRIVER FOLDER [SETS [SEED]]', file=sys.stderr)
         return 2
     driver, folder = arguments[0], Path(arguments[1])
-    sets, seed = (list(map(int, arguments[2:])) + [256, 1][len(arguments) - 2:])
+    sets, seed = sets_and_seed(arguments[2:])
     print('seed %d, %d sets a cell, glpsol at most %d seconds a set, best of %d; planner best of %d' % (
         seed, sets, LIMIT, RUNS, REPETITIONS))
     cells = cells_of(seed, sets, lambda *choice: Case(w.some_set(*choice), folder))
