@@ -475,14 +475,14 @@ static uint64_t margin(uint64_t tasks, uint64_t unit)
     return tasks * (unit - 1);
 }
 
-/* Holds the energy that a planner's call has left to the least that a plan of the set can report; to what it must be by
-   its own plan the call was held before. Ends the run if it is too high, or below the least. */
+/* Holds the energy that a planner's call has left, and that is the one of its plan, to the least that a plan of the set
+   can report. Ends the run if it is too high for the unit or for the slack, or lower than can be. */
 static void judge_energy(const struct call *c)
 {
     const uint32_t *set = c->set.word;
-    uint64_t slack = set[0], tasks = set[3 + set[2]], unit = result(0), energy = result(3), least = least_energy(set), above;
+    uint64_t slack = set[0], tasks = set[3 + set[2]], unit = result(0), energy = result(3);
+    uint64_t least = least_energy(set), above = energy - least;
 
-    above = energy - least;
     if (energy < least || above > margin(tasks, unit) || (unit == 1 && above != 0)
         || 1000 * energy > (1000 + slack) * least) {
         print_call(c);
@@ -757,8 +757,20 @@ static void cases_of_idle(void)
     demand(is_refusal(&want, 10, 8), "a job of 8,388,608 ticks");
 }
 
+/* Tasks alike, of two rates: with every task at the slow one the load is L, at the fast one half of it. */
+static void half_shape(struct shape *shape, uint32_t slack, uint32_t tasks, uint32_t slow, uint32_t fast)
+{
+    *shape = (struct shape){.slack = slack, .rates = 2, .rate = {1, 2}, .tasks = tasks};
+    for (uint32_t t = 0; t < tasks; t++) {
+        shape->period[t] = 2 * tasks;
+        shape->cycles[t] = 2;
+        shape->energy[t][0] = slow;
+        shape->energy[t][1] = fast;
+    }
+}
+
 /* Energies that are as far above the least as the unit allows, 31 and 1 for each task, and with a slack of 1 less the
-   least themselves. The slow rates' plan has all of L, and the fast one's half of it. */
+   least themselves. */
 static void cases_of_margin(void)
 {
     static const struct {
@@ -782,13 +794,9 @@ static void cases_of_margin(void)
 
     for (size_t i = 0; i < COUNT(cases); i++) {
         uint32_t tasks = cases[i].tasks;
-        struct shape shape = {.slack = cases[i].slack, .idle = cases[i].idle, .rates = 2, .rate = {1, 2}, .tasks = tasks};
-        for (uint32_t t = 0; t < tasks; t++) {
-            shape.period[t] = 2 * tasks;
-            shape.cycles[t] = 2;
-            shape.energy[t][0] = cases[i].slow;
-            shape.energy[t][1] = cases[i].fast;
-        }
+        struct shape shape;
+        half_shape(&shape, cases[i].slack, tasks, cases[i].slow, cases[i].fast);
+        shape.idle = cases[i].idle;
         flatten(&shape, &set);
         plan_lending(&set, tasks, words_needed(&set), &want);
         demand(has_values(&want, cases[i].unit, cases[i].rate == 1 ? 2 * tasks : tasks, 2 * tasks, cases[i].energy)
@@ -1033,19 +1041,14 @@ static void edge_idle_sets(void)
     edge_idle(8, 32, 77, 0);
 }
 
-/* A set like the cases of the margin, with its unit and with so much left of the energies that k tells by 1: each task's
-   are k rounded up at both rates, and the slack is the least with which k is enough, or one less. */
+/* Energies that are k units rounded up at both rates, just k of them at the fast one and one microjoule more than k - 1
+   at the slow one: with the least slack for which k is enough all of the margin is used. And with one less. */
 static void edge_margin(uint32_t tasks, uint32_t unit, uint32_t k, uint32_t idle)
 {
-    struct shape shape = {.slack = (2000 + k - 1) / k, .rates = 2, .rate = {1, 2}, .tasks = tasks};
+    struct shape shape;
     struct list set;
 
-    for (uint32_t t = 0; t < tasks; t++) {
-        shape.period[t] = 2 * tasks;
-        shape.cycles[t] = 2;
-        shape.energy[t][0] = (k - 1) * unit + 1;
-        shape.energy[t][1] = k * unit;
-    }
+    half_shape(&shape, (2000 + k - 1) / k, tasks, (k - 1) * unit + 1, k * unit);
     raise_energies(&shape, idle);
     for (int less = 0; less <= 1; less++, shape.slack--) {
         flatten(&shape, &set);
