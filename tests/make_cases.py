@@ -4,9 +4,10 @@ program's call and the load generator, and their answers.
     python3 tests/make_cases.py           writes crates/cases/stdin and stdout
     python3 tests/make_cases.py --check   writes nothing and compares with both
 
-Each call has a module of records/; chips.py there has those of processors by name and
-idle.py those of the idle energy, for all calls, and shared.py has what they share. The
-order of the records is that of the groups in make, below.
+Each call has a module of records/; chips.py there has those of processors by name,
+idle.py those of the idle energy and margin.py those of the margin above the least
+energy, for all calls, and shared.py has what they share. The order of the records is
+that of the groups in make, below.
 
 One record a line, one space between items, each line ended by byte 10:
 
@@ -36,7 +37,8 @@ An answer is a line too, the record's name and then what the reference says:
 Most answers come from the reference alone. Where a case is worked by hand or
 stands in the scope document, the answer is written beside it as well, and the
 reference must agree with it. A planner answer of a set with few plans is made
-in both of the reference's ways and judged by looking at every plan; energies below
+in both of the reference's ways and judged by looking at every plan, by the margin
+above the least energy too, which margin.py works out again for its own; energies below
 that of an idle processor are looked for once more, and a set with an idle energy is
 planned without it too, with energies that are less by it. Of every
 text a reader of the usual kind must say the same as the reference, which goes
@@ -58,7 +60,7 @@ from pathlib import Path
 
 sys.dont_write_bytecode = True
 
-from records import checks, chips, generator, idle, planner, program, reader, walk, writer
+from records import checks, chips, generator, idle, margin, planner, program, reader, walk, writer
 from records.shared import answers, names, questions
 
 FOLDER = Path(__file__).resolve().parent.parent / 'crates' / 'cases'
@@ -218,6 +220,17 @@ SENTENCES = {
         'a-idle-10-before-4 a-idle-10-before-5 a-idle-10-before-7 a-idle-xscale-9-before-10',
     'Note 4: and never by walk or writer':
         'w-ten-1010-1 w-ten-s-2-1 w-ten-and-4 t-ten-1010 t-ten-s t-ten-and-4 r-ten-s c-ten-s',
+
+    'Note 5: the reported energy exceeds that of every plan by at most N x (unit - 1)':
+        'p-margin-worked-01 p-margin-worked-02 p-margin-worked-04 p-margin-worked-05 '
+        'p-margin-worked-07 p-margin-worked-09 p-margin-worked-12 p-margin-worked-14 '
+        'p-reach-2-slack-1000-of-1-h-0 p-reach-131072-slack-1000-of-4-h-1000 '
+        'p-reach-1024-slack-999-of-32-h-3 p-step-of-1-slack-667-k-3 a-margin-worked-01 rm0008',
+    'Note 5: that keeps its deadlines': 'p-margin-worked-13 w-margin-worked-13 w-margin-s-1-1',
+    'Note 5: With unit 1 it is therefore the least there is':
+        'p-margin-worked-03 p-margin-worked-06 p-margin-worked-10 p-margin-worked-15 '
+        'p-step-of-1-slack-1000-k-2 p-step-of-1-slack-1000-k-2-less p-step-of-1-slack-1-k-1999 '
+        'p-step-of-3-slack-857-k-7 a-margin-worked-03',
 }
 
 
@@ -247,7 +260,8 @@ def make():
                   idle.idle_others, idle.idle_nothing_left, idle.idle_units, idle.idle_limits,
                   idle.idle_lines, idle.idle_bytes, idle.idle_numbers, idle.idle_written,
                   idle.idle_programs, idle.random_idle_plans, idle.random_idle_programs,
-                  idle.random_idle_texts):
+                  idle.random_idle_texts, margin.margin_worked, margin.margin_reached,
+                  margin.margin_units, margin.random_margins):
         group()
     for sentence, found in SENTENCES.items():
         assert names.issuperset(found.split()), sentence

@@ -2,8 +2,8 @@
 the load generator.
 
 It follows the words of the scope document, and of document 02 those of note 1 for
-the generator, of note 2 for chips and of note 4 for the idle energy H, and is meant
-to be read beside them. It is slow on purpose.
+the generator, of note 2 for chips, of note 4 for the idle energy H and of note 5 for
+the margin, and is meant to be read beside them. It is slow on purpose.
 A refusal is ('refused', number, second number).
 Tasks and rates are numbered from 1, places in lists and texts from 0.
 """
@@ -364,7 +364,46 @@ def objection(words, answer, ticks):
     least = min(reported(rates) for _, rates in fitting)
     if 1_000 * its_energy > (1_000 + s.slack) * least:
         return 'more than the slack above the least energy'
+    if its_energy - least > margin(words, unit):
+        return 'more than the margin above the least energy'
     return None
+
+
+# --------------------------------------------------- the margin in microjoules
+
+def margin(words, unit):
+    """'the reported energy exceeds that of every plan that keeps its deadlines by at
+    most N x (unit - 1)'"""
+    return len(decode(words).tasks) * (unit - 1)
+
+
+def least_energy(words, ticks):
+    """The least reported energy of a plan that keeps its deadlines; None where no plan
+    does.
+
+    It goes through all plans, one after the other, and knows nothing of units and of
+    the choice. Up to so many ticks in all each plan is walked: the walk says whether
+    it keeps its deadlines, and how many ticks are idle. Else the load says both.
+    """
+    s = decode(words)
+    M, N, L = len(s.rates), len(s.tasks), hyper_period(s.tasks)
+    by_walking = M ** N * L <= ticks
+    least = None
+    for rates in product(range(1, M + 1), repeat=N):
+        if by_walking:
+            ended = walk(words, list(rates))
+            keeps, idle = ended[0] == 'kept', ended[2]
+        else:
+            idle = L - sum(L // task.period * round_up(task.cycles, s.rates[rate - 1])
+                           for task, rate in zip(s.tasks, rates))
+            keeps = idle >= 0
+        if not keeps:
+            continue
+        energy = s.idle * idle + sum(L // task.period * task.energies[rate - 1]
+                                     for task, rate in zip(s.tasks, rates))
+        if least is None or energy < least:
+            least = energy
+    return least
 
 
 # ------------------------------------------------------------------- the walk

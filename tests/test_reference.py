@@ -1,6 +1,6 @@
 """Tests of the reference: the cases of the scope document, the load generator of
-document 02's note 1, the chips of its note 2, the idle energy of its note 4, and
-random sets.
+document 02's note 1, the chips of its note 2, the idle energy of its note 4, the
+margin of its note 5, and random sets.
 
 Running it prints one line and ends with 0, or names the failing case and
 ends with 1.
@@ -1147,6 +1147,187 @@ def idle_offsets():
     goes_on('a 0 of it', slack + b'(idle 0', b')')
 
 
+# ------------------------------------------------- the margin in microjoules
+
+def at_margin(slack, unit, N, idle=0):
+    """A set of N tasks alike that is given that unit, and whose reported energy is all of
+    N x (unit - 1) above the least: with a unit above 1, and with energies in their range.
+
+    A job takes 2 ticks or 1, and all together take L or half of it. Without the idle energy
+    the fast rate has k x unit left and the slow one (k - 1) x unit + 1, both of which are k
+    rounded up, so that the lesser load decides. k is the least with slack x k at least 2,000;
+    at twice the unit there is at most half of it, rounded up, which is less.
+    """
+    k = -(-2_000 // slack)
+    return [slack, idle, 2, 1, 2, N] + [
+        2 * N, 2, (k - 1) * unit + 1 + 2 * idle, k * unit + idle] * N
+
+
+# Lists, what the planner says of them, and the least energy of a plan that keeps its deadlines.
+MARGIN_WORKED = [
+    # Above 32 both energies are 2 x 32 rounded up: the lesser load costs 31 more, which is all of
+    # the margin. So it does at the least unit above 1, by 1.
+    (one_task(1_000, 10, 10, (33, 64)), ('planned', 32, 5, 10, 64, [2]), 33),
+    (one_task(1_000, 10, 10, (3, 4)), ('planned', 2, 5, 10, 4, [2]), 3),
+    # With a slack of 1 less 2 x 999 is below 2,000, and at unit 1 it is the least.
+    (one_task(999, 10, 10, (3, 4)), ('planned', 1, 10, 10, 3, [1]), 3),
+    # Document 01's 33 at every rate: the least, though the unit allows 31 more.
+    (one_task(1_000, 10, 10, (33, 33)), ('planned', 32, 5, 10, 33, [2]), 33),
+    # Two tasks, and each costs all that it may; at a slack of 1 less neither does.
+    ([1_000, 0, 2, 1, 2, 2] + [4, 2, 3, 4] * 2, ('planned', 2, 2, 4, 8, [2, 2]), 6),
+    ([999, 0, 2, 1, 2, 2] + [4, 2, 3, 4] * 2, ('planned', 1, 4, 4, 6, [1, 1]), 6),
+    # The same with three jobs of the first task: 9 or 12, and 5 or 8, are 3 x 4 and 2 x 4.
+    ([1_000, 0, 2, 1, 2, 2, 4, 2, 3, 4, 12, 6, 5, 8], ('planned', 4, 6, 12, 20, [2, 2]), 14),
+    # Three tasks of two rates.
+    ([1_000, 0, 2, 1, 2, 3] + [6, 2, 3, 4] * 3, ('planned', 2, 3, 6, 12, [2, 2, 2]), 9),
+    # With H of 1 the energies are 5 and 5, of which 3 and 4 are left: the fast rate's idle tick
+    # makes its plan the dearer one. And 33 and 64 are left of 133 and 114 with H of 10.
+    (one_task(1_000, 2, 2, (5, 5), idle=1), ('planned', 2, 1, 2, 6, [2]), 5),
+    (one_task(999, 2, 2, (5, 5), idle=1), ('planned', 1, 2, 2, 5, [1]), 5),
+    (one_task(1_000, 10, 10, (133, 114), idle=10), ('planned', 32, 5, 10, 164, [2]), 133),
+    ([1_000, 1, 2, 1, 2, 2] + [4, 2, 5, 5] * 2, ('planned', 2, 2, 4, 12, [2, 2]), 10),
+    # Document 01's set: the plan 1 1 would cost 26, but misses. And note 4's, at unit 1.
+    (S, ('planned', 1, 29, 30, 41, [2, 1]), 41),
+    (S_1000, ('planned', 8, 28, 30, 42, [1, 2]), 41),
+    (THOUSAND_TEN, ('planned', 1, 90, 100, 1_010, [1]), 1_010),
+]
+AT_MARGIN = (0, 1, 4, 6, 7, 8, 10, 11)  # of these the ones that reach it, at a unit above 1
+
+# What the energy may be above the least, by N, the unit and M: readings that are too narrow.
+MARGIN_MISREAD = {
+    'N x (unit - 2)': lambda N, unit, M: N * max(unit - 2, 0),
+    '(N - 1) x (unit - 1)': lambda N, unit, M: (N - 1) * (unit - 1),
+    'unit - 1': lambda N, unit, M: unit - 1,
+    'one less than N x (unit - 1)': lambda N, unit, M: max(N * (unit - 1) - 1, 0),
+    'N x unit / 2': lambda N, unit, M: N * unit // 2,
+    'M x (unit - 1)': lambda N, unit, M: M * (unit - 1),
+    'the least at unit 2': lambda N, unit, M: 0 if unit <= 2 else N * (unit - 1),
+    'the least at every unit': lambda N, unit, M: 0,
+}
+
+
+def misread(words, answer, above):
+    """Which of the readings an answer contradicts."""
+    M, N = words[2], words[3 + words[2]]
+    return {name for name, most in MARGIN_MISREAD.items() if above > most(N, answer[1], M)}
+
+
+def margin_edges():
+    found = set()
+    for number, (words, want, least) in enumerate(MARGIN_WORKED):
+        name, N = 'margin %r' % (words,), words[3 + words[2]]
+        both_ways(name, words, want)
+        for ticks in (0, PLENTY):
+            same(name + ', least', r.least_energy(words, ticks), least)
+            same(name + ', judged', r.objection(words, want, ticks), None)
+        same(name + ', N x (unit - 1)', r.margin(words, want[1]), N * want[1] - N)
+        same(name + ', within it', want[4] - least <= N * want[1] - N, True)
+        same(name + ', all of it', want[1] > 1 and want[4] - least == N * want[1] - N,
+             number in AT_MARGIN)
+        found |= misread(words, want, want[4] - least)
+    same('every narrower margin is contradicted', found, set(MARGIN_MISREAD))
+    same('no plan, no least energy', r.least_energy(one_task(100, 30, 61), 0), None)
+    same('no plan, walked', r.least_energy(one_task(100, 30, 61), PLENTY), None)
+
+    # Whose energy it is: that of plans that keep their deadlines, and with the idle ticks.
+    given = [r.total(r.energy_table(r.decode(S), 30), rates) for rates in product((1, 2, 3), repeat=2)]
+    same('a plan that misses is below the least', min(given), 26)
+    jobs = [r.total(r.energy_table(r.decode(THOUSAND_TEN), 100), [rate]) for rate in (1, 2)]
+    same('the jobs alone are below the least', jobs, [910, 200])
+
+    # Sets made to reach it: every unit, slack, number of tasks and idle energy.
+    for unit in (2, 4, 8, 64, 1_024, 65_536):
+        for slack in (1, 2, 7, 100, 333, 500, 501, 666, 667, 999, 1_000):
+            for N, idle in ((1, 0), (1, 1_000), (2, 7), (3, 0), (5, 1)):
+                words = at_margin(slack, unit, N, idle)
+                if max(words) > 1_000_000:
+                    continue
+                name = 'at the margin %r' % (words,)
+                slow, fast = words[8] - 2 * idle, words[9] - idle
+                same(name, r.plan(words, N, PLENTY, 'table'),
+                     ('planned', unit, N, 2 * N, N * fast + 2 * N * idle, [2] * N))
+                same(name + ', least', r.least_energy(words, 2_000), N * slow + 2 * N * idle)
+                same(name + ', above it', N * (fast - slow), N * (unit - 1))
+
+
+def margin_errors():
+    """Planners that select otherwise, or report another energy or unit, break the promise on one
+    of the worked lists."""
+    lists = [words for words, want in IDLE_WORKED if want[0] == 'planned']
+    lists += [words for words, _, _ in MARGIN_WORKED]
+
+    def breaks(planner):
+        answers = [(words, planner(words)) for words in lists]
+        return any(answer[4] - r.least_energy(words, 2_000) > r.margin(words, answer[1])
+                   for words, answer in answers)
+
+    def fastest(words):
+        M, N = words[2], words[3 + words[2]]
+        return ('planned', 1, 0, 0, r.energy_of(words, [M] * N), [M] * N)
+
+    def half_the_unit(words):
+        _, unit, *others = r.plan(words, 32, PLENTY)
+        return ('planned', max(unit // 2, 1), *others)
+
+    same('margin: as it is', breaks(lambda words: r.plan(words, 32, PLENTY)), False)
+    same('margin: in parts', breaks(idle_in_parts), False)
+    same('margin: every task at the fastest rate', breaks(fastest), True)
+    same('margin: half the unit', breaks(half_the_unit), True)
+    for name in ('nothing left out', 'H once for a job', 'H put in and not left out',
+                 'idle for every tick', 'idle for a tick more'):
+        part, wrong = IDLE_MISREAD[name]
+        same('margin: ' + name, breaks(lambda words: idle_in_parts(words, **{part: wrong})), True)
+
+
+def margin_at_random():
+    """Random sets, those that are about at the margin, and generated ones."""
+    g = random.Random(5)
+    found, counts = set(), {}
+
+    def judge(name, words):
+        answer = r.plan(words, 32, PLENTY, 'table')
+        least = r.least_energy(words, 2_000)
+        same(name + ', 7 where there is no least', answer == refused(7, 0), least is None)
+        if least is None:
+            return
+        above, N = answer[4] - least, words[3 + words[2]]
+        same(name + ', within the margin', 0 <= above <= N * (answer[1] - 1), True)
+        same(name + ', by the definition', above <= r.margin(words, answer[1]), True)
+        if answer[1] == 1:
+            same(name + ', least at unit 1', above, 0)
+        found.update(misread(words, answer, above))
+        kinds = ['unit 1' if answer[1] == 1 else 'unit 2' if answer[1] == 2 else 'unit above 2']
+        kinds += ['above the least'] * (above > 0)
+        if answer[1] > 1 and above == N * (answer[1] - 1):
+            kinds += ['all of it', 'all of it, of one task' if N == 1 else 'all of it, of several']
+        for kind in kinds:
+            counts[kind, words[1] > 0] = counts.get((kind, words[1] > 0), 0) + 1
+
+    for number in range(800):
+        words = random_set(g, *g.choice([(1, 8), (2, 5), (3, 4), (4, 4), (4, 3)]))
+        if g.randint(1, 3) > 1:
+            words[0] = g.choice([g.randint(1, 1_000), g.randint(500, 1_000), 1_000])
+        judge('margin, random set %d %r' % (number, words), words)
+    for number in range(500):
+        slack = g.choice([1_000, g.randint(500, 1_000), g.randint(1, 1_000)])
+        words = at_margin(slack, 2 ** g.randint(1, 8), g.randint(1, 4), g.choice([0, 0, 1, 500]))
+        for place in range(8, len(words), 4):
+            if g.randint(1, 2) == 1:
+                words[place] += g.choice([-1, 0, 0, 1])
+                words[place + 1] += g.choice([-1, 0, 0, 1])
+        words[0] += g.choice([0, 0, 0, -1, 1]) if 1 < slack < 1_000 else 0
+        judge('margin, about at it %d %r' % (number, words), words)
+    for number in range(60):
+        words = r.generate(g.randrange(2 ** 32), 1 + number % 3, PLENTY)[1]
+        words[0] = g.choice([100, 100, 1_000, g.randint(1, 1_000)])
+        judge('margin, generated %d %r' % (number, words), words)
+    same('every narrower margin is contradicted at random', found, set(MARGIN_MISREAD))
+    for kind in ('unit 1', 'unit 2', 'unit above 2', 'above the least', 'all of it',
+                 'all of it, of one task', 'all of it, of several'):
+        for idle in (False, True):
+            same('enough of %s, %s' % (kind, idle), counts.get((kind, idle), 0) >= 10, True)
+
+
 # --------------------------------------------------------------- random sets
 
 def random_set(g, most_tasks, most_rates):
@@ -1510,8 +1691,8 @@ def main():
         for part in (edges, errors, the_text, offsets, answers, preemptions,
                      generator_edges, generator_errors, generated_sets,
                      chip_edges, chip_errors, chip_offsets, chips_at_random,
-                     idle_edges, idle_errors, idle_offsets,
-                     random_sets, objections, large_sets, random_texts):
+                     idle_edges, idle_errors, idle_offsets, margin_edges, margin_errors,
+                     margin_at_random, random_sets, objections, large_sets, random_texts):
             part()
     except AssertionError as failure:
         print('reference: failed: %s' % failure)

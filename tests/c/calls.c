@@ -1,5 +1,7 @@
 /* Calls the three entries of the archive many times and holds every answer, every lent word and what lies around the
    lists to document 01, with the generator and the idle energy of document 02's notes 1 and 4, as reference.c reads them.
+   The energy of a plan is also held to the least that there is, which least.c finds by going through all plans: to the
+   slack, and to the margin of document 02's note 5.
 
        calls [SEED [RANDOM SETS]]
 
@@ -19,6 +21,7 @@
 #include <string.h>
 
 #include "../../include/seedspell.h"
+#include "least.h"
 #include "reference.h"
 #include "sets.h"
 
@@ -63,6 +66,7 @@ static struct {
     uint64_t with_idle, idle_ticks, nothing_left, one_low, walked_low;
     uint64_t unit_1, unit_above_1, highest_last, full_load, one_over, alike, both_ways[2], preempted, full_walk, missed_at_end;
     uint64_t long_span;
+    uint64_t judged_1, judged_above_1, above_least, margin_used, margin_of_several, margin_with_idle;
     uint64_t generated, one_task, most_tasks, room_to_spare, generated_planned, generated_unplanned;
 } count;
 
@@ -95,6 +99,12 @@ static const struct row rows[] = {
     {"    decided by rate numbers", &count.alike, 1000},
     {"    asked both ways, few plans", &count.both_ways[0], 1000},
     {"    asked both ways, more plans", &count.both_ways[1], 100},
+    {"    the least energy, at unit 1", &count.judged_1, 10000},
+    {"    beside it, unit above 1", &count.judged_above_1, 10000},
+    {"      above it", &count.above_least, 2000},
+    {"      by N x (unit - 1)", &count.margin_used, 1000},
+    {"        of several tasks", &count.margin_of_several, 500},
+    {"        with an idle energy", &count.margin_with_idle, 500},
     {"calls of seedspell_walk", &count.calls[WALK], 80000},
     {"  refused 2: bad word", &count.refused[WALK][2], 10000},
     {"  refused 3: rate not above", &count.refused[WALK][3], 1000},
@@ -381,21 +391,23 @@ static void print_expected(const struct answer *want)
     printf("\n");
 }
 
+/* One of the four results that a call has left. */
+static uint64_t result(int k)
+{
+    const uint8_t *byte = areas[RESULTS].is + areas[RESULTS].start + 8 * k;
+    uint64_t value = 0;
+
+    for (int i = 7; i >= 0; i--)
+        value = value << 8 | byte[i];
+    return value;
+}
+
 /* Of the lists as much as was expected, where so much was lent. */
 static void print_received(const struct call *c, const struct answer *want, uint64_t code)
 {
-    const uint8_t *results = areas[RESULTS].is + areas[RESULTS].start;
-
     print_code("received", code);
-    if (code == 0 && c->results_len >= RESULT_BYTES) {
-        printf("; results");
-        for (int k = 0; k < 4; k++) {
-            uint64_t value = 0;
-            for (int i = 7; i >= 0; i--)
-                value = value << 8 | results[8 * k + i];
-            printf(" %" PRIu64, value);
-        }
-    }
+    if (code == 0 && c->results_len >= RESULT_BYTES)
+        printf("; results %" PRIu64 " %" PRIu64 " %" PRIu64 " %" PRIu64, result(0), result(1), result(2), result(3));
     if (code == 0 && want->plan_words <= c->plan_len)
         print_words("; plan", words(&areas[PLAN_LIST]), want->plan_words);
     if (code == 0 && want->set_words <= c->set_len)
@@ -457,6 +469,39 @@ static int as_expected(const struct call *c, const struct answer *want, uint64_t
     return 0;
 }
 
+/* 'The reported energy exceeds that of every plan that keeps its deadlines by at most N x (unit - 1)' */
+static uint64_t margin(uint64_t tasks, uint64_t unit)
+{
+    return tasks * (unit - 1);
+}
+
+/* Holds the energy that a planner's call has left, and that is the one of its plan, to the least that a plan of the set
+   can report. Ends the run if it is too high for the unit or for the slack, or lower than can be. */
+static void judge_energy(const struct call *c)
+{
+    const uint32_t *set = c->set.word;
+    uint64_t slack = set[0], tasks = set[3 + set[2]], unit = result(0), energy = result(3);
+    uint64_t least = least_energy(set), above = energy - least;
+
+    if (energy < least || above > margin(tasks, unit) || (unit == 1 && above != 0)
+        || 1000 * energy > (1000 + slack) * least) {
+        print_call(c);
+        printf("unit %" PRIu64 " and energy %" PRIu64 ", where some plan has %" PRIu64 "\n", unit, energy, least);
+        exit(1);
+    }
+    if (unit == 1) {
+        count.judged_1++;
+        return;
+    }
+    count.judged_above_1++;
+    count.above_least += above > 0;
+    if (above == tasks * unit - tasks) {
+        count.margin_used++;
+        count.margin_of_several += tasks > 1;
+        count.margin_with_idle += set[1] > 0;
+    }
+}
+
 /* The reference's two ways to a plan, against each other: the one that was not taken must give the same. */
 static void ask_both_ways(const struct call *c, const struct answer *want)
 {
@@ -491,6 +536,8 @@ static void try_call(const struct call *c, struct answer *want)
         ALLOW(areas[a].is, areas[a].total);
     if (!as_expected(c, want, code))
         exit(1);
+    if (c->entry == PLAN && code == 0 && want->plans <= LEAST_PLANS)
+        judge_energy(c);
 }
 
 /* ---- Calls of a set */
@@ -708,6 +755,57 @@ static void cases_of_idle(void)
     set = list_of((const uint32_t[]){100, 512, 2, 1, 2, 1, 10000000, 8388608, 1000000, 1000000}, 10);
     plan_lending(&set, 1, 82, &want);
     demand(is_refusal(&want, 10, 8), "a job of 8,388,608 ticks");
+}
+
+/* Tasks alike, of two rates: with every task at the slow one the load is L, at the fast one half of it. */
+static void half_shape(struct shape *shape, uint32_t slack, uint32_t tasks, uint32_t slow, uint32_t fast)
+{
+    *shape = (struct shape){.slack = slack, .rates = 2, .rate = {1, 2}, .tasks = tasks};
+    for (uint32_t t = 0; t < tasks; t++) {
+        shape->period[t] = 2 * tasks;
+        shape->cycles[t] = 2;
+        shape->energy[t][0] = slow;
+        shape->energy[t][1] = fast;
+    }
+}
+
+/* Energies that are as far above the least as the unit allows, 31 and 1 for each task, and with a slack of 1 less the
+   least themselves. */
+static void cases_of_margin(void)
+{
+    static const struct {
+        uint32_t slack, idle, tasks, slow, fast;
+        uint64_t unit, energy, rate, least;
+    } cases[] = {
+        {1000, 0, 1, 33, 64, 32, 64, 2, 33},
+        {1000, 0, 1, 3, 4, 2, 4, 2, 3},
+        {999, 0, 1, 3, 4, 1, 3, 1, 3},
+        {1000, 0, 1, 33, 33, 32, 33, 2, 33},
+        {1000, 0, 2, 33, 64, 32, 128, 2, 66},
+        {1000, 0, 2, 3, 4, 2, 8, 2, 6},
+        {999, 0, 2, 3, 4, 1, 6, 1, 6},
+        {1000, 1, 1, 5, 5, 2, 6, 2, 5},         /* 3 and 4 are left of 5 and 5 */
+        {999, 1, 1, 5, 5, 1, 5, 1, 5},
+        {1000, 1, 2, 5, 5, 2, 12, 2, 10},
+        {1000, 10, 3, 53, 74, 32, 252, 2, 159},
+    };
+    struct list set;
+    struct answer want;
+
+    for (size_t i = 0; i < COUNT(cases); i++) {
+        uint32_t tasks = cases[i].tasks;
+        struct shape shape;
+        half_shape(&shape, cases[i].slack, tasks, cases[i].slow, cases[i].fast);
+        shape.idle = cases[i].idle;
+        flatten(&shape, &set);
+        plan_lending(&set, tasks, words_needed(&set), &want);
+        demand(has_values(&want, cases[i].unit, cases[i].rate == 1 ? 2 * tasks : tasks, 2 * tasks, cases[i].energy)
+                   && want.plan[0] == cases[i].rate && want.plan[tasks - 1] == cases[i].rate,
+               "a margin");
+        demand(least_energy(set.word) == cases[i].least, "a least energy");
+    }
+    set = list_of((const uint32_t[]){100, 0, 2, 1, 2, 1, 30, 61, 1, 2}, 10);
+    demand(least_energy(set.word) == NO_ENERGY, "a least energy where no plan fits");
 }
 
 /* Worked with a calculator: from seed 0 the draws are 15470, 18256, 53708, 43769, 25170, 40750, 22526, 41945, 33277,
@@ -941,6 +1039,33 @@ static void edge_idle_sets(void)
                 edge_idle(rates, tasks, 1000 - left, left);
             }
     edge_idle(8, 32, 77, 0);
+}
+
+/* Energies that are k units rounded up at both rates, just k of them at the fast one and one microjoule more than k - 1
+   at the slow one: with the least slack for which k is enough all of the margin is used. And with one less. */
+static void edge_margin(uint32_t tasks, uint32_t unit, uint32_t k, uint32_t idle)
+{
+    struct shape shape;
+    struct list set;
+
+    half_shape(&shape, (2000 + k - 1) / k, tasks, (k - 1) * unit + 1, k * unit);
+    raise_energies(&shape, idle);
+    for (int less = 0; less <= 1; less++, shape.slack--) {
+        flatten(&shape, &set);
+        plan_lending(&set, tasks, words_needed(&set), &(struct answer){0});
+    }
+}
+
+static void edge_margins(void)
+{
+    static const uint32_t rounded[] = {2, 3, 4, 7, 20, 100};
+
+    for (uint32_t tasks = 1; tasks <= 8; tasks++)
+        for (uint32_t unit = 1; unit <= 8192; unit *= 2)
+            for (size_t i = 0; i < COUNT(rounded); i++) {
+                edge_margin(tasks, unit, rounded[i], 0);
+                edge_margin(tasks, unit, rounded[i], tasks % 2 == 0 ? 1 : 1000);
+            }
 }
 
 /* The walk's plan of every length, with bad words at every one and two places, and results of every size about 32. */
@@ -1256,6 +1381,7 @@ static void edge_calls(void)
     cases_of_s();
     cases_of_others();
     cases_of_idle();
+    cases_of_margin();
     cases_of_generator();
     case_of_one_list();
     for (uint32_t rates = 2; rates <= 8; rates += 3) {
@@ -1273,6 +1399,7 @@ static void edge_calls(void)
     edge_periods();
     edge_lent_sets();
     edge_idle_sets();
+    edge_margins();
     edge_load();
     edge_generated_tasks();
     edge_seeds();

@@ -11,8 +11,8 @@ out=target/tests/c
 mkdir -p "$out"
 
 if [ -n "${VALGRIND:-}" ]; then
-    cc -Wall -Wextra -O2 -g -DWITH_VALGRIND tests/c/calls.c tests/c/sets.c tests/c/reference.c "$archive" -o "$out/calls-valgrind"
+    cc -Wall -Wextra -O2 -g -DWITH_VALGRIND tests/c/calls.c tests/c/sets.c tests/c/least.c tests/c/reference.c "$archive" -o "$out/calls-valgrind"
     exec valgrind --error-exitcode=1 "$out/calls-valgrind" "$@"
 fi
-cc -Wall -Wextra -O2 tests/c/calls.c tests/c/sets.c tests/c/reference.c "$archive" -o "$out/calls"
+cc -Wall -Wextra -O2 tests/c/calls.c tests/c/sets.c tests/c/least.c tests/c/reference.c "$archive" -o "$out/calls"
 exec "$out/calls" "$@"

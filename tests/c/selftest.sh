@@ -1,28 +1,33 @@
 #!/usr/bin/env bash
-# Shows that the C test can fail: bash tests/c/selftest.sh (about two minutes, so no part of the gate)
+# Shows that the C test can fail: bash tests/c/selftest.sh (two to three minutes, so no part of the gate)
 # The reference takes the archive's place (standin.c), as it is and then with one error planted at a time; as it is no
-# call may depart, and with an error some call must.
+# call may depart, and with an error some call must. What compares energies with the least of all plans gets errors of
+# its own, and must find those that the stand-in and the test's reference have alike.
 set -eu
 cd "$(dirname "$0")/../.."
 
 out=target/tests/planted
 mkdir -p "$out"
-cc -O2 -c tests/c/calls.c -o "$out/calls.o"
-cc -O2 -c tests/c/sets.c -o "$out/sets.o"
-cc -O2 -c tests/c/reference.c -o "$out/reference.o"
+for part in calls sets least reference; do
+    cc -O2 -c tests/c/$part.c -o "$out/$part.o"
+done
 
 # build FOLDER: the test with the stand-in of that folder, under names of its own so that the test's reference stays as
-# it is.
+# it is. Parts of the test that were compiled in the folder take the place of those that are as they should be.
 build() {
-    local renamed="-Dexpect_plan=standin_plan -Dexpect_walk=standin_walk -Dexpect_generate=standin_generate"
+    local renamed="-Dexpect_plan=standin_plan -Dexpect_walk=standin_walk -Dexpect_generate=standin_generate" part parts=()
     renamed="$renamed -Dcan_be_written=standin_can_be_written"
+    for part in calls sets least reference; do
+        if [ -f "$1/$part.o" ]; then parts+=("$1/$part.o"); else parts+=("$out/$part.o"); fi
+    done
     # shellcheck disable=SC2086
-    cc -O1 -w $renamed -Itests/c "$1/reference.c" "$1/standin.c" "$out/calls.o" "$out/sets.o" "$out/reference.o" -o "$1/calls"
+    cc -O1 -w $renamed -Itests/c "$1/reference.c" "$1/standin.c" "${parts[@]}" -o "$1/calls"
 }
 
 # lay_out NAME: a copy of the stand-in, in a folder that it prints.
 lay_out() {
     local folder=$out/$1
+    rm -rf "$folder"
     mkdir -p "$folder"
     cp tests/c/reference.c tests/c/reference.h "$folder"
     sed 's|"\.\./\.\./include/|"|' tests/c/standin.c >"$folder/standin.c"
@@ -30,39 +35,107 @@ lay_out() {
     echo "$folder"
 }
 
-missed=0
-planted=0
-# plant NAME FILE OLD NEW: replaces the one place where FILE has OLD, and expects that a call departs, or that the error
-# ends the run.
-plant() {
-    local folder text rest status=0 found
-    folder=$(lay_out "$1")
-    text=$(cat "$folder/$2")
+# change NAME FILE OLD NEW: replaces the one place where FILE has OLD.
+change() {
+    local text rest
+    text=$(cat "$2")
     rest=${text#*"$3"}
     if [ "$rest" = "$text" ] || [ "${rest#*"$3"}" != "$rest" ]; then
-        echo "selftest: $1: there is not one place in $2 with: $3" >&2
+        echo "selftest: $1: there is not one place in ${2##*/} with: $3" >&2
         exit 1
     fi
-    printf '%s\n' "${text/"$3"/"$4"}" >"$folder/$2"
-    build "$folder"
-    { "$folder/calls" 1 4000 >"$folder/output" 2>&1; } 2>/dev/null || status=$?
+    printf '%s\n' "${text/"$3"/"$4"}" >"$2"
+}
+
+# compile_test FOLDER FILE: a part of the test as it stands in that folder.
+compile_test() {
+    cc -O2 -w -Itests/c -c "$1/$2" -o "$1/${2%.c}.o"
+}
+
+# run FOLDER: builds the test and runs it; so few random sets are too few, which is no matter here. Its output stays in
+# the folder, and `status` is what it ended with.
+run() {
+    build "$1"
+    status=0
+    { "$1/calls" 1 4000 >"$1/output" 2>&1; } 2>/dev/null || status=$?
+}
+
+# departs FOLDER: prints which call departs; nothing where the run came to its end.
+departs() {
+    grep -m 1 -E '^call [0-9]+ of .* departs$' "$1/output" || true
+}
+
+# departs_by_energy FOLDER: the same, where it is as the reference has it, and departs by its energy beside the least.
+departs_by_energy() {
+    if grep -q -E '^unit [0-9]+ and energy [0-9]+, where some plan has [0-9]+$' "$1/output"; then departs "$1"; fi
+}
+
+# passes FOLDER: whether the run came to its end and turned nothing down.
+passes() {
+    ! grep -q departs "$1/output" && grep -q '^hyper-period over' "$1/output"
+}
+
+missed=0
+planted=0
+# note NAME FOUND: counts an error, and says how it was found; nothing where it was not.
+note() {
     planted=$((planted + 1))
-    found=$(grep -m 1 -E '^call [0-9]+ of .* departs$' "$folder/output") || true
-    if [ -z "$found" ] && [ "$status" -gt 128 ]; then
-        found="the run is ended by signal $((status - 128))"
-    fi
-    if [ -z "$found" ]; then
+    if [ -z "$2" ]; then
         echo "selftest: $1: not found" >&2
         missed=$((missed + 1))
     else
-        printf '%-28s %s\n' "$1" "$found"
+        printf '%-28s %s\n' "$1" "$2"
     fi
 }
 
+# plant NAME FILE OLD NEW: an error in the stand-in; expects that a call departs, or that the error ends the run.
+plant() {
+    local folder found
+    folder=$(lay_out "$1")
+    change "$1" "$folder/$2" "$3" "$4"
+    run "$folder"
+    found=$(departs "$folder")
+    if [ -z "$found" ] && [ "$status" -gt 128 ]; then
+        found="the run is ended by signal $((status - 128))"
+    fi
+    note "$1" "$found"
+}
+
+# plant_in_test NAME FILE OLD NEW: an error in the test, which asks for other energies then; expects that a call departs
+# by its energy, though all that is called is as it should be.
+plant_in_test() {
+    local folder
+    folder=$(lay_out "$1")
+    cp "tests/c/$2" "$folder"
+    change "$1" "$folder/$2" "$3" "$4"
+    compile_test "$folder" "$2"
+    run "$folder"
+    note "$1" "$(departs_by_energy "$folder")"
+}
+
+# plant_in_both NAME OLD NEW: an error in the reference, as the stand-in and as the test has it, so that they agree;
+# expects that a call departs by its energy, and that none departs where energies are not compared with the least.
+plant_in_both() {
+    local folder found
+    folder=$(lay_out "$1")
+    change "$1" "$folder/reference.c" "$2" "$3"
+    compile_test "$folder" reference.c
+    run "$folder"
+    found=$(departs_by_energy "$folder")
+    cp tests/c/calls.c "$folder"
+    change "$1" "$folder/calls.c" 'judge_energy(c);' ';'
+    compile_test "$folder" calls.c
+    run "$folder"
+    if ! passes "$folder"; then
+        echo "selftest: $1: found without the least energy too: see $folder/output" >&2
+        found=
+    fi
+    note "$1" "$found"
+}
+
 folder=$(lay_out none)
-build "$folder"
-"$folder/calls" 1 4000 >"$folder/output" 2>&1 || true      # so few random sets are too few, which is no matter here
-if grep -q departs "$folder/output" || ! grep -q '^hyper-period over' "$folder/output"; then
+run "$folder"
+if ! passes "$folder"; then
     echo "selftest: the stand-in without an error is turned down: see $folder/output" >&2
     exit 1
 fi
@@ -215,6 +288,31 @@ plant 10-after-7 reference.c 'check_set(PLANNER, set, set_len, &s);' 'check_set(
         answer->code = check_10(&s);'
 plant 10-never reference.c 'if (refused == 0 && call == PLANNER)' 'if (0)'
 plant 10-by-the-walk reference.c 'if (refused == 0 && call == PLANNER)' 'if (refused == 0)'
+
+# The least energy: calls that are as they should be go beyond a margin that is too narrow, and depart from the least of
+# other plans or of other energies
+plant_in_test margin-of-unit-less-2 calls.c 'return tasks * (unit - 1);' 'return unit == 1 ? 0 : tasks * (unit - 2);'
+plant_in_test margin-of-n-less-1 calls.c 'return tasks * (unit - 1);' 'return (tasks - 1) * (unit - 1);'
+plant_in_test margin-of-one-task calls.c 'return tasks * (unit - 1);' 'return unit - 1;'
+plant_in_test margin-of-1-less calls.c 'return tasks * (unit - 1);' 'return tasks * (unit - 1) - (unit > 1);'
+plant_in_test margin-of-half-units calls.c 'return tasks * (unit - 1);' 'return unit == 1 ? 0 : tasks * unit / 2;'
+plant_in_test least-at-unit-2 calls.c '(unit == 1 && above != 0)' '(unit <= 2 && above != 0)'
+plant_in_test slack-of-1-less calls.c '> (1000 + slack) * least' '> (1000 + slack - 1) * least'
+plant_in_test least-of-plans-that-miss least.c 'if (then <= s->span)' 'if (1)'
+plant_in_test least-below-full-load least.c 'if (then <= s->span)' 'if (then < s->span)'
+plant_in_test least-without-idle-ticks least.c 'energy += s->set[1] * (s->span - ticks);' ''
+plant_in_test least-idle-for-all-ticks least.c 's->set[1] * (s->span - ticks);' 's->set[1] * s->span;'
+plant_in_test least-not-at-highest-rate least.c 'for (uint64_t r = 0; r < s->rates; r++)' 'for (uint64_t r = 0; r < s->rates - 1; r++)'
+
+# Errors on which the stand-in and the reference agree, and which none of the worked cases shows
+plant_in_both idle-by-task-in-both 'return s->span / s->task[t].period * left_of(s, t, r);' 'return task_energy(s, t, r) > waiting(s, t, r) ? task_energy(s, t, r) - waiting(s, t, r) : 0;'
+plant_in_both rounded-at-8-bits-in-both 'return divided_up(reduced_energy(s, t, r), unit);' 'return (uint8_t)divided_up(reduced_energy(s, t, r), unit);'
+plant_in_both fourth-rate-as-third-in-both 'uint64_t energy = s->task[t].energy[r], idle' 'uint64_t energy = s->task[t].energy[r > 3 ? 3 : r], idle'
+plant_in_both fourth-task-free-in-both 'return divided_up(reduced_energy(s, t, r), unit);' 'return t < 3 ? divided_up(reduced_energy(s, t, r), unit) : 0;'
+plant_in_both unit-2-as-1-in-both 'answer->value[0] = unit;' 'answer->value[0] = unit == 2 && s->tasks > 3 ? 1 : unit;'
+plant_in_both unit-a-step-low-in-both 'answer->value[0] = unit;' 'answer->value[0] = unit > 2 && s->tasks > 3 ? unit / 2 : unit;'
+plant_in_both highest-for-4-tasks-in-both 'uint64_t r = *rate_of(best, t);' 'uint64_t r = s->tasks > 3 ? s->rates : *rate_of(best, t);'
+plant_in_both idle-of-4-tasks-more-in-both 'answer->value[3] += s->idle * (s->span - answer->value[1]);' 'answer->value[3] += s->idle * (s->span - answer->value[1] + (s->tasks > 3));'
 
 # The walk
 plant ties-to-higher-task reference.c 'job[t].deadline < earliest->deadline))' 'job[t].deadline <= earliest->deadline))'

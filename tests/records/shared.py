@@ -28,6 +28,7 @@ RANDOM_CHIP_LISTS = 20          # lists of chips, each written and read back
 RANDOM_IDLE_PLANS = 400         # sets with an idle energy for the planner,
 RANDOM_IDLE_PROGRAMS = 150      # for the program, and
 RANDOM_IDLE_TEXTS = 150         # texts with an idle line for the reader
+RANDOM_MARGINS = 400            # small sets for the planner, held to the margin
 FEW_PLANS = 1_024               # up to so many, the reference looks at all of them
 TOP = 4_294_967_295             # the largest word
 
