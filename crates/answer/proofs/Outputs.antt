@@ -22,14 +22,14 @@ use Rattle.taskset.proofs.Checks.{accepts-but-last, accepts-next, refuses-uniqu
 use Rattle.taskset.proofs.Sets.{IsSet}
 use Rattle.layout.specs.declared.Layout.the-variants.{Ordinary}
 use Rattle.taskset.proofs.Unique.{planner-single, selected-unique, short-single, single-next, refusal-unique}
-use Rattle.taskset.proofs.DemandThree.{plan-given, walk-decides, refused-7-iff, ready-set, ready-covered, ready-not-7}
+use Rattle.taskset.proofs.DemandThree.{plan-given, walk-decides, refusal-owes, ready-set, ready-covered, ready-not-7}
 use Rattle.taskset.proofs.Copied.{SameCopied, count-is, copied-one}
 use Rattle.text.specs.Text.{Script, WellFormed, FirstBad, words}
 use Rattle.text.proofs.Sizes.{text-length}
 use Rattle.text.specs.Calls.{readerChecks}
 use Rattle.text.proofs.Copies.{one-script, reader-single}
 use Rattle.lines.proofs.Lengths.{plan-short, refused-short}
-use Rattle.answer.specs.Answer.{workLent, planLent, setLent, PrintsPlan, Prints, unread, refused, planned, outputChecks, RespondGives, Responds}
+use Rattle.answer.specs.Answer.{workLent, planLent, setLent, PrintsPlan, Prints, unread, refused, planned, Owed, of-text, of-refusal, of-plan, outputChecks, RespondGives, Responds}
 
 -- ---- of a set that the planner takes
 module _ (s : List ℕ) (accepts : Accepts (plannerChecks s planLent workLent)) where
@@ -57,8 +57,16 @@ module _ (s : List ℕ) (accepts : Accepts (plannerChecks s planLent workLent)) 
     pub walk-kept : IsKept (walk (walkTasks Ordinary s P) (hyperPeriod Ordinary s))
     walk-kept = walk-decides s is-set P .1 (promise .keeps .for-ever)
 
-pub seven-iff : (s : List ℕ) → Refuses (plannerChecks s planLent workLent) 7 0 ↔ (Accepts (readyChecks s planLent workLent) × NoneKeeps s)
-seven-iff s = refused-7-iff s (readyChecks s planLent workLent) (ready-set s planLent workLent) (ready-not-7 s planLent workLent)
+-- ---- what is owed
+pub owed : (t out : List ℕ) → Prints t out → Owed t out
+owed t out (unread n k r e) = of-text n k r e
+owed t out (refused s n k h r e) =
+    let w = words s in
+    let ready = readyChecks w planLent workLent in
+    let owes = refusal-owes w ready (ready-set w planLent workLent) (ready-not-7 w planLent workLent) n k r in
+    of-refusal s n k h e (owes .0, (λ none. owes .1 none .0))
+owed t out (planned s P unit load hyper energy busy idle preempted h x) =
+    of-plan s P unit load hyper energy busy idle preempted h x (promise (words s) (x .accepts) P unit load hyper energy (x .selected))
 
 -- ---- how long
 plan-lines : (s P out : List ℕ) (u l h e b i p : ℕ) → PrintsPlan s P out u l h e b i p → length out ≤ 2048

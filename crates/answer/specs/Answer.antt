@@ -4,7 +4,7 @@ use Prim.Native.Nat.{ℕ}
 use mathlib.Core.Path.{_≡_}
 use mathlib.Core.List.{List, [], _∷_, _++_}
 use mathlib.Core.Logic.{_↔_}
-use lib.ListN.{length}
+use lib.ListN.{length, take}
 use Rattle.layout.specs.Words.{mostTasks, mostWords}
 use Rattle.layout.specs.declared.Layout.the-variants.{Ordinary}
 use Rattle.schedule.specs.Counted.{walk, kept}
@@ -63,13 +63,22 @@ RespondGives t d d′ (Wrote n) =
 RespondGives t d d′ (NotCopied r) =
     (out : List ℕ) × Prints t out × Refuses (outputChecks (length out) (length d)) (number r) (second r) × (d′ ≡ d)
 
--- The call's contract: the above; and demand 3 of whatever it prints: a plan keeps every deadline for ever, its energy
--- is its own and within the slack of the least, and with the unit printed within note 5's margin; and the planner's
--- refusal is 7 exactly when the checks before 7 pass and no plan keeps every deadline for ever.
+-- WHAT IS OWED with an output (demand 3, and note 5's margin): with a plan's lines the promise of that plan, by the unit
+-- and the energy that stand in them; and a refusal of the planner's is 7 exactly when the checks before 7 pass and no
+-- plan keeps every deadline for ever.
+pub data Owed (t out : List ℕ) : Type 0 where
+  of-text : (n k : ℕ) → Refuses (readerChecks t setLent) n k → out ≡ refusedLine n k → Owed t out
+  of-refusal : (s : Script) (n k : ℕ) → Read s t → out ≡ refusedLine n k
+      → ((n ≡ 7) ↔ (Accepts (readyChecks (words s) planLent workLent) × NoneKeeps (words s))) → Owed t out
+  of-plan : (s : Script) (P : List ℕ) (unit load hyper energy busy idle preempted : ℕ)
+      → Read s t → PrintsPlan (words s) P out unit load hyper energy busy idle preempted → PlanPromise (words s) P unit energy
+      → Owed t out
+
+abbrev pub RespondOwes : (t d′ : List ℕ) → CopyAnswer → Type 0
+RespondOwes t d′ (Wrote n) = Owed t (take n d′)
+RespondOwes t d′ (NotCopied r) = Unit {0}
+
+-- The call's contract: the bytes that it writes are the output, and they come with what is owed.
 pub record Responds (t d d′ : List ℕ) (a : CopyAnswer) : Type 0 where
   pub gives : RespondGives t d d′ a
-  pub promise : (s : Script) (P out : List ℕ) (unit load hyper energy busy idle preempted : ℕ)
-      → IsTextOf s t → PrintsPlan (words s) P out unit load hyper energy busy idle preempted
-      → PlanPromise (words s) P unit energy
-  pub seven-iff : (s : Script) → IsTextOf s t
-      → Refuses (plannerChecks (words s) planLent workLent) 7 0 ↔ (Accepts (readyChecks (words s) planLent workLent) × NoneKeeps (words s))
+  pub owes : RespondOwes t d′ a

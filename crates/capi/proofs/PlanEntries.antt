@@ -60,6 +60,7 @@ module _ (s plan work d : List ℕ) where
           numbers = λ z. absurd (none z);
           promise = λ z. absurd (none z);
           margin-fits = λ z. absurd (none z);
+          energy-fits = λ z. absurd (none z);
           load-is = λ z. absurd (none z);
           hyper-is = λ z. absurd (none z);
           seven-iff = ((λ z. owes .0 (omega (arith, e))), (λ n. let both = owes .1 n in omega (arith, e, both .0, both .1)));
@@ -111,8 +112,9 @@ module _ (s plan work d : List ℕ) where
         (omega (arith, unit-is, unit-small s set P (c .gives .1 .1 .exponent) (c .gives .1 .1 .planned))) in
         let load-read : resultAt d′ 1 ≡ load = read 1 (omega arith) (omega (arith, load-is, fits .fits, set .hyper-range .1)) in
         let hyper-read : resultAt d′ 2 ≡ hyper = read 2 (omega arith) (omega (arith, hyper-is, set .hyper-range .1)) in
-        let energy-read : resultAt d′ 3 ≡ energy = read 3 (omega arith)
-        (omega (arith, energy-is, energy-small Ordinary s set P (fits .plan) (hyperPeriod Ordinary s - planLoad (problem s) P) (omega arith))) in
+        let energy-few : energy < 2 ^ 49
+        = omega (arith, energy-is, energy-small Ordinary s set P (fits .plan) (hyperPeriod Ordinary s - planLoad (problem s) P) (omega arith)) in
+        let energy-read : resultAt d′ 3 ≡ energy = read 3 (omega arith) (omega (arith, energy-few)) in
         let promise-read : PlanPromise s (take (taskCount Ordinary s) plan′) (resultAt d′ 0) (resultAt d′ 3) =
         rw (unit-read, energy-read) (c .owes) in
         record {
@@ -120,6 +122,7 @@ module _ (s plan work d : List ℕ) where
           numbers = λ z. c .numbers;
           promise = λ z. promise-read;
           margin-fits = λ z. rw (unit-read, unit-is) (omega (arith, small));
+          energy-fits = λ z. omega (arith, energy-few, energy-read);
           load-is = λ z. load-read ∙ load-is ∙ ap (planLoad (problem s)) (sym (c .gives .1 .2 .front));
           hyper-is = λ z. hyper-read ∙ hyper-is;
           seven-iff = ((λ z. absurd (omega arith)), (λ n. absurd (n .1 (take (taskCount Ordinary s) plan′) (c .owes .keeps))));

@@ -276,6 +276,7 @@ pub record Cases : Type 0 where
   pub jobs-alone : (jobsEnergy (slow-or-fast 10 910) (1 ∷ []) ≡ 910) × (jobsEnergy (slow-or-fast 10 910) (2 ∷ []) ≡ 200) ×
       (reportedEnergy (slow-or-fast 10 910) (2 ∷ []) ≡ 1100) × Keeps (slow-or-fast 10 910) (2 ∷ [])
   pub jobs-alone-false : (1000 * jobsEnergy (slow-or-fast 10 910) (1 ∷ []) ≤ 1100 * jobsEnergy (slow-or-fast 10 910) (2 ∷ [])) → ⊥
+  pub jobs-alone-above : (jobsEnergy (slow-or-fast 10 910) (1 ∷ []) ≤ jobsEnergy (slow-or-fast 10 910) (2 ∷ []) + margin (slow-or-fast 10 910) 1) → ⊥
   -- Without idle energy the faster rate is the cheaper.
   idle-nothing : (plan work : List ℕ) → length plan ≡ 1 → length work ≡ 82
       → PlannerGives (slow-or-fast 0 910) plan work (2 ∷ []) (replicate 82 0) (Planned 8 10 100 200)
@@ -296,8 +297,7 @@ pub record Cases : Type 0 where
   -- "H in microjoules per tick, 0 to 1,000".
   idle-1001 : Declined (slow-or-fast 1001 910) (BadWord 1)
   -- Document 02, note 5. With energies 33 and 64, at unit 32 both round to 2, and the lower load decides: plan 2, energy
-  -- 64, which is 31 above the least. So no smaller margin than 1 × (32 - 1) would hold; nor one of the jobs alone, with
-  -- idle energy.
+  -- 64, which is 31 above the least. So no smaller margin than 1 × (32 - 1) would hold, without idle energy or with it.
   margin-31 : (plan work : List ℕ) → length plan ≡ 1 → length work ≡ 10
       → PlannerGives (two-energies 0 33 64) plan work (2 ∷ []) (replicate 10 0) (Planned 32 5 10 64)
   margin-31-reached : (margin (two-energies 0 33 64) 32 ≡ 31) × IsLeast (two-energies 0 33 64) (1 ∷ []) 33
@@ -388,6 +388,7 @@ cases =
             (walks (slow-or-fast 10 910) 2 1 100 refl (2 ∷ []) refl, refl) .0,
       );
       jobs-alone-false = λ h. let bound : 1000 * 910 ≤ 1100 * 200 = h in omega arith;
+      jobs-alone-above = λ h. let bound : 910 ≤ 200 = h in omega arith;
       idle-nothing = planned (slow-or-fast 0 910) 2 1 100 refl (2 ∷ []) 3 8 10 200
           (le-by-compare _ _ tt) (le-by-compare _ _ tt) refl refl refl refl refl refl;
       idle-equal = planned (slow-or-fast 10 900) 2 1 100 refl (1 ∷ []) 0 1 90 1000

@@ -85,7 +85,7 @@ module _ (s : List ℕ) (set : IsSet Ordinary s) where
         keeps = keeps;
         own = own;
         within = λ Q k. omega (arith, in-slack covered P (c .exponent) (c .planned) Q k);
-        from-1 = rw unit-is (power-positive (c .exponent));
+        from-1 = omega (arith, power-positive (c .exponent));
         within-margin = λ Q k. omega (arith, bound Q k);
         least = λ one.
             let none : unit - 1 ≡ 0 = omega arith in

@@ -22,6 +22,7 @@ wrote t d d′ n x =
     record {
       within = count-within (x .gives .0) d d′ n (x .gives .3);
       prints = subst (λ (o : List ℕ). Prints t o) (sym e) (x .gives .1);
+      owes = x .owes;
     }
 
 respond-requires : tie.Need-respond-requires
