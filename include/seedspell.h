@@ -136,8 +136,9 @@ uint64_t seedspell_walk(const uint32_t *set, size_t set_len, const uint32_t *pla
  * nothing is changed.
  *
  * N x (unit - 1) is the margin: the energy exceeds that of any plan that keeps every deadline by at most so many
- * microjoules. The unit is 1 to 2^49 and N at most 32, so that the margin is below 2^54: 64 bits hold it, 32 may not.
- * It is 0 where the unit is 1, and nowhere else; only there may a host say 'least'.
+ * microjoules. It is 0 where the unit is 1, and nowhere else; only there may a host say 'least'. The unit is at least 1
+ * and at most 2^49 and N at most 32, so that the margin is below 2^54, and an energy is below 2^49: 64 bits hold the
+ * margin, and energy x slack, where 32 may not.
  *
  * Whoever turns a rate number into a clock setting uses table entry number - 1, since rate numbers count from 1 and C's
  * tables from 0: a table of M settings has entries 0 to M - 1. */

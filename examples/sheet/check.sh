@@ -53,6 +53,8 @@ plant margin-of-one-task 'tasks() * (unit - 1)' '(unit - 1)'
 plant margin-of-whole-units 'tasks() * (unit - 1)' 'tasks() * unit'
 plant slack-of-the-least 'set[0] / (1000 + set[0])' 'set[0] / 1000'
 plant slack-rounded-up 'energy * set[0] / (1000 + set[0])' 'scaled(energy, set[0], 1000 + set[0])'
+plant slack-of-jobs-alone 'energy * set[0] / (1000 + set[0])' \
+    '(set[1] == 0 ? energy : jobs_energy(task(1)[0])) * set[0] / (1000 + set[0])'
 plant larger-of-the-two 'margin(unit) <= allowance(energy) ?' 'margin(unit) > allowance(energy) ?'
 plant margin-alone 'margin(unit) <= allowance(energy) ?' '1 ?'
 plant slack-alone 'margin(unit) <= allowance(energy) ?' '0 ?'

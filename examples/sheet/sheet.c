@@ -9,10 +9,11 @@
    where there is no whole sheet, since the input cannot be used, there is no memory to plan with, or the sheet cannot
    be written: then standard error says which.
 
-   All arithmetic is in whole numbers. What is rounded is rounded up, so that no rounding makes a page promise too much.
-   The energy is that of the jobs, as the set gives it, and what the set's idle energy comes to in the ticks in which no
-   job runs; the page has both apart, and says so where the set counts nothing for waiting. How far it may lie above the
-   least possible is what the planner promises of it, and nothing narrower. */
+   All arithmetic is in whole numbers. What is rounded is rounded up, so that no rounding makes a page promise too much;
+   only what the slack allows is rounded down, which promises nothing more, as energies are whole. The energy is that of
+   the jobs, as the set gives it, and what the set's idle energy comes to in the ticks in which no job runs; the page has
+   both apart, and says so where the set counts nothing for waiting. How far it may lie above the least possible is what
+   the planner promises of it, and nothing narrower. */
 
 #include <ctype.h>
 #include <inttypes.h>
@@ -322,7 +323,7 @@ static uint64_t margin(uint64_t unit)
 }
 
 /* By the slack G: 1,000 x the energy is at most (1,000 + G) x the other. Both are whole, so the part of a microjoule
-   that is dropped here promises nothing more. An energy is at most 3.2e14, a thousand of them far below 2^64. */
+   that is dropped here promises nothing more. An energy is below 2^49, a thousand of them far below 2^64. */
 static uint64_t allowance(uint64_t energy)
 {
     return energy * set[0] / (1000 + set[0]);
@@ -346,7 +347,8 @@ static void print_bound(uint64_t unit, uint64_t energy)
     if (above == margin(unit))
         printf("by the margin: %" PRIu32 " x (%" PRIu64 " - 1)\n", tasks(), unit);
     else
-        printf("by the slack: %" PRIu64 " x %" PRIu32 " / %" PRIu32 "\n", energy, set[0], 1000 + set[0]);
+        printf("by the slack: %" PRIu64 " x %" PRIu32 " / %" PRIu32 "%s\n", energy, set[0], 1000 + set[0],
+               energy * set[0] % (1000 + set[0]) == 0 ? "" : ", rounded down");
 }
 
 /* A job takes a tick at least and 1,000,000 microjoules at most, a tick without one takes less, and a day has at most
