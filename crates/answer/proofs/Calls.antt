@@ -32,7 +32,8 @@ use Rattle.lines.specs.Lines.{planLine, rateLines, walkLine, refusedLine}
 use Rattle.lines.proofs.Lengths.{plan-short}
 use Rattle.planner.specs.Answers.{PlannerCall}
 use Rattle.walk.specs.Answers.{Walked}
-use Rattle.answer.specs.Answer.{workLent, planLent, setLent, Read, Prints, unread, refused, planned, Owed, RespondGives, Responds}
+use Rattle.answer.specs.Answer.{workLent, planLent, setLent, Read, Prints, unread, refused, planned}
+use Rattle.answer.specs.Answer.{Owed, RespondGives, Responds}
 use Rattle.answer.specs.Steps as steps
 use Rattle.answer.specs.Steps.{PlannedSet, PrintsSet, PutSet, PutAnswer}
 use Rattle.answer.proofs.Outputs.{is-plan, plan-length, promise, owed, output-short}
@@ -133,7 +134,10 @@ module _ (t set set′ : List ℕ) (lent : length set ≡ setLent) where
 module _ (t d : List ℕ) where
   -- The bytes written are the output, and what is owed with it holds of them.
   responds : (d′ : List ℕ) (a : CopyAnswer) → RespondGives t d d′ a → Responds t d d′ a
-  responds d′ (Wrote n) g = record { gives = g; owes = subst (Owed t) (sym (front-is (g .0) d d′ n (g .3))) (owed t (g .0) (g .1)) }
+  responds d′ (Wrote n) g = record {
+    gives = g;
+    owes = subst (Owed t) (sym (front-is (g .0) d d′ n (g .3))) (owed t (g .0) (g .1));
+  }
   responds d′ (NotCopied r) g = record { gives = g; owes = tt }
 
   module _ (text text′ : List ℕ) (n : ℕ) (answer : PutAnswer t text text′ n) where

@@ -29,7 +29,8 @@ use Rattle.text.proofs.Sizes.{text-length}
 use Rattle.text.specs.Calls.{readerChecks}
 use Rattle.text.proofs.Copies.{one-script, reader-single}
 use Rattle.lines.proofs.Lengths.{plan-short, refused-short}
-use Rattle.answer.specs.Answer.{workLent, planLent, setLent, PrintsPlan, Prints, unread, refused, planned, Owed, of-text, of-refusal, of-plan, outputChecks, RespondGives, Responds}
+use Rattle.answer.specs.Answer.{workLent, planLent, setLent, PrintsPlan, Prints, unread, refused, planned}
+use Rattle.answer.specs.Answer.{Owed, of-text, of-refusal, of-plan, outputChecks, RespondGives, Responds}
 
 -- ---- of a set that the planner takes
 module _ (s : List ℕ) (accepts : Accepts (plannerChecks s planLent workLent)) where
@@ -66,7 +67,8 @@ owed t out (refused s n k h r e) =
     let owes = refusal-owes w ready (ready-set w planLent workLent) (ready-not-7 w planLent workLent) n k r in
     of-refusal s n k h e (owes .0, (λ none. owes .1 none .0))
 owed t out (planned s P unit load hyper energy busy idle preempted h x) =
-    of-plan s P unit load hyper energy busy idle preempted h x (promise (words s) (x .accepts) P unit load hyper energy (x .selected))
+    of-plan s P unit load hyper energy busy idle preempted h x
+    (promise (words s) (x .accepts) P unit load hyper energy (x .selected))
 
 -- ---- how long
 plan-lines : (s P out : List ℕ) (u l h e b i p : ℕ) → PrintsPlan s P out u l h e b i p → length out ≤ 2048

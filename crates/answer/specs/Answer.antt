@@ -71,8 +71,8 @@ pub data Owed (t out : List ℕ) : Type 0 where
   of-refusal : (s : Script) (n k : ℕ) → Read s t → out ≡ refusedLine n k
       → ((n ≡ 7) ↔ (Accepts (readyChecks (words s) planLent workLent) × NoneKeeps (words s))) → Owed t out
   of-plan : (s : Script) (P : List ℕ) (unit load hyper energy busy idle preempted : ℕ)
-      → Read s t → PrintsPlan (words s) P out unit load hyper energy busy idle preempted → PlanPromise (words s) P unit energy
-      → Owed t out
+      → Read s t → PrintsPlan (words s) P out unit load hyper energy busy idle preempted
+      → PlanPromise (words s) P unit energy → Owed t out
 
 abbrev pub RespondOwes : (t d′ : List ℕ) → CopyAnswer → Type 0
 RespondOwes t d′ (Wrote n) = Owed t (take n d′)

@@ -112,8 +112,9 @@ module _ (s plan work d : List ℕ) where
         (omega (arith, unit-is, unit-small s set P (c .gives .1 .1 .exponent) (c .gives .1 .1 .planned))) in
         let load-read : resultAt d′ 1 ≡ load = read 1 (omega arith) (omega (arith, load-is, fits .fits, set .hyper-range .1)) in
         let hyper-read : resultAt d′ 2 ≡ hyper = read 2 (omega arith) (omega (arith, hyper-is, set .hyper-range .1)) in
+        let free : ℕ = hyperPeriod Ordinary s - planLoad (problem s) P in
         let energy-few : energy < 2 ^ 49
-        = omega (arith, energy-is, energy-small Ordinary s set P (fits .plan) (hyperPeriod Ordinary s - planLoad (problem s) P) (omega arith)) in
+        = omega (arith, energy-is, energy-small Ordinary s set P (fits .plan) free (omega arith)) in
         let energy-read : resultAt d′ 3 ≡ energy = read 3 (omega arith) (omega (arith, energy-few)) in
         let promise-read : PlanPromise s (take (taskCount Ordinary s) plan′) (resultAt d′ 0) (resultAt d′ 3) =
         rw (unit-read, energy-read) (c .owes) in

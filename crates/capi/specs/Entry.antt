@@ -85,11 +85,13 @@ PlanEntryGives s plan work results plan′ work′ =
 -- The entry's contract: the above; and demand 3 again over the plan words and the bytes. Where 0 is returned, every
 -- plan word is a rate number, and the plan keeps its promise, and note 5's, with the unit that the first value is and
 -- the energy that the fourth is; the second value is its load, the third the hyper-period. Margin and energy are so
--- small that a host can work with them in 64 bits. And 7 is returned if and only if no cause before it holds and no plan keeps every deadline for ever.
+-- small that a host can work with them in 64 bits. And 7 is returned if and only if no cause before it holds and no plan
+-- keeps every deadline for ever.
 pub record PlanEntry (s plan work results plan′ work′ results′ : List ℕ) (returned : ℕ) : Type 0 where
   pub gives : PlanEntryGives s plan work results plan′ work′ results′ returned
   pub numbers : returned ≡ 0 → (t : ℕ) → t < taskCount Ordinary s → RateNumber (rateCount Ordinary s) (getD plan′ t 0)
-  pub promise : returned ≡ 0 → PlanPromise s (take (taskCount Ordinary s) plan′) (resultAt results′ 0) (resultAt results′ 3)
+  pub promise : returned ≡ 0
+      → PlanPromise s (take (taskCount Ordinary s) plan′) (resultAt results′ 0) (resultAt results′ 3)
   pub margin-fits : returned ≡ 0 → margin s (resultAt results′ 0) < 2 ^ 54
   pub energy-fits : returned ≡ 0 → resultAt results′ 3 < 2 ^ 49
   pub load-is : returned ≡ 0 → resultAt results′ 1 ≡ planLoad (problem s) (take (taskCount Ordinary s) plan′)

@@ -276,7 +276,9 @@ pub record Cases : Type 0 where
   pub jobs-alone : (jobsEnergy (slow-or-fast 10 910) (1 ∷ []) ≡ 910) × (jobsEnergy (slow-or-fast 10 910) (2 ∷ []) ≡ 200) ×
       (reportedEnergy (slow-or-fast 10 910) (2 ∷ []) ≡ 1100) × Keeps (slow-or-fast 10 910) (2 ∷ [])
   pub jobs-alone-false : (1000 * jobsEnergy (slow-or-fast 10 910) (1 ∷ []) ≤ 1100 * jobsEnergy (slow-or-fast 10 910) (2 ∷ [])) → ⊥
-  pub jobs-alone-above : (jobsEnergy (slow-or-fast 10 910) (1 ∷ []) ≤ jobsEnergy (slow-or-fast 10 910) (2 ∷ []) + margin (slow-or-fast 10 910) 1) → ⊥
+  pub jobs-alone-above :
+      (jobsEnergy (slow-or-fast 10 910) (1 ∷ []) ≤ jobsEnergy (slow-or-fast 10 910) (2 ∷ []) + margin (slow-or-fast 10 910) 1)
+      → ⊥
   -- Without idle energy the faster rate is the cheaper.
   idle-nothing : (plan work : List ℕ) → length plan ≡ 1 → length work ≡ 82
       → PlannerGives (slow-or-fast 0 910) plan work (2 ∷ []) (replicate 82 0) (Planned 8 10 100 200)

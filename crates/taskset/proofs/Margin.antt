@@ -42,7 +42,8 @@ module _ (s P : List ℕ) (unit energy : ℕ) (promise : PlanPromise s P unit en
   within-allowance Q k = difference (reportedEnergy s Q) energy (slack s) (promise .within Q k)
 
   -- So the energy is above that of every plan that keeps every deadline for ever by at most either of the two.
-  pub above-least : (K : ℕ) → (K ≡ margin s unit) ⊎ (K ≡ allowance s energy) → (Q : List ℕ) → Keeps s Q → energy ≤ reportedEnergy s Q + K
+  pub above-least : (K : ℕ) → (K ≡ margin s unit) ⊎ (K ≡ allowance s energy) → (Q : List ℕ) → Keeps s Q
+      → energy ≤ reportedEnergy s Q + K
   above-least K (inl e) Q k = omega (arith, promise .within-margin Q k)
   above-least K (inr e) Q k = omega (arith, within-allowance Q k)
 
@@ -55,10 +56,11 @@ module _ (s P : List ℕ) (unit energy : ℕ) (promise : PlanPromise s P unit en
       omega (arith, mul-le-mul-left n bound, mul-le-mul-left x rest)
 
   -- Where a plan that keeps every deadline for ever reaches the margin, it is a plan of the least energy.
-  pub margin-reached : (Q : List ℕ) → Keeps s Q → energy ≡ reportedEnergy s Q + margin s unit → IsLeast s Q (reportedEnergy s Q)
+  pub margin-reached : (Q : List ℕ) → Keeps s Q → energy ≡ reportedEnergy s Q + margin s unit
+      → IsLeast s Q (reportedEnergy s Q)
   margin-reached Q k e = record { keeps = k; own = refl; least = λ R r. omega (arith, promise .within-margin R r) }
 
--- Of the plan selected for a set that passes 10.
+-- Of the plan selected, with 2 ^ a the unit used.
 module _ (s : List ℕ) (set : IsSet Ordinary s) (P : List ℕ) (a : ℕ) (planned : IsPlanned (problem s) (slack s) a P) where
   -- The first unit is at most 2 ^ 49, as no plan's energy is above that: so the margin is below 2 ^ 54.
   pub unit-small : 2 ^ a ≤ 2 ^ 49
@@ -75,12 +77,19 @@ module _ (s : List ℕ) (set : IsSet Ordinary s) (P : List ℕ) (a : ℕ) (plann
       pow-le-pow-right {n = 2} (omega arith) few
 
   pub margin-small : margin s (2 ^ a) < 2 ^ 54
-  margin-small = omega (arith, mul-le-mul {n₁ = taskCount Ordinary s} {m₁ = 2 ^ a - 1} {n₂ = 32} {m₂ = 2 ^ 49 - 1} (set .whole .tasks-range .1) (omega (arith, unit-small)))
+  margin-small =
+      let few : 2 ^ a - 1 ≤ 2 ^ 49 - 1 = omega (arith, unit-small) in
+      omega (arith, mul-le-mul (set .whole .tasks-range .1) few)
 
   -- With a slack of at most 500 the margin is never above the slack's allowance.
   pub margin-is-smaller : Covered Ordinary s → slack s ≤ 500 → margin s (2 ^ a) ≤ allowance s (reportedEnergy s P)
   margin-is-smaller covered small =
       let mine = planned .chosen .ok in
-      let more : planEnergy (problem s) P ≤ reportedEnergy s P = omega (arith, reported-is s covered P (mine .plan) (mine .fits)) in
+      let more : planEnergy (problem s) P ≤ reportedEnergy s P
+      = omega (arith, reported-is s covered P (mine .plan) (mine .fits)) in
       at-most-part (reportedEnergy s P) (margin s (2 ^ a)) (slack s)
-      (omega (arith, margin-in-slack (Fitting (problem s)) (problem s) (slack s) a small P planned, mul-le-mul-right (slack s) more))
+      (omega (
+        arith,
+        margin-in-slack (Fitting (problem s)) (problem s) (slack s) a small P planned,
+        mul-le-mul-right (slack s) more,
+      ))
