@@ -8,8 +8,8 @@ those that workload.py makes for an idle energy H of a tenth of the lowest rate'
 power. Each is planned at both slacks twice, with 0 and with H in its second word.
 
 Of every plan the load and the energy are worked out again, by tests/reference.py,
-and the slack's promise is tried: (1,000 + slack) x the least energy is at least 1,000 x the
-plan's, both of jobs and waiting together. The least comes from the search of
+and the slack's promise is tried: (1,000 + slack) x the least energy is at least 1,000
+x the plan's, both of jobs and waiting together. The least comes from the search of
 optimum.py, over what jobs draw above the idle energy, with H x L added.
 
 The first table has a line for each slack and idle energy: in microjoules a tick, as

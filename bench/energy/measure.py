@@ -7,8 +7,8 @@ glpsol's files. There are SETS sets, 256 without the argument, of each type and
 number of tasks; the seed is 1. The same sets are planned at both slacks.
 
 Of every plan the load and the energy are worked out again, by tests/reference.py,
-and the slack's promise is tried: (1,000 + slack) x the least energy is at least 1,000 x
-the plan's. Every relaxed bound is held to glpsol's.
+and the slack's promise is tried: (1,000 + slack) x the least energy is at least
+1,000 x the plan's. Every relaxed bound is held to glpsol's.
 """
 
 import subprocess

@@ -33,10 +33,10 @@ use Rattle.lines.proofs.Lengths.{plan-short}
 use Rattle.planner.specs.Answers.{PlannerCall}
 use Rattle.walk.specs.Answers.{Walked}
 use Rattle.answer.specs.Answer.{workLent, planLent, setLent, Read, Prints, unread, refused, planned}
-use Rattle.answer.specs.Answer.{Owed, RespondGives, Responds}
+use Rattle.answer.specs.Answer.{RespondGives, Responds}
 use Rattle.answer.specs.Steps as steps
 use Rattle.answer.specs.Steps.{PlannedSet, PrintsSet, PutSet, PutAnswer}
-use Rattle.answer.proofs.Outputs.{is-plan, plan-length, promise, owed, output-short}
+use Rattle.answer.proofs.Outputs.{is-plan, plan-length, promise, owes, output-short}
 
 -- ---- a plan and its walk
 module _ {s P : List ℕ} {unit load hyper energy : ℕ} (given : PlannedSet s P unit load hyper energy) where
@@ -132,11 +132,13 @@ module _ (t set set′ : List ℕ) (lent : length set ≡ setLent) where
 
 -- ---- the call
 module _ (t d : List ℕ) where
-  -- The bytes written are the output, and what is owed with it holds of them.
+  -- The bytes written are an output, and what it owes holds.
   responds : (d′ : List ℕ) (a : CopyAnswer) → RespondGives t d d′ a → Responds t d d′ a
   responds d′ (Wrote n) g = record {
     gives = g;
-    owes = subst (Owed t) (sym (front-is (g .0) d d′ n (g .3))) (owed t (g .0) (g .1));
+    owes =
+        let p : Prints t (take n d′) = subst (Prints t) (sym (front-is (g .0) d d′ n (g .3))) (g .1) in
+        (p, owes t (take n d′) p);
   }
   responds d′ (NotCopied r) g = record { gives = g; owes = tt }
 

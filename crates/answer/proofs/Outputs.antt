@@ -30,7 +30,7 @@ use Rattle.text.specs.Calls.{readerChecks}
 use Rattle.text.proofs.Copies.{one-script, reader-single}
 use Rattle.lines.proofs.Lengths.{plan-short, refused-short}
 use Rattle.answer.specs.Answer.{workLent, planLent, setLent, PrintsPlan, Prints, unread, refused, planned}
-use Rattle.answer.specs.Answer.{Owed, of-text, of-refusal, of-plan, outputChecks, RespondGives, Responds}
+use Rattle.answer.specs.Answer.{Owes, outputChecks, RespondGives, Responds}
 
 -- ---- of a set that the planner takes
 module _ (s : List ℕ) (accepts : Accepts (plannerChecks s planLent workLent)) where
@@ -58,17 +58,16 @@ module _ (s : List ℕ) (accepts : Accepts (plannerChecks s planLent workLent)) 
     pub walk-kept : IsKept (walk (walkTasks Ordinary s P) (hyperPeriod Ordinary s))
     walk-kept = walk-decides s is-set P .1 (promise .keeps .for-ever)
 
--- ---- what is owed
-pub owed : (t out : List ℕ) → Prints t out → Owed t out
-owed t out (unread n k r e) = of-text n k r e
-owed t out (refused s n k h r e) =
+-- ---- what an output owes
+pub owes : (t out : List ℕ) (p : Prints t out) → Owes p
+owes t out (unread n k r e) = tt
+owes t out (refused s n k h r e) =
     let w = words s in
     let ready = readyChecks w planLent workLent in
-    let owes = refusal-owes w ready (ready-set w planLent workLent) (ready-not-7 w planLent workLent) n k r in
-    of-refusal s n k h e (owes .0, (λ none. owes .1 none .0))
-owed t out (planned s P unit load hyper energy busy idle preempted h x) =
-    of-plan s P unit load hyper energy busy idle preempted h x
-    (promise (words s) (x .accepts) P unit load hyper energy (x .selected))
+    let owed = refusal-owes w ready (ready-set w planLent workLent) (ready-not-7 w planLent workLent) n k r in
+    (owed .0, (λ none. owed .1 none .0))
+owes t out (planned s P unit load hyper energy busy idle preempted h x) =
+    promise (words s) (x .accepts) P unit load hyper energy (x .selected)
 
 -- ---- how long
 plan-lines : (s P out : List ℕ) (u l h e b i p : ℕ) → PrintsPlan s P out u l h e b i p → length out ≤ 2048

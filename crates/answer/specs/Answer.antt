@@ -63,22 +63,20 @@ RespondGives t d d′ (Wrote n) =
 RespondGives t d d′ (NotCopied r) =
     (out : List ℕ) × Prints t out × Refuses (outputChecks (length out) (length d)) (number r) (second r) × (d′ ≡ d)
 
--- WHAT IS OWED with an output (demand 3, and note 5's margin): with a plan's lines the promise of that plan, by the unit
--- and the energy that stand in them; and a refusal of the planner's is 7 exactly when the checks before 7 pass and no
--- plan keeps every deadline for ever.
-pub data Owed (t out : List ℕ) : Type 0 where
-  of-text : (n k : ℕ) → Refuses (readerChecks t setLent) n k → out ≡ refusedLine n k → Owed t out
-  of-refusal : (s : Script) (n k : ℕ) → Read s t → out ≡ refusedLine n k
-      → ((n ≡ 7) ↔ (Accepts (readyChecks (words s) planLent workLent) × NoneKeeps (words s))) → Owed t out
-  of-plan : (s : Script) (P : List ℕ) (unit load hyper energy busy idle preempted : ℕ)
-      → Read s t → PrintsPlan (words s) P out unit load hyper energy busy idle preempted
-      → PlanPromise (words s) P unit energy → Owed t out
+-- WHAT AN OUTPUT OWES (demand 3, and note 5's margin): the lines of a plan its promise, by the unit and the energy that
+-- stand in them; and a refusal of the planner's is 7 exactly when the checks before 7 pass and no plan keeps every
+-- deadline for ever.
+abbrev pub Owes : {t out : List ℕ} → Prints t out → Type 0
+Owes (unread n k r e) = Unit {0}
+Owes (refused s n k h r e) = (n ≡ 7) ↔ (Accepts (readyChecks (words s) planLent workLent) × NoneKeeps (words s))
+Owes (planned s P unit load hyper energy busy idle preempted h x) = PlanPromise (words s) P unit energy
 
+-- The bytes that the call writes are an output, with all that it owes.
 abbrev pub RespondOwes : (t d′ : List ℕ) → CopyAnswer → Type 0
-RespondOwes t d′ (Wrote n) = Owed t (take n d′)
+RespondOwes t d′ (Wrote n) = (p : Prints t (take n d′)) × Owes p
 RespondOwes t d′ (NotCopied r) = Unit {0}
 
--- The call's contract: the bytes that it writes are the output, and they come with what is owed.
+-- The call's contract.
 pub record Responds (t d d′ : List ℕ) (a : CopyAnswer) : Type 0 where
   pub gives : RespondGives t d d′ a
   pub owes : RespondOwes t d′ a

@@ -3,7 +3,7 @@ use Prim.Native.Nat.{ℕ, _+_, _≤_, _<_}
 use mathlib.Core.Path.{_≡_}
 use mathlib.Core.List.{List}
 use lib.ListN.{length, take}
-use Rattle.answer.specs.Answer.{Prints, Owed}
+use Rattle.answer.specs.Answer.{Prints, Owes}
 use Rattle.seedspell.specs.declared.input.Got.{Got}
 use Rattle.seedspell.specs.declared.input.Got.the-variants.{Bytes, End, Interrupted, Failed}
 use Rattle.seedspell.specs.declared.input.Input.{Input}
@@ -37,9 +37,8 @@ WroteMore d at (Took k) = Moves d at k
 WroteMore d at NotYet = Unit {0}
 WroteMore d at Never = Unit {0}
 
--- THE ANSWER. The first r bytes of d are what the program is to print for the text t, and come with what is owed: the
--- promise of the plan in them, or what a refusal means.
+-- THE ANSWER. The first r bytes of d are what the program is to print for the text t, with what that output owes.
 pub record Answered (t d : List ℕ) (r : ℕ) : Type 0 where
   pub within : r ≤ length d
   pub prints : Prints t (take r d)
-  pub owes : Owed t (take r d)
+  pub owes : Owes prints

@@ -3,27 +3,24 @@
 -- Assumes nothing.
 use native.Mathlib.Omega.{arith}
 use Prim.Native.Nat.{ℕ}
-use mathlib.Core.Path.{_≡_, sym, subst}
+use mathlib.Core.Path.{subst}
 use mathlib.Core.List.{List}
-use lib.ListN.{take}
 use borrow.Author.Needs.{needs}
 use Rattle.answer.proofs.Outputs.{never-short}
 use Rattle.taskset.specs.declared.CopyAnswer.the-variants.{Wrote}
-use Rattle.taskset.proofs.Copied.{front-is, count-within}
-use Rattle.answer.specs.Answer.{Prints, Responds}
+use Rattle.taskset.proofs.Copied.{count-within}
+use Rattle.answer.specs.Answer.{Responds}
 use Rattle.seedspell.specs.Program.{Answered}
 use Rattle.seedspell.proofs.answer_bytes.Statement.{statement}
 use Rattle.seedspell.proofs.answer_bytes.Tie as tie
 
 -- What the call wrote stands at the front.
 wrote : (t d d′ : List ℕ) (n : ℕ) → Responds t d d′ (Wrote n) → Answered t d′ n
-wrote t d d′ n x =
-    let e : take n d′ ≡ x .gives .0 = front-is (x .gives .0) d d′ n (x .gives .3) in
-    record {
-      within = count-within (x .gives .0) d d′ n (x .gives .3);
-      prints = subst (λ (o : List ℕ). Prints t o) (sym e) (x .gives .1);
-      owes = x .owes;
-    }
+wrote t d d′ n x = record {
+  within = count-within (x .gives .0) d d′ n (x .gives .3);
+  prints = x .owes .0;
+  owes = x .owes .1;
+}
 
 respond-requires : tie.Need-respond-requires
 respond-requires c κs = search needs
