@@ -5,3 +5,5 @@ pub mod Capacity
 pub mod Done
 pub mod Periodic
 pub mod Finite
+pub mod Stretch
+pub mod Alike
