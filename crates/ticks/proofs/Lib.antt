@@ -1,6 +1,5 @@
 pub mod Scan
-pub mod Ticked
-pub mod Again
+pub mod Jobs
+pub mod Stretches
 pub mod Releases
-pub mod Ticks
 pub mod Loops

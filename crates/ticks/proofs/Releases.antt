@@ -1,27 +1,28 @@
--- The walk by arrays: releases one task at a time, then a tick; what the arrays and the counts hold before each tick.
+-- The walk by arrays: releases one task at a time, then the ticks up to the next release; what the arrays and the counts
+-- hold before each tick with a release.
 -- Assumes nothing.
-use Prim.Native.Nat.{ℕ, zero, suc, _+_, _-_, _%_, _≤_, _<_}
-use mathlib.Core.Path.{_≡_, refl, sym, ap, _∙_, subst}
-use mathlib.Core.Bool.{Bool, true, false, cond, not, _&&_, true≢false, and-true, and-false}
+use Prim.Native.Nat.{ℕ, zero, suc, pred, _+_, _-_, _%_, _≤_, _<_}
+use mathlib.Core.Path.{_≡_, refl, sym, ap, _∙_, subst, fun-ext}
+use mathlib.Core.Bool.{Bool, true, false, cond, _&&_, and-false}
 use mathlib.Core.List.{List, [], _∷_, _++_, map, append-assoc, append-nil}
 use mathlib.Core.Logic.{_⊎_, inl, inr, ⊎-elim}
 use native.Mathlib.Omega.{arith}
-use native.Mathlib.Nat.{eq-or-lt-of-le, add-zero, zero-add, sub-zero, mod-eq-zero-of-dvd, add-mod-right, dvd-zero}
+use native.Mathlib.Nat.{eq-or-lt-of-le, add-zero, zero-add, sub-zero, sub-self, zero-mod, add-mod-right}
 use native.Mathlib.Numerals.{add-one}
-use lib.Dec.{ltb, eqb}
+use lib.Dec.{ltb, leb, eqb}
 use lib.ListN.{length, getD, set, replicate, getD-replicate}
 use lib.Seq.{getD-set-same, getD-set-other}
-use borrow.Author.Tests.{ltb-true, ltb-false, lt-ltb, le-ltb, eq-eqb, ne-eqb, eqb-true}
+use borrow.Author.Tests.{lt-ltb, le-ltb, le-leb, lt-leb, leb-true, eq-eqb, ne-eqb, eqb-true}
 use Rattle.numbers.specs.Numbers.{over}
-use Rattle.numbers.proofs.Tests.{bool-cases, below-more}
-use Rattle.numbers.proofs.Sums.{over-end}
-use Rattle.schedule.specs.Walk.{Task, tasksFrom, Job, fresh, released, release, pick, run, before, late, misses, periodic}
-use Rattle.schedule.specs.Counted.{missed, kept, ran, count, busyAt, idleAt, leftAt, preemptedAt, lateTask, walkFrom}
+use Rattle.numbers.proofs.Tests.{bool-cases, below-more, and-true}
+use Rattle.schedule.specs.Walk.{Task, tasksFrom, Job, fresh, released, release, before, late, misses, periodic}
+use Rattle.schedule.specs.Counted.{missed, kept, busyAt, idleAt, preemptedAt, lateTask, walkFrom}
 use Rattle.schedule.proofs.Periodic.{multiples-apart}
-use Rattle.schedule.proofs.State.{length-before}
-use Rattle.ticks.specs.Arrays.{jobsFrom, picked, stays, cuts, Begun, Ticked}
+use Rattle.schedule.proofs.Stretch.{Going, ticks, pending, goingAt, Quiet, stretch, Fits, counts-fit}
+use Rattle.schedule.proofs.Alike.{AllAlike, AlikeGoing, late-alike, release-alike, ticks-alike}
+use Rattle.ticks.specs.Arrays.{jobsFrom, going, offset, Begun, Ticked}
 use Rattle.ticks.specs.declared.State.{State}
-use Rattle.ticks.proofs.Ticked.{picked-is, worked-run, jobs-same, length-tasks, left-jobs, left-past}
+use Rattle.ticks.proofs.Jobs.{jobs-same, length-tasks, all-tasks}
 
 -- ---- the next release
 -- d is the first tick from t on at which the task releases a job, a full one
@@ -78,33 +79,6 @@ half-step k n t l d l′ d′ i h same e =
     ap (λ (m : ℕ). jobsFrom k l d 0 i ++ map (release t) (jobsFrom k l d i m)) (sym q)
 
 -- ---- the counts
-over-few : (e : ℕ → ℕ) → ((t : ℕ) → e t ≤ 1) → (t n : ℕ) → over e t n ≤ n
-over-few e h t zero = omega arith
-over-few e h t (suc n) = omega (arith, h t, over-few e h (suc t) n)
-
-pub count-few : (b : Bool) → count b ≤ 1
-count-few true = omega arith
-count-few false = omega arith
-
--- the place of the job of the tick before t where it is unfinished, else the number of tasks
-abbrev pub pending : List Task → ℕ → ℕ
-pending ks zero = length ks
-pending ks (suc t) = cond (ltb (ran ks t) (length ks) && ltb 0 (leftAt (before ks (suc t)) (ran ks t))) (ran ks t) (length ks)
-
-preempted-few : (ks : List Task) (t : ℕ) → preemptedAt ks t ≤ 1
-preempted-few ks zero = omega arith
-preempted-few ks (suc t) =
-    count-few
-    (ltb (ran ks (suc t)) (length ks) && (not (eqb (ran ks (suc t)) (ran ks t)) && ltb 0 (leftAt (before ks (suc t)) (ran ks t))))
-
--- the definition's preemption, by what is pending
-cut-cases : (n a b : ℕ) (y z : Bool) → ltb b n ≡ y → (y ≡ false → z ≡ false) →
-    count (ltb a n && (not (eqb a b) && z)) ≡ count (ltb a n && (ltb (cond (y && z) b n) n && not (eqb a (cond (y && z) b n))))
-cut-cases n a b true true e h = rw (e, and-true (not (eqb a b))) refl
-cut-cases n a b true false e h = rw (le-ltb n n (omega arith), and-false (not (eqb a b))) refl
-cut-cases n a b false true e h = absurd (true≢false (h refl))
-cut-cases n a b false false e h = rw (le-ltb n n (omega arith), and-false (not (eqb a b))) refl
-
 -- what the state counts before tick t
 pub record Counted (k : ℕ → Task) (n t : ℕ) (s : State) : Type 0 where
   pub busy : s .busy ≡ over (busyAt (tasksFrom k 0 n)) 0 t
@@ -113,50 +87,41 @@ pub record Counted (k : ℕ → Task) (n t : ℕ) (s : State) : Type 0 where
   pub last : s .last ≡ pending (tasksFrom k 0 n) t
 
 module _ {k : ℕ → Task} {n t : ℕ} {s : State} (c : Counted k n t s) where
-  pub busy-fits : s .busy ≤ t
-  busy-fits =
-      omega
-      (arith, c .busy, over-few (busyAt (tasksFrom k 0 n)) (λ u. count-few (ltb (ran (tasksFrom k 0 n) u) (length (tasksFrom k 0 n)))) 0 t)
+  -- no count passes its tick
+  pub counted-fit : Fits t (going k n s)
+  counted-fit =
+      let f = counts-fit (tasksFrom k 0 n) t (before (tasksFrom k 0 n) t) in
+      record { busy = omega (arith, c .busy, f .busy); idle = omega (arith, c .idle, f .idle); preempted = omega (arith, c .preempted, f .preempted) }
 
-  pub idle-fits : s .idle ≤ t
-  idle-fits =
-      omega (
-        arith,
-        c .idle,
-        over-few (idleAt (tasksFrom k 0 n))
-            (λ u. count-few (not (ltb (ran (tasksFrom k 0 n) u) (length (tasksFrom k 0 n))))) 0 t,
-      )
-
-  pub preempted-fits : s .preempted ≤ t
-  preempted-fits = omega (arith, c .preempted, over-few (preemptedAt (tasksFrom k 0 n)) (preempted-few (tasksFrom k 0 n)) 0 t)
-
-  -- the arrays may change, and what is known
-  pub counted-on : (l d : List ℕ) (known : ℕ) →
-      Counted k n t (record { left = l; due = d; busy = s .busy; idle = s .idle; preempted = s .preempted; last = s .last; known = known })
-  counted-on l d known = record { busy = c .busy; idle = c .idle; preempted = c .preempted; last = c .last }
+  -- the arrays may change
+  pub counted-on : (l d : List ℕ) →
+      Counted k n t (record { left = l; busy = s .busy; idle = s .idle; preempted = s .preempted; last = s .last; due = d })
+  counted-on l d = record { busy = c .busy; idle = c .idle; preempted = c .preempted; last = c .last }
 
 -- ---- before tick t: what the state holds
 pub record Held (k : ℕ → Task) (n t : ℕ) (s : State) : Type 0 where
-  pub jobs : jobsFrom k (s .left) (s .due) 0 n ≡ before (tasksFrom k 0 n) t
+  pub jobs : AllAlike (jobsFrom k (s .left) (s .due) 0 n) (before (tasksFrom k 0 n) t)
   pub coming : (j : ℕ) → j < n → Coming (k j) t (getD (s .due) j 0)
   pub counts : Counted k n t s
 
 -- ---- while tick t's releases are made, up to place i
 pub record Part (k : ℕ → Task) (n t i : ℕ) (l d : List ℕ) : Type 0 where
-  pub done : half k n t l d i ≡ map (release t) (before (tasksFrom k 0 n) t)
+  pub done : AllAlike (half k n t l d i) (map (release t) (before (tasksFrom k 0 n) t))
   pub late : late t (jobsFrom k l d i (n - i)) ≡ misses (tasksFrom k 0 n) t
   pub first : i + lateTask t (jobsFrom k l d i (n - i)) ≡ lateTask t (before (tasksFrom k 0 n) t)
   pub passed : (j : ℕ) → j < i → Coming (k j) (suc t) (getD d j 0)
   pub ahead : (j : ℕ) → i ≤ j → j < n → Coming (k j) t (getD d j 0)
 
 pub part-start : {k : ℕ → Task} {n t : ℕ} {s : State} → Held k n t s → Part k n t 0 (s .left) (s .due)
-part-start {k} {n} {t} {s} h = record {
-  done = rw sub-zero (ap (map (release t)) (h .jobs));
-  late = rw sub-zero (ap (late t) (h .jobs));
-  first = rw sub-zero (zero-add (lateTask t (jobsFrom k (s .left) (s .due) 0 n)) ∙ ap (lateTask t) (h .jobs));
-  passed = λ j x. absurd (omega arith);
-  ahead = λ j x y. h .coming j y;
-}
+part-start {k} {n} {t} {s} h =
+    let js = jobsFrom k (s .left) (s .due) 0 n in
+    let same = late-alike t js (before (tasksFrom k 0 n) t) (h .jobs) in record {
+      done = rw sub-zero (release-alike t js (before (tasksFrom k 0 n) t) (h .jobs));
+      late = rw sub-zero (same .0);
+      first = rw sub-zero (zero-add (lateTask t js) ∙ same .1);
+      passed = λ j x. absurd (omega arith);
+      ahead = λ j x y. h .coming j y;
+    }
 
 -- the test at a place where no earlier job is late
 on-time : (k : ℕ → Task) (n t i : ℕ) (l d : List ℕ) → i < n → (k i .arrives t ≡ 0) ⊎ (getD l i 0 ≤ 0) →
@@ -178,7 +143,8 @@ module _ {k : ℕ → Task} {n t i : ℕ} {l d : List ℕ} (h : i < n) (s : Part
       let c = coming-later (k i) t (getD d i 0) (s .ahead i (omega arith) h) ne in
       let o = on-time k n t i l d h (inl (c .0)) in
       rw (add-one i) (record {
-        done = half-step k n t l d l d i h (λ j x. (refl, refl)) (ap (λ (x : ℕ). released t (jobAt k l d i) x) (sym (c .0))) ∙ s .done;
+        done = subst (λ (js : List Job). AllAlike js (map (release t) (before (tasksFrom k 0 n) t)))
+            (sym (half-step k n t l d l d i h (λ j x. (refl, refl)) (ap (λ (x : ℕ). released t (jobAt k l d i) x) (sym (c .0))))) (s .done);
         late = sym (o .0) ∙ s .late;
         first = sym (o .1) ∙ s .first;
         passed = below-more (s .passed) (c .1);
@@ -199,8 +165,8 @@ module _ {k : ℕ → Task} {n t i : ℕ} {l d : List ℕ} (h : i < n) (s : Part
       let o = on-time k n t i l d h (inr z) in
       let same = jobs-same k (set l i v) (set d i w) l d (suc i) (n - suc i) (λ j x y. other j (λ r. absurd (omega arith))) in
       rw (add-one i) (record {
-        done = half-step k n t l d (set l i v) (set d i w) i h other
-            (rw (gl, gd, full) (sym (release-full t (jobAt k l d i) v (st .some)))) ∙ s .done;
+        done = subst (λ (js : List Job). AllAlike js (map (release t) (before (tasksFrom k 0 n) t)))
+            (sym (half-step k n t l d (set l i v) (set d i w) i h other (rw (gl, gd, full) (sym (release-full t (jobAt k l d i) v (st .some)))))) (s .done);
         late = ap (late t) same ∙ sym (o .0) ∙ s .late;
         first = ap (λ (js : List Job). suc i + lateTask t js) same ∙ sym (o .1) ∙ s .first;
         passed = below-more (λ j y. rw (other j (λ r. absurd (omega arith)) .1) (s .passed j y)) (rw gd (st .next t full));
@@ -218,73 +184,56 @@ module _ {k : ℕ → Task} {n t i : ℕ} {l d : List ℕ} (h : i < n) (s : Part
       (lt-ltb 0 (k i .arrives t) (omega arith), lt-ltb 0 (getD l i 0) z) refl in
       (sym (s .late) ∙ rw (q, test) refl, sym (s .first) ∙ rw (q, test) refl)
 
--- no task releases at this tick
-pub part-skip : {k : ℕ → Task} {n t i : ℕ} {l d : List ℕ} (m : ℕ) → i + m ≡ n → ((j : ℕ) → j < n → getD d j 0 ≡ t → ⊥)
-    → Part k n t i l d → Part k n t n l d
-part-skip {k} {n} {t} {i} {l} {d} zero z h s = let q : i ≡ n = omega arith in subst (λ (x : ℕ). Part k n t x l d) q s
-part-skip (suc m) z h s = part-skip m (omega arith) h (part-pass (omega arith) s (h _ (omega arith)))
-
 -- ---- after tick t's releases: no task was late
 pub record AfterReleases (k : ℕ → Task) (n t : ℕ) (l d : List ℕ) : Type 0 where
   pub on-time : misses (tasksFrom k 0 n) t ≡ false
-  pub jobs : jobsFrom k l d 0 n ≡ map (release t) (before (tasksFrom k 0 n) t)
+  pub jobs : AllAlike (jobsFrom k l d 0 n) (map (release t) (before (tasksFrom k 0 n) t))
   pub coming : (j : ℕ) → j < n → Coming (k j) (suc t) (getD d j 0)
 
 pub part-end : {k : ℕ → Task} {n t i : ℕ} {l d : List ℕ} → i ≡ n → Part k n t i l d → AfterReleases k n t l d
 part-end {k} {n} {t} {i} {l} {d} q s =
     let z : n - i ≡ 0 = omega arith in record {
       on-time = sym (s .late) ∙ rw z refl;
-      jobs = ap (jobsFrom k l d 0) (sym q) ∙ sym (append-nil (jobsFrom k l d 0 i)) ∙ (rw z at (s .done));
+      jobs =
+          subst (λ (js : List Job). AllAlike js (map (release t) (before (tasksFrom k 0 n) t))) (append-nil (jobsFrom k l d 0 i) ∙ ap (jobsFrom k l d 0) q) (rw z at (s .done));
       coming = λ j x. s .passed j (omega arith);
     }
 
-preempted-is : (k : ℕ → Task) (n t : ℕ) (b last : ℕ) → ran (tasksFrom k 0 n) t ≡ b → last ≡ pending (tasksFrom k 0 n) t
-    → preemptedAt (tasksFrom k 0 n) t ≡ cuts n b last
-unfolding cuts
-preempted-is k n zero b last e p =
-    let z = length-tasks k 0 n in
-    rw (p, z, le-ltb n n (omega arith), and-false (ltb b n)) refl
-preempted-is k n (suc t) b last e p =
-    let ks = tasksFrom k 0 n in
-    let z = length-tasks k 0 n in
-    let m = length-before ks (suc t) in
-    rw (p, z, ← e)
-    (cut-cases n (ran ks (suc t)) (ran ks t) (ltb (ran ks t) n) (ltb 0 (leftAt (before ks (suc t)) (ran ks t))) refl
-    (λ f. le-ltb 0 (leftAt (before ks (suc t)) (ran ks t)) (let g = ltb-false (ran ks t) n f in omega (arith, left-past (before ks (suc t)) (ran ks t) (omega arith)))))
+-- ---- a stretch after the releases, up to a tick that no release comes before
+pub record Gap (n t next : ℕ) (d : List ℕ) : Type 0 where
+  pub some : t < next
+  pub least : (j : ℕ) → j < n → next ≤ getD d j 0
 
-stays-is : (k : ℕ → Task) (l d : List ℕ) (n b : ℕ)
-    → stays n l b ≡ cond (ltb b n && ltb 0 (leftAt (jobsFrom k l d 0 n) b)) b n
-unfolding stays
-stays-is k l d n b =
-    ⊎-elim
-    (λ e. ap (λ (x : ℕ). cond (ltb b n && ltb 0 x) b n) (ap (λ (x : ℕ). getD l x 0) (sym (zero-add b)) ∙ sym (left-jobs k l d 0 n b (ltb-true b n e))))
-    (λ e. rw e refl)
-    (bool-cases (ltb b n))
+module _ {k : ℕ → Task} {n t next : ℕ} {l d : List ℕ} (a : AfterReleases k n t l d) (g : Gap n t next d) where
+  -- in code the stretch is next - t ticks long, in the laws one and as many as come after it
+  pub gap-is : t + suc (next - suc t) ≡ next
+  gap-is = omega (arith, g .some)
 
--- a tick after the releases
-pub held-next : {k : ℕ → Task} {n t : ℕ} {s r : State} → n ≤ length (s .left) → AfterReleases k n t (s .left) (s .due)
-    → Counted k n t s → Ticked n s r → Held k n (t + 1) r
-held-next {k} {n} {t} {s} {r} h a c w =
+  pub gap-quiet : (u : ℕ) → t < u → u < t + suc (next - suc t) → Quiet (tasksFrom k 0 n) u
+  gap-quiet u x y =
+      all-tasks (λ k. k .arrives u ≡ 0) k 0 n
+      (λ j z. a .coming j (omega arith) .quiet u x (omega (arith, gap-is, g .least j (omega arith))))
+
+pub held-next : {k : ℕ → Task} {n t next : ℕ} {s r : State} → AfterReleases k n t (s .left) (s .due) → Counted k n t s →
+    Gap n t next (s .due) → Ticked n (next - t) s r → Held k n next r
+held-next {k} {n} {t} {next} {s} {r} a c g w =
     let ks = tasksFrom k 0 n in
-    let b = picked (s .left) (s .due) n in
-    let z = length-tasks k 0 n in
-    let e : ran ks t ≡ b = ap pick (sym (a .jobs)) ∙ sym (picked-is k (s .left) (s .due) n) in
-    let js : jobsFrom k (r .left) (s .due) 0 n ≡ before ks (suc t) =
-    ap (λ (x : List ℕ). jobsFrom k x (s .due) 0 n) (w .left) ∙ worked-run k (s .left) (s .due) n h ∙ ap run (a .jobs) in
-    let at : (g : ℕ → ℕ) → over g 0 (suc t) ≡ over g 0 t + g t = λ g. over-end g 0 t ∙ ap (λ (x : ℕ). over g 0 t + g x) (zero-add t) in
-    rw (add-one t) (record {
-      jobs = rw (w .due) js;
-      coming = rw (w .due) (a .coming);
-      counts = record {
-        busy = w .busy ∙ rw (c .busy, at (busyAt ks), z, e) refl;
-        idle = w .idle ∙ rw (c .idle, at (idleAt ks), z, e) refl;
-        preempted = w .preempted ∙ rw (c .preempted, at (preemptedAt ks), preempted-is k n t b (s .last) e (c .last)) refl;
-        last = w .last ∙ stays-is k (r .left) (s .due) n b ∙
-            ap (λ (xs : List Job). cond (ltb b n && ltb 0 (leftAt xs b)) b n) js ∙
-            ap (λ (b : ℕ). cond (ltb b n && ltb 0 (leftAt (before ks (suc t)) b)) b n) (sym e) ∙
-            ap (λ (m : ℕ). cond (ltb (ran ks t) m && ltb 0 (leftAt (before ks (suc t)) (ran ks t))) (ran ks t) m) (sym z);
-      };
-    })
+    let m = suc (next - suc t) in
+    let z : next - t ≡ m = omega (arith, g .some) in
+    let from : AlikeGoing (going k n s) (goingAt ks t (map (release t) (before ks t))) =
+    record { jobs = a .jobs; busy = c .busy; idle = c .idle; preempted = c .preempted; last = c .last } in
+    let to = ap (λ (x : ℕ). goingAt ks x (before ks x)) (gap-is a g) in
+    let same : AlikeGoing (going k n r) (goingAt ks next (before ks next)) =
+    subst (λ (h : Going). AlikeGoing (going k n r) h) (stretch ks t (next - suc t) (gap-quiet a g) ∙ to)
+    (subst (λ (h : Going). AlikeGoing h (ticks m (goingAt ks t (map (release t) (before ks t))))) (sym (w .goes k ∙ ap (λ (x : ℕ). ticks x (going k n s)) z))
+    (ticks-alike m (going k n s) (goingAt ks t (map (release t) (before ks t))) from)) in
+    record {
+      jobs = same .jobs;
+      coming = rw (w .due) (λ j x.
+          let v = a .coming j x in
+          record { reached = g .least j x; quiet = λ u y e. v .quiet u (omega (arith, g .some)) e; there = v .there });
+      counts = record { busy = same .busy; idle = same .idle; preempted = same .preempted; last = same .last };
+    }
 
 -- ---- the whole walk, from tick t with m to go
 pub walkFrom-miss : (ks : List Task) (t m : ℕ) → misses ks t ≡ true
@@ -292,51 +241,70 @@ pub walkFrom-miss : (ks : List Task) (t m : ℕ) → misses ks t ≡ true
 walkFrom-miss ks t zero e = rw e refl
 walkFrom-miss ks t (suc m) e = rw e refl
 
-pub walkFrom-on : (ks : List Task) (t m : ℕ) → misses ks t ≡ false → walkFrom ks t (suc m) ≡ walkFrom ks (suc t) m
-walkFrom-on ks t m e = rw e refl
-
 pub walkFrom-kept : (ks : List Task) (t : ℕ) → misses ks t ≡ false →
     walkFrom ks t 0 ≡ kept (over (busyAt ks) 0 t) (over (idleAt ks) 0 t) (over (preemptedAt ks) 0 t)
 walkFrom-kept ks t e = rw e refl
 
 -- ---- before tick 0
-fresh-jobs : (k : ℕ → Task) (l d : List ℕ) (i n : ℕ) → ((j : ℕ) → j < i + n → (getD l j 0 ≡ 0) × (getD d j 0 ≡ 0))
-    → jobsFrom k l d i n ≡ map fresh (tasksFrom k i n)
-fresh-jobs k l d i zero h = refl
+fresh-jobs : (k : ℕ → Task) (l d : List ℕ) (i n : ℕ) → ((j : ℕ) → j < i + n → getD l j 0 ≡ 0)
+    → AllAlike (jobsFrom k l d i n) (map fresh (tasksFrom k i n))
+fresh-jobs k l d i zero h = tt
 fresh-jobs k l d i (suc n) h =
-    let q = h i (omega arith) in
-    rw (q .0, q .1) (ap (λ (r : List Job). fresh (k i) ∷ r) (fresh-jobs k l d (suc i) n (λ j x. h j (omega arith))))
+    let e = h i (omega arith) in
+    (record { task = refl; left = e; due = λ x. absurd (omega arith) }, fresh-jobs k l d (suc i) n (λ j x. h j (omega arith)))
 
-pub held-start : {k : ℕ → Task} {n : ℕ} {s : State} → n ≤ 32 → ((j : ℕ) → k j .arrives 0 ≡ k j .time) → Begun n s
-    → Held k n 0 s
-held-start {k} {n} {s} few full b =
-    let none : (j : ℕ) → j < n → _≡_ {A = ℕ} (getD (replicate 32 0) j 0) 0 = λ j x. getD-replicate 32 j 0 0 (omega arith) in record {
-      jobs =
-          rw (b .left, b .due) (fresh-jobs k (replicate 32 0) (replicate 32 0) 0 n (λ j x. (none j (omega arith), none j (omega arith))));
-      coming = λ j x. rw (b .due, none j x) (record { reached = omega arith; quiet = λ u y z. absurd (omega arith); there = full j });
-      counts = record { busy = b .busy; idle = b .idle; preempted = b .preempted; last = b .last ∙ sym (length-tasks k 0 n) };
+pub held-start : {k : ℕ → Task} {n : ℕ} {first : List ℕ} {s : State} → n ≤ 32
+    → ((j : ℕ) → j < n → Coming (k j) 0 (getD first j 0)) → Begun first n s → Held k n 0 s
+held-start {k} {n} {first} {s} few start b = record {
+  jobs = fresh-jobs k (s .left) (s .due) 0 n (λ j x. rw (b .left) (getD-replicate {A = ℕ} 32 j 0 0 (omega arith)));
+  coming = rw (b .due) start;
+  counts = record { busy = b .busy; idle = b .idle; preempted = b .preempted; last = b .last ∙ sym (length-tasks k 0 n) };
+}
+
+-- ---- a task that releases a job every p ticks from a on
+module _ (a p c : ℕ) where
+  there : (t : ℕ) → a ≤ t → (t - a) % p ≡ 0 → offset a p c .arrives t ≡ c
+  there t h e = rw (le-leb a t h, e) refl
+
+  quiet-before : (t : ℕ) → t < a → offset a p c .arrives t ≡ 0
+  quiet-before t h = rw (lt-leb a t h) refl
+
+  quiet-between : (t : ℕ) → ((t - a) % p ≡ 0 → ⊥) → offset a p c .arrives t ≡ 0
+  quiet-between t h = rw (ne-eqb ((t - a) % p) 0 h) (none (leb a t))
+    where
+      none : (b : Bool) → cond (b && false) c 0 ≡ 0
+      none true = refl
+      none false = refl
+
+  pub offset-start : Coming (offset a p c) 0 a
+  offset-start = record {
+    reached = omega arith;
+    quiet = λ u x y. quiet-before u y;
+    there = there a (omega arith) (ap (λ (x : ℕ). x % p) (sub-self a) ∙ zero-mod p);
+  }
+
+  module _ (pos : 0 < p) (some : 0 < c) where
+    released-at : (u : ℕ) → offset a p c .arrives u ≡ c → (a ≤ u) × ((u - a) % p ≡ 0)
+    released-at u e =
+        ⊎-elim
+        (λ x. let o = and-true (leb a u) (eqb ((u - a) % p) 0) x in (leb-true a u (o .0), eqb-true ((u - a) % p) 0 (o .1)))
+        (λ x. let z : c ≡ 0 = sym e ∙ ap (λ (b : Bool). cond b c 0) x in absurd (omega arith))
+        (bool-cases (leb a u && eqb ((u - a) % p) 0))
+
+    pub offset-steady : Steady (offset a p c)
+    offset-steady = record {
+      some = some;
+      next = λ u e.
+          let w = released-at u e in
+          let z : (u + p) - a ≡ (u - a) + p = omega (arith, w .0) in record {
+            reached = omega arith;
+            quiet = λ v x y. quiet-between v (λ q. absurd (omega (arith, w .0, multiples-apart p (u - a) (v - a) (omega (arith, w .0)) (w .1) q)));
+            there = there (u + p) (omega (arith, w .0)) (ap (λ (x : ℕ). x % p) z ∙ add-mod-right (u - a) p ∙ w .1);
+          };
     }
 
--- ---- periodic tasks are steady
-between : (p u v : ℕ) → u % p ≡ 0 → u < v → v < u + p → v % p ≡ 0 → ⊥
-between p u v a l m b = omega (arith, multiples-apart p u v l a b)
-
-pub periodic-start : (p c : ℕ) → periodic p c .arrives 0 ≡ c
-periodic-start p c = rw (mod-eq-zero-of-dvd p {n = 0} (dvd-zero p)) refl
-
-pub periodic-steady : (p c : ℕ) → 0 < p → 0 < c → Steady (periodic p c)
-periodic-steady p c hp hc = record {
-  some = hc;
-  next = λ u e. let z = here u e in record {
-    reached = omega arith;
-    quiet = λ v x y. rw (ne-eqb (v % p) 0 (λ w. between p u v z x y w)) refl;
-    there = rw (add-mod-right u p, eq-eqb (u % p) 0 z) refl;
-  };
-}
-  where
-    here : (u : ℕ) → periodic p c .arrives u ≡ c → u % p ≡ 0
-    here u e =
-        ⊎-elim
-        (λ x. eqb-true (u % p) 0 x)
-        (λ x. let w : c ≡ 0 = sym e ∙ ap (λ (b : Bool). cond b c 0) x in absurd (omega arith))
-        (bool-cases (eqb (u % p) 0))
+-- From tick 0 on it is a task of the set.
+pub offset-none : (p c : ℕ) → offset 0 p c ≡ periodic p c
+offset-none p c =
+    ap (λ (f : ℕ → ℕ). record { period = p; time = c; arrives = f })
+    (fun-ext (λ t. rw (le-leb 0 t (omega arith), sub-zero) refl))

@@ -1,13 +1,14 @@
 -- The walk's state as arrays hold it, and what the walk's functions take and give. Not part of what a reader must
 -- believe: the call's contract speaks of the walk's own definitions.
-use Prim.Native.Nat.{ℕ, zero, suc, pred, _+_, _≤_, _<_}
+use Prim.Native.Nat.{ℕ, zero, suc, _+_, _-_, _%_, _≤_, _<_}
 use mathlib.Core.Path.{_≡_}
-use mathlib.Core.Bool.{cond, not, _&&_}
+use mathlib.Core.Bool.{cond, _&&_}
 use mathlib.Core.List.{List, [], _∷_}
-use lib.Dec.{ltb, eqb}
-use lib.ListN.{length, getD, set, replicate}
-use Rattle.schedule.specs.Walk.{Task, Job, periodic, pick, tasksFrom}
-use Rattle.schedule.specs.Counted.{count, kept, missed, walk}
+use lib.Dec.{leb, eqb}
+use lib.ListN.{length, getD, replicate}
+use Rattle.schedule.specs.Walk.{Task, Job, pick, tasksFrom}
+use Rattle.schedule.specs.Counted.{kept, missed, walk}
+use Rattle.schedule.proofs.Stretch.{Going, ticks}
 use Rattle.layout.specs.Words.{longestPeriod}
 use Rattle.taskset.specs.declared.WalkAnswer.{WalkAnswer}
 use Rattle.taskset.specs.declared.WalkAnswer.the-variants.{Kept, Missed, Refused}
@@ -26,23 +27,6 @@ blank i = record { period = 0; time = 0; arrives = λ t. 0 }
 unfoldable pub picked : List ℕ → List ℕ → ℕ → ℕ
 picked left due n = pick (jobsFrom blank left due 0 n)
 
--- The ticks left after the job at place b has run a tick, if b is a place.
-unfoldable pub worked : ℕ → List ℕ → ℕ → List ℕ
-worked n left b = cond (ltb b n) (set left b (pred (getD left b 0))) left
-
--- b, if b is the place of an unfinished job; else n.
-unfoldable pub stays : ℕ → List ℕ → ℕ → ℕ
-stays n left b = cond (ltb b n && ltb 0 (getD left b 0)) b n
-
--- 1 where b is sure to be the next pick as long as no job is released: it is the place of an unfinished job, or there
--- is none; else 0.
-unfoldable pub surely : ℕ → List ℕ → ℕ → ℕ
-surely n left b = cond (ltb b n) (count (ltb 0 (getD left b 0))) 1
-
--- 1 where the job at b runs and another, at last, is unfinished.
-unfoldable pub cuts : ℕ → ℕ → ℕ → ℕ
-cuts n b last = count (ltb b n && (ltb last n && not (eqb b last)))
-
 -- Room in the arrays, and deadlines below the largest word.
 pub record Early (n : ℕ) (left due : List ℕ) : Type 0 where
   pub few : n ≤ 32
@@ -51,49 +35,58 @@ pub record Early (n : ℕ) (left due : List ℕ) : Type 0 where
   pub low : (i : ℕ) → i < n → getD due i 0 < 4294967295
 
 -- Before tick 0.
-pub record Begun (n : ℕ) (r : State) : Type 0 where
+pub record Begun (first : List ℕ) (n : ℕ) (r : State) : Type 0 where
   pub left : r .left ≡ replicate 32 0
-  pub due : r .due ≡ replicate 32 0
   pub busy : r .busy ≡ 0
   pub idle : r .idle ≡ 0
   pub preempted : r .preempted ≡ 0
   pub last : r .last ≡ n
-  pub known : r .known ≡ 0
+  pub due : r .due ≡ first
 
--- A state that a tick can be made of. Where the pick is known, it is `last`.
-pub record TickReady (n : ℕ) (s : State) : Type 0 where
+-- The state as the laws of the schedule have it.
+abbrev pub going : (ℕ → Task) → ℕ → State → Going
+going k n s = record {
+  jobs = jobsFrom k (s .left) (s .due) 0 n;
+  busy = s .busy;
+  idle = s .idle;
+  preempted = s .preempted;
+  last = s .last;
+}
+
+-- A state of which so many ticks can be made.
+pub record TickReady (n room : ℕ) (s : State) : Type 0 where
   pub early : Early n (s .left) (s .due)
-  pub sure : 0 < s .known → s .last ≡ picked (s .left) (s .due) n
-  pub busy-room : s .busy < 4294967295
-  pub idle-room : s .idle < 4294967295
-  pub preempted-room : s .preempted < 4294967295
+  pub busy-room : s .busy + room < 4294967295
+  pub idle-room : s .idle + room < 4294967295
+  pub preempted-room : s .preempted + room < 4294967295
 
--- One tick: the picked job loses a tick, and the counts go on.
-pub record Ticked (n : ℕ) (s r : State) : Type 0 where
-  pub left : r .left ≡ worked n (s .left) (picked (s .left) (s .due) n)
+-- So many ticks, whoever's the jobs are. With one it is document 01's tick.
+pub record Ticked (n room : ℕ) (s r : State) : Type 0 where
+  pub goes : (k : ℕ → Task) → going k n r ≡ ticks room (going k n s)
   pub due : r .due ≡ s .due
-  pub busy : r .busy ≡ s .busy + count (ltb (picked (s .left) (s .due) n) n)
-  pub idle : r .idle ≡ s .idle + count (not (ltb (picked (s .left) (s .due) n) n))
-  pub preempted : r .preempted ≡ s .preempted + cuts n (picked (s .left) (s .due) n) (s .last)
-  pub last : r .last ≡ stays n (r .left) (picked (s .left) (s .due) n)
-  pub known : r .known ≡ surely n (r .left) (picked (s .left) (s .due) n)
-  pub sure : 0 < r .known → r .last ≡ picked (r .left) (r .due) n
+  pub size : length (r .left) ≡ length (s .left)
 
--- What the loop over ticks asks: n tasks by their periods and job times, and a last tick.
-pub record RunReady (p c : List ℕ) (n end : ℕ) : Type 0 where
+-- What the loop over ticks asks: n tasks by their periods, job times and first releases, and a last tick.
+pub record RunReady (p c a : List ℕ) (n end : ℕ) : Type 0 where
   pub few : n ≤ 32
   pub periods : length p ≡ 32
   pub times : length c ≡ 32
+  pub firsts : length a ≡ 32
   pub period : (i : ℕ) → i < n → (0 < getD p i 0) × (getD p i 0 ≤ longestPeriod)
   pub time : (i : ℕ) → i < n → 0 < getD c i 0
+  pub first : (i : ℕ) → i < n → getD a i 0 ≤ longestPeriod
   pub ends : end ≤ 200000000
 
--- The task at a place.
-abbrev pub taskAt : List ℕ → List ℕ → ℕ → Task
-taskAt p c i = periodic (getD p i 0) (getD c i 0)
+-- A task that releases a job of c ticks at tick a, and then one every p ticks.
+abbrev pub offset : ℕ → ℕ → ℕ → Task
+offset a p c = record { period = p; time = c; arrives = λ t. cond (leb a t && eqb ((t - a) % p) 0) c 0 }
 
--- The answer is the definition's walk of n tasks with periods p and job times c, to the tick end.
-abbrev pub Says : List ℕ → List ℕ → ℕ → ℕ → WalkAnswer → Type 0
-Says p c n end (Kept busy idle preempted) = walk (tasksFrom (taskAt p c) 0 n) end ≡ kept busy idle preempted
-Says p c n end (Missed tick task) = walk (tasksFrom (taskAt p c) 0 n) end ≡ missed tick task
-Says p c n end (Refused r) = ⊥
+-- The task at a place.
+abbrev pub taskAt : List ℕ → List ℕ → List ℕ → ℕ → Task
+taskAt p c a i = offset (getD a i 0) (getD p i 0) (getD c i 0)
+
+-- The answer is the definition's walk of n tasks with these periods, job times and first releases, to the tick end.
+abbrev pub Says : List ℕ → List ℕ → List ℕ → ℕ → ℕ → WalkAnswer → Type 0
+Says p c a n end (Kept busy idle preempted) = walk (tasksFrom (taskAt p c a) 0 n) end ≡ kept busy idle preempted
+Says p c a n end (Missed tick task) = walk (tasksFrom (taskAt p c a) 0 n) end ≡ missed tick task
+Says p c a n end (Refused r) = ⊥

@@ -5,7 +5,7 @@ use Prim.Native.Nat.{ℕ, zero, suc, _+_, _≤_, _<_}
 use mathlib.Core.Path.{_≡_, refl, sym, ap, _∙_}
 use mathlib.Core.List.{List}
 use native.Mathlib.Omega.{arith}
-use lib.ListN.{getD}
+use lib.ListN.{getD, replicate, getD-replicate}
 use Rattle.schedule.specs.Walk.{Task, periodic, tasksFrom}
 use Rattle.schedule.specs.Counted.{walk}
 use Rattle.selection.specs.Plan.{IsPlan}
@@ -23,6 +23,7 @@ use Rattle.taskset.proofs.Checks.{accepts-next, refuses-next, refuses-before, p
 use Rattle.taskset.proofs.Sets.{IsSet, job-time-positive}
 use Rattle.taskset.proofs.DemandThree.{plan-of, walk-set, walk-owes}
 use Rattle.ticks.specs.Arrays.{RunReady, taskAt, Says}
+use Rattle.ticks.proofs.Releases.{offset-none}
 use Rattle.walk.specs.Answers.{Walked, SetGiven, SoundPlan, Holds, timeAt}
 
 pub walked : (s P : List ℕ) (a : WalkAnswer) → WalkAnswers s P a → Walked s P a
@@ -74,29 +75,39 @@ module _ (s P : List ℕ) (m n l : ℕ) (ready : SetAfter (walkChecks s P) Ordin
   }
 
   module _ (p c : List ℕ) (periods : Holds (period Ordinary s) n p) (times : Holds (timeAt s P) n c) where
-    pub run-ready : RunReady p c n l
+    -- All tasks are released at tick 0.
+    abbrev first : List ℕ
+    first = replicate 32 0
+
+    at-once : (i : ℕ) → i < n → getD first i 0 ≡ 0
+    at-once i h = getD-replicate {A = ℕ} 32 i 0 0 (omega (arith, set-given .few))
+
+    pub run-ready : RunReady p c first n l
     run-ready = record {
       few = set-given .few;
       periods = periods .size;
       times = times .size;
+      firsts = refl;
       period = λ i h. rw (periods .at i h) (set .whole .period-range i (omega (arith, ready .2)));
       time = λ i h.
           rw (times .at i h)
           (job-time-positive Ordinary s set i (getD P i 0) (omega (arith, ready .2)) (plan .above i (omega (arith, ready .2))) (plan .below i (omega (arith, ready .2))));
+      first = λ i h. omega (arith, at-once i h);
       ends = omega (arith, hyper-fits);
     }
 
-    walk-is : walk (tasksFrom (taskAt p c) 0 n) l ≡ walk (walkTasks Ordinary s P) (hyperPeriod Ordinary s)
+    walk-is : walk (tasksFrom (taskAt p c first) 0 n) l ≡ walk (walkTasks Ordinary s P) (hyperPeriod Ordinary s)
     walk-is =
-        let same = same-tasks (taskAt p c) (λ t. periodic (period Ordinary s t) (jobTime Ordinary s t (getD P t 0))) 0 n
-        (λ j a b. rw (periods .at j (omega arith), times .at j (omega arith)) refl) in
+        let same = same-tasks (taskAt p c first) (λ t. periodic (period Ordinary s t) (jobTime Ordinary s t (getD P t 0))) 0 n
+        (λ j a b. rw (periods .at j (omega arith), times .at j (omega arith), at-once j (omega arith))
+        (offset-none (period Ordinary s j) (jobTime Ordinary s j (getD P j 0)))) in
         ap (λ (ks : List Task). walk ks l) (same ∙ ap (tasksFrom (λ t. periodic (period Ordinary s t) (jobTime Ordinary s t (getD P t 0))) 0) (ready .2)) ∙
         ap (walk (walkTasks Ordinary s P)) (ready .3)
 
-    says-answers : (a : WalkAnswer) → Says p c n l a → WalkAnswers s P a
+    says-answers : (a : WalkAnswer) → Says p c first n l a → WalkAnswers s P a
     says-answers (Kept b i q) h = (ready .0, sym (ap outcomeValues (sym walk-is ∙ h)))
     says-answers (Missed t k) h = (ready .0, sym (ap outcomeValues (sym walk-is ∙ h)))
     says-answers (NotWalked r) h = absurd h
 
-    pub says-walked : (a : WalkAnswer) → Says p c n l a → Walked s P a
+    pub says-walked : (a : WalkAnswer) → Says p c first n l a → Walked s P a
     says-walked a h = walked s P a (says-answers a h)

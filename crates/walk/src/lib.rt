@@ -101,7 +101,8 @@ pub fn walk_checked(set: &[u32], plan: &[u32], rates: usize, tasks: usize, hyper
 {
     let p = periods(set, rates, tasks);
     let c = times(set, plan, rates, tasks);
-    ticks::run(&p, &c, tasks, hyper as u32)
+    let first = [0u32; 32];
+    ticks::run(&p, &c, &first, tasks, hyper as u32)
 }
 
 // The walk of a set under a plan: refusal 2, 3, 4 or 8, or what the walk from 0 to the hyper-period says.

@@ -11,35 +11,35 @@ use Rattle.schedule.specs.Walk.{Task, tasksFrom, misses}
 use Rattle.schedule.specs.Counted.{walkFrom, missed}
 use Rattle.ticks.specs.Arrays.{taskAt}
 use Rattle.ticks.specs.declared.State.{State}
-use Rattle.ticks.proofs.Releases.{Counted, counted-on, busy-fits, idle-fits, preempted-fits, part-pass, part-take, part-miss, part-end, walkFrom-miss, walkFrom-kept}
-use Rattle.ticks.proofs.Ticks.{early-set}
-use Rattle.ticks.proofs.Loops.{AtTick, AtTask, steady, first-tick, turns-come, no-turns, turn-over, tick-ready, next-tick}
+use Rattle.ticks.proofs.Releases.{Counted, counted-on, counted-fit, part-pass, part-take, part-miss, part-end, walkFrom-miss, walkFrom-kept}
+use Rattle.ticks.proofs.Jobs.{early-set}
+use Rattle.ticks.proofs.Loops.{AtTick, AtTask, steady, first-tick, turns-come, turn-over, ticks-ready, next-tick}
 use borrow.Author.Needs.{needs}
 use Rattle.ticks.proofs.run.Statement.{statement}
 use Rattle.ticks.proofs.run.Tie as tie
 
 abbrev Inv-loop : tie.InvT-loop
-Inv-loop p c n end s₀ late₀ next₀ t i₀ s late next i = AtTask (taskAt p c) n t i late next s
+Inv-loop p c first n end s₀ late₀ t next₀ i₀ s late next i = AtTask (taskAt p c first) n end t i late next s
 
 abbrev μ-loop : tie.MeasureT-loop
-μ-loop p c n end s₀ late₀ next₀ t i₀ s late next i = n - i
+μ-loop p c first n end s₀ late₀ t next₀ i₀ s late next i = n - i
 
 abbrev Inv-ticks : tie.InvT-ticks
-Inv-ticks p c n end s₀ late₀ next₀ t₀ s late next t = AtTick (taskAt p c) n end t late next s
+Inv-ticks p c first n end s₀ late₀ t₀ s late t = AtTick (taskAt p c first) n end t late s
 
 abbrev μ-ticks : tie.MeasureT-ticks
-μ-ticks p c n end s₀ late₀ next₀ t₀ s late next t = end - t
+μ-ticks p c first n end s₀ late₀ t₀ s late t = end - t
 
 -- The way back from a task's turn to its tick, and from a tick to the start; the tasks; and that a tick's number is
 -- small.
 abbrev tick : tie.At-loop Inv-loop μ-loop Inv-ticks μ-ticks → tie.At-ticks Inv-loop μ-loop Inv-ticks μ-ticks
-tick l = l .before .before .before
+tick l = l .before .before
 
 abbrev start : tie.At-ticks Inv-loop μ-loop Inv-ticks μ-ticks → tie.Start Inv-loop μ-loop Inv-ticks μ-ticks
 start q = q .before .before
 
 abbrev tasks : tie.At-ticks Inv-loop μ-loop Inv-ticks μ-ticks → ℕ → Task
-tasks q = taskAt (start q .args .p .now) (start q .args .c .now)
+tasks q = taskAt (start q .args .p .now) (start q .args .c .now) (start q .args .first .now)
 
 small : (q : tie.At-ticks Inv-loop μ-loop Inv-ticks μ-ticks) → q .ticks .t ≤ 200000000
 small q = omega (arith, q .ticks .inv .reached, start q .pre .ends)
@@ -48,6 +48,13 @@ small q = omega (arith, q .ticks .inv .reached, start q .pre .ends)
 deadline : (l : tie.At-loop Inv-loop μ-loop Inv-ticks μ-ticks) → l .loop .i < start (tick l) .args .n →
     tick l .ticks .t + getD (start (tick l) .args .p .now) (l .loop .i) 0 < 4294967295
 deadline l h = omega (arith, small (tick l), start (tick l) .pre .period (l .loop .i) h)
+
+-- Where a stretch is to be made, all turns are over, and it is not the end.
+turns-over : (c : tie.Else3 Inv-loop μ-loop Inv-ticks μ-ticks) → let l = c .before .before in l .loop .i ≡ start (tick l) .args .n
+turns-over c = let l = c .before .before in omega (arith, l .loop .inv .inside, c .before .loop-test .left)
+
+before-end : (c : tie.Else3 Inv-loop μ-loop Inv-ticks μ-ticks) → let q = tick (c .before .before) in q .ticks .t < start q .args .end
+before-end c = let q = tick (c .before .before) in omega (arith, q .ticks .inv .reached, c .if3 .left)
 
 cast-new : tie.Need-cast-new Inv-loop μ-loop Inv-ticks μ-ticks
 cast-new c = search needs
@@ -59,24 +66,19 @@ ticks-holds : tie.Need-ticks-holds Inv-loop μ-loop Inv-ticks μ-ticks
 ticks-holds c = first-tick (c .before .pre) (c .new .ensures)
 
 loop-holds : tie.Need-loop-holds Inv-loop μ-loop Inv-ticks μ-ticks
-loop-holds c =
-    let q = c .before .before in
-    ⊎-elim
-    (λ w. rw (w .1, w .2, w .3) (turns-come (q .ticks .inv) 4294967295 (omega (arith, small q))))
-    (λ w. rw (w .1, w .2, w .3) (no-turns (q .ticks .inv) (w .0 .left)))
-    (c .if1 .came)
+loop-holds c = turns-come (c .before .ticks .inv)
+
+mul-if1 : tie.Need-mul-if1 Inv-loop μ-loop Inv-ticks μ-ticks
+mul-if1 c = search needs
+
+element-copy-out-if1 : tie.Need-element-copy-out-if1 Inv-loop μ-loop Inv-ticks μ-ticks
+element-copy-out-if1 c = search needs
 
 mul-if2 : tie.Need-mul-if2 Inv-loop μ-loop Inv-ticks μ-ticks
 mul-if2 c = search needs
 
 element-copy-out-if2 : tie.Need-element-copy-out-if2 Inv-loop μ-loop Inv-ticks μ-ticks
 element-copy-out-if2 c = search needs
-
-mul-if3 : tie.Need-mul-if3 Inv-loop μ-loop Inv-ticks μ-ticks
-mul-if3 c = search needs
-
-element-copy-out-if3 : tie.Need-element-copy-out-if3 Inv-loop μ-loop Inv-ticks μ-ticks
-element-copy-out-if3 c = search needs
 
 add-late : tie.Need-add-late Inv-loop μ-loop Inv-ticks μ-ticks
 add-late c = search needs
@@ -101,8 +103,8 @@ element-copy-out-s-2 c = search needs
 
 add-s : tie.Need-add-s Inv-loop μ-loop Inv-ticks μ-ticks
 add-s c =
-    let l = c .before .before .before .before .before .before .before .before in
-    omega (arith, deadline l (c .before .before .before .before .before .before .before .loop-test .taken))
+    let l = c .before .before .before .before .before .before .before in
+    omega (arith, deadline l (c .before .before .before .before .before .before .loop-test .taken))
 
 mul-s-4 : tie.Need-mul-s-4 Inv-loop μ-loop Inv-ticks μ-ticks
 mul-s-4 c = search needs
@@ -110,11 +112,11 @@ mul-s-4 c = search needs
 element-write-s-2 : tie.Need-element-write-s-2 Inv-loop μ-loop Inv-ticks μ-ticks
 element-write-s-2 c = search needs
 
-mul-lesser : tie.Need-mul-lesser Inv-loop μ-loop Inv-ticks μ-ticks
-mul-lesser c = search needs
+mul-d : tie.Need-mul-d Inv-loop μ-loop Inv-ticks μ-ticks
+mul-d c = search needs
 
-element-copy-out-lesser : tie.Need-element-copy-out-lesser Inv-loop μ-loop Inv-ticks μ-ticks
-element-copy-out-lesser c = search needs
+element-copy-out-d : tie.Need-element-copy-out-d Inv-loop μ-loop Inv-ticks μ-ticks
+element-copy-out-d c = search needs
 
 lesser-requires : tie.Need-lesser-requires Inv-loop μ-loop Inv-ticks μ-ticks
 lesser-requires c κs = search needs
@@ -127,36 +129,41 @@ loop-less c = search needs
 
 loop-again : tie.Need-loop-again Inv-loop μ-loop Inv-ticks μ-ticks
 loop-again c =
-    let l = c .before .before .before .before .before .before in
+    let l = c .before .before .before .before .before in
     let v = l .loop .inv in
     let i = l .loop .i in
-    let lt = c .before .before .before .before .before .loop-test .taken in
+    let lt = c .before .before .before .before .loop-test .taken in
     ⊎-elim
     (λ w. rw (w .5) (turn-over v lt
     (part-take lt (v .part) (omega (arith, v .early)) (omega (arith, v .early)) (steady (start (tick l) .pre) i lt)
     (w .0 .taken) (omega (arith, w .2 .left)))
-    (counted-on (v .counts) _ _ _) (early-set _ _ _ i _ _ (omega (arith, v .early)) (deadline l lt) (v .early))
-    (λ j x. getD-set-other (l .loop .s .due) i j _ 0 (λ e. absurd (omega arith))) (v .unknown lt) (rw (w .5) at (c .lesser .ensures))))
-    (λ w. rw (w .1) (turn-over v lt (part-pass lt (v .part) (w .0 .left)) (v .counts) (v .early) (λ j x. refl) (v .unknown lt) (rw (w .1) at (c .lesser .ensures))))
-    (c .before .before .if2 .came)
+    (counted-on (v .counts) _ _) (early-set _ _ _ i _ _ (omega (arith, v .early)) (deadline l lt) (v .early))
+    (λ j x. getD-set-other (l .loop .s .due) i j _ 0 (λ e. absurd (omega arith))) (rw (w .5) at (c .lesser .ensures))))
+    (λ w. rw (w .1) (turn-over v lt (part-pass lt (v .part) (w .0 .left)) (v .counts) (v .early) (λ j x. refl) (rw (w .1) at (c .lesser .ensures))))
+    (c .before .before .if1 .came)
+
+sub-tick : tie.Need-sub-tick Inv-loop μ-loop Inv-ticks μ-ticks
+sub-tick c = omega (arith, c .before .before .loop .inv .ahead (before-end c))
 
 tick-requires : tie.Need-tick-requires Inv-loop μ-loop Inv-ticks μ-ticks
-tick-requires c κs = let l = c .before .before in tick-ready (l .loop .inv) (omega (arith, small (tick l)))
-
-add-t : tie.Need-add-t Inv-loop μ-loop Inv-ticks μ-ticks
-add-t c = search needs
+tick-requires c κs =
+    let l = c .before .before in
+    ticks-ready (l .loop .inv) (turns-over c) (before-end c) (omega (arith, start (tick l) .pre .ends))
 
 ticks-less : tie.Need-ticks-less Inv-loop μ-loop Inv-ticks μ-ticks
-ticks-less c = search needs
+ticks-less c =
+    let e = c .before in
+    let v = e .before .before .loop .inv in
+    omega (arith, before-end e, v .ahead (before-end e), v .within)
 
 ticks-again : tie.Need-ticks-again Inv-loop μ-loop Inv-ticks μ-ticks
 ticks-again c =
-    let l = c .before .before .before in
-    next-tick (l .loop .inv) (tick l .ticks .inv)
-    (omega (arith, l .loop .inv .inside, c .before .before .loop-test .left)) (c .before .if4 .left) (c .tick .ensures)
+    let e = c .before in
+    let l = e .before .before in
+    next-tick (l .loop .inv) (turns-over e) (before-end e) (tick l .ticks .inv) (c .tick .ensures)
 
-cast-t38 : tie.Need-cast-t38 Inv-loop μ-loop Inv-ticks μ-ticks
-cast-t38 c = omega (arith, small (c .before .before))
+cast-t41 : tie.Need-cast-t41 Inv-loop μ-loop Inv-ticks μ-ticks
+cast-t41 c = omega (arith, small (c .before .before))
 
 missed-answer : tie.Need-returns Inv-loop μ-loop Inv-ticks μ-ticks
 missed-answer c =
@@ -166,11 +173,11 @@ missed-answer c =
     (λ w. absurd (omega (arith, v .on-time)))
     (λ y. ⊎-elim
     (λ w.
-    let i = w .2 .i in
-    let m = part-miss (w .3 .taken) (w .2 .inv .part) (steady (start q .pre) i (w .3 .taken)) (w .6 .taken) (w .8 .taken) in
+    let i = w .1 .i in
+    let m = part-miss (w .2 .taken) (w .1 .inv .part) (steady (start q .pre) i (w .2 .taken)) (w .4 .taken) (w .6 .taken) in
     sym (v .rest) ∙ walkFrom-miss _ (q .ticks .t) (start q .args .end - q .ticks .t) (m .0) ∙ ap (missed (q .ticks .t))
-    (m .1 ∙ sym (w .10)))
-    (λ w. absurd (omega (arith, w .2 .inv .on-time)))
+    (m .1 ∙ sym (w .8)))
+    (λ w. absurd (omega (arith, w .1 .inv .on-time)))
     y)
     (c .before .ticks-test .came)
 
@@ -180,28 +187,28 @@ record Over (k : ℕ → Task) (n end t : ℕ) (s : State) : Type 0 where
   on-time : misses (tasksFrom k 0 n) t ≡ false
   counts : Counted k n t s
 
-at-end : (c : tie.Else5 Inv-loop μ-loop Inv-ticks μ-ticks) → let q = c .before .before in
+at-end : (c : tie.Else4 Inv-loop μ-loop Inv-ticks μ-ticks) → let q = c .before .before in
     Over (tasks q) (start q .args .n) (start q .args .end) (q .ticks .t) (c .before .ticks-test .s)
 at-end c =
     let q = c .before .before in
     ⊎-elim
     (λ w. absurd (omega (arith, q .ticks .inv .reached, w .0 .left)))
     (λ y. ⊎-elim
-    (λ w. absurd (omega (arith, w .10, c .if5 .left)))
+    (λ w. absurd (omega (arith, w .8, c .if4 .left)))
     (λ w.
-    let v = w .2 .inv in
-    rw (w .5) (record { here = w .4 .taken; on-time = part-end (omega (arith, v .inside, w .3 .left)) (v .part) .on-time; counts = v .counts }))
+    let v = w .1 .inv in
+    rw (w .4) (record { here = w .3 .taken; on-time = part-end (omega (arith, v .inside, w .2 .left)) (v .part) .on-time; counts = v .counts }))
     y)
     (c .before .ticks-test .came)
 
-cast-t40 : tie.Need-cast-t40 Inv-loop μ-loop Inv-ticks μ-ticks
-cast-t40 c = omega (arith, small (c .before .before), busy-fits (at-end c .counts))
+cast-t43 : tie.Need-cast-t43 Inv-loop μ-loop Inv-ticks μ-ticks
+cast-t43 c = omega (arith, small (c .before .before), counted-fit (at-end c .counts) .busy)
 
-cast-t42 : tie.Need-cast-t42 Inv-loop μ-loop Inv-ticks μ-ticks
-cast-t42 c = omega (arith, small (c .before .before), idle-fits (at-end c .counts))
+cast-t45 : tie.Need-cast-t45 Inv-loop μ-loop Inv-ticks μ-ticks
+cast-t45 c = omega (arith, small (c .before .before), counted-fit (at-end c .counts) .idle)
 
-cast-t44 : tie.Need-cast-t44 Inv-loop μ-loop Inv-ticks μ-ticks
-cast-t44 c = omega (arith, small (c .before .before), preempted-fits (at-end c .counts))
+cast-t47 : tie.Need-cast-t47 Inv-loop μ-loop Inv-ticks μ-ticks
+cast-t47 c = omega (arith, small (c .before .before), counted-fit (at-end c .counts) .preempted)
 
 kept-answer : tie.Need-returns-2 Inv-loop μ-loop Inv-ticks μ-ticks
 kept-answer c =
@@ -223,10 +230,10 @@ run-spec =
     new-requires
     ticks-holds
     loop-holds
+    mul-if1
+    element-copy-out-if1
     mul-if2
     element-copy-out-if2
-    mul-if3
-    element-copy-out-if3
     add-late
     mul-s
     element-copy-out-s
@@ -237,19 +244,19 @@ run-spec =
     add-s
     mul-s-4
     element-write-s-2
-    mul-lesser
-    element-copy-out-lesser
+    mul-d
+    element-copy-out-d
     lesser-requires
     add-i
     loop-less
     loop-again
+    sub-tick
     tick-requires
-    add-t
     ticks-less
     ticks-again
-    cast-t38
+    cast-t41
     missed-answer
-    cast-t40
-    cast-t42
-    cast-t44
+    cast-t43
+    cast-t45
+    cast-t47
     kept-answer)

@@ -21,17 +21,17 @@ times-requires : tie.Need-times-requires
 times-requires c κs = let s = start c in (set-given _ (plan s) _ _ _ (s .pre), sound-plan _ (plan s) _ _ _ (s .pre))
 
 cast-run : tie.Need-cast-run
-cast-run c = let s = start (c .before .before .before) in omega (arith, hyper-fits _ (plan s) _ _ _ (s .pre))
+cast-run c = let s = start (c .before .before .before .before) in omega (arith, hyper-fits _ (plan s) _ _ _ (s .pre))
 
 run-requires : tie.Need-run-requires
 run-requires c κs =
-    let p = c .before .before .before in
-    run-ready _ (plan (start p)) _ _ _ (start p .pre) _ _ (p .periods .ensures) (c .before .before .times .ensures)
+    let p = c .before .before .before .before in
+    run-ready _ (plan (start p)) _ _ _ (start p .pre) _ _ (p .periods .ensures) (c .before .before .before .times .ensures)
 
 returns : tie.Need-returns
 returns c =
-    let p = c .before .before .before .before in
-    says-walked _ _ _ _ _ (start p .pre) _ _ (p .periods .ensures) (c .before .before .before .times .ensures)
+    let p = c .before .before .before .before .before in
+    says-walked _ _ _ _ _ (start p .pre) _ _ (p .periods .ensures) (c .before .before .before .before .times .ensures)
     (c .run .result) (c .run .ensures)
 
 pub walk-checked-spec : {M : Type 1} → statement M

@@ -1,102 +1,148 @@
--- One tick. The place is the pick; it stays the pick while its job is unfinished and nothing is released.
+-- A stretch of ticks, job by job. The invariant: what is left of the stretch is the whole stretch.
 -- Assumes nothing.
-use Prim.Native.Nat.{_<_}
-use mathlib.Core.Path.{sym}
+use Prim.Native.Nat.{ℕ, _<_}
+use mathlib.Core.Path.{_≡_, refl}
+use mathlib.Core.List.{List}
 use native.Mathlib.Omega.{arith}
-use lib.ListN.{length}
-use Rattle.ticks.proofs.Again.{picked-most, picked-left}
-use Rattle.ticks.proofs.Ticks.{cuts-few, ticked-idle, ticked-last, ticked-on}
+use lib.ListN.{getD}
+use Rattle.schedule.proofs.Stretch.{cuts-few}
+use Rattle.ticks.specs.declared.State.{State}
+use Rattle.ticks.proofs.Jobs.{picked-left}
+use Rattle.ticks.proofs.Stretches.{InStretch, stretch-start, stretch-over, stretch-idle, stretch-busy}
 use borrow.Author.Needs.{needs}
 use Rattle.ticks.proofs.State.tick.Statement.{statement}
 use Rattle.ticks.proofs.State.tick.Tie as tie
 
--- The way back to the place and to the start; and that the place is one of the array's.
-abbrev start : tie.After-place → tie.Start
-start p = p .before .before .before .before
+-- The state that the function's own variables stand for.
+abbrev state : List ℕ → ℕ → ℕ → ℕ → ℕ → List ℕ → State
+state left busy idle preempted last due = record { left = left; busy = busy; idle = idle; preempted = preempted; last = last; due = due }
 
-abbrev placed : tie.After-rest → tie.After-place
-placed r = r .before .before .before
+abbrev Inv-loop : tie.InvT-loop
+Inv-loop n room none due left₀ busy₀ idle₀ preempted₀ last₀ rest₀ left busy idle preempted last rest =
+    InStretch n room rest (state left₀ busy₀ idle₀ preempted₀ last₀ due) (state left busy idle preempted last due)
 
-room : (r : tie.After-rest) → placed r .place .result < length (start (placed r) .args .t1 .left)
-room r = omega (arith, r .before .before .if1 .left, start (placed r) .pre .early)
+abbrev μ-loop : tie.MeasureT-loop
+μ-loop n room none due left₀ busy₀ idle₀ preempted₀ last₀ rest₀ left busy idle preempted last rest = rest
 
-place-requires : tie.Need-place-requires
-place-requires c κs = search needs
+-- The way back from a pick to the loop, and from the loop to the start.
+abbrev at : tie.After-pick Inv-loop μ-loop → tie.At-loop Inv-loop μ-loop
+at p = p .before .before .before .before
 
-cast-none : tie.Need-cast-none
+abbrev start : tie.At-loop Inv-loop μ-loop → tie.Start Inv-loop μ-loop
+start q = q .before .before .before
+
+-- The picked job has ticks left.
+some : (c : tie.Else1 Inv-loop μ-loop) → let p = c .before in 0 < getD (at p .loop .left) (p .pick .result) 0
+some c =
+    let p = c .before in
+    let q = at p in
+    picked-left (q .loop .left) (start q .args .self .due) (start q .args .n) (p .pick .result) (p .pick .ensures) (c .if1 .left)
+
+cast-none : tie.Need-cast-none Inv-loop μ-loop
 cast-none c = search needs
 
-add-self : tie.Need-add-self
-add-self c = search needs
+loop-holds : tie.Need-loop-holds Inv-loop μ-loop
+loop-holds c = stretch-start (c .before .before .pre)
 
-idle-tick : tie.Need-returns
-idle-tick c =
-    let a = start (c .before) .args in
-    ticked-idle (a .n) (a .t1) (omega (arith, c .before .place .ensures, picked-most (a .t1 .left) (a .t1 .due) (a .n), c .if1 .taken))
+pick-requires : tie.Need-pick-requires Inv-loop μ-loop
+pick-requires c κs = c .before .before .before .loop .inv .early
 
-cast-b : tie.Need-cast-b
+add-idle : tie.Need-add-idle Inv-loop μ-loop
+add-idle c = omega (arith, at (c .before) .loop .inv .idle-room)
+
+cast-b : tie.Need-cast-b Inv-loop μ-loop
 cast-b c = search needs
 
-add-self-2 : tie.Need-add-self-2
-add-self-2 c = search needs
+mul-had : tie.Need-mul-had Inv-loop μ-loop
+mul-had c = search needs
 
-preempts-requires : tie.Need-preempts-requires
+array-read-had : tie.Need-array-read-had Inv-loop μ-loop
+array-read-had c = search needs
+
+lesser-requires : tie.Need-lesser-requires Inv-loop μ-loop
+lesser-requires c κs = search needs
+
+preempts-requires : tie.Need-preempts-requires Inv-loop μ-loop
 preempts-requires c κs = search needs
 
-add-self-3 : tie.Need-add-self-3
-add-self-3 c =
-    let p = c .before .before in
-    omega
-    (arith, c .preempts .ensures, cuts-few (start p .args .n) (p .place .result) (start p .args .t1 .last), start p .pre .preempted-room)
+sub-left : tie.Need-sub-left Inv-loop μ-loop
+sub-left c = search needs
 
-mul-rest : tie.Need-mul-rest
-mul-rest c = search needs
+mul-left : tie.Need-mul-left Inv-loop μ-loop
+mul-left c = search needs
 
-element-copy-out-rest : tie.Need-element-copy-out-rest
-element-copy-out-rest c = search needs
+array-write-left : tie.Need-array-write-left Inv-loop μ-loop
+array-write-left c = search needs
 
-sub-rest : tie.Need-sub-rest
-sub-rest c =
-    let p = placed c in
-    let a = start p .args in
-    rw (p .place .ensures) (picked-left (a .t1 .left) (a .t1 .due) (a .n) (omega (arith, p .place .ensures, c .before .before .if1 .left)))
+add-busy : tie.Need-add-busy Inv-loop μ-loop
+add-busy c = let e = c .before .before in omega (arith, at (e .before) .loop .inv .busy-room, c .before .lesser .ensures)
 
-mul-self : tie.Need-mul-self
-mul-self c = search needs
+add-preempted : tie.Need-add-preempted Inv-loop μ-loop
+add-preempted c =
+    let l = c .before in
+    let p = l .before .before in
+    let q = at p in
+    omega (
+      arith,
+      q .loop .inv .preempted-room,
+      l .lesser .ensures,
+      c .preempts .ensures,
+      cuts-few (start q .args .n) (p .pick .result) (q .loop .last),
+    )
 
-element-write-self : tie.Need-element-write-self
-element-write-self c = search needs
+unfinished-requires : tie.Need-unfinished-requires Inv-loop μ-loop
+unfinished-requires c κs = search needs
 
-last-tick : tie.Need-returns-2
-last-tick c =
-    let r = c .before in
-    let a = start (placed r) .args in
-    rw (r .before .preempts .ensures)
-    (ticked-last (a .n) (a .t1) _ (sym (placed r .place .ensures)) (r .before .before .if1 .left) (room r) (c .if2 .taken))
+sub-rest : tie.Need-sub-rest Inv-loop μ-loop
+sub-rest c = search needs
 
-busy-tick : tie.Need-returns-3
-busy-tick c =
-    let r = c .before in
-    let a = start (placed r) .args in
-    rw (r .before .preempts .ensures)
-    (ticked-on (a .n) (a .t1) _ (sym (placed r .place .ensures)) (r .before .before .if1 .left) (room r) (c .if2 .left))
+loop-less : tie.Need-loop-less Inv-loop μ-loop
+loop-less c =
+    let e = c .before .before .before in
+    omega (arith, some e, c .before .before .lesser .ensures)
+
+loop-again : tie.Need-loop-again Inv-loop μ-loop
+loop-again c =
+    let l = c .before .before in
+    let p = l .before .before in
+    let q = at p in
+    stretch-busy (q .loop .inv) (p .pick .result) (l .lesser .result) (c .before .preempts .result) (c .unfinished .result)
+    (p .before .before .before .loop-test .taken) (p .pick .ensures) (omega (arith, l .before .if1 .left)) (l .lesser .ensures) (c .before .preempts .ensures) (c .unfinished .ensures)
+
+over : tie.Need-returns Inv-loop μ-loop
+over c =
+    let q = c .before in
+    stretch-over (q .loop .inv) (omega (arith, c .loop-test .left)) refl (start q .pre .early .lefts)
+
+idle : tie.Need-returns-2 Inv-loop μ-loop
+idle c =
+    let p = c .before in
+    let q = at p in
+    stretch-idle (q .loop .inv) (p .before .before .before .loop-test .taken) (omega (arith, p .pick .ensures, c .if1 .taken)) refl (start q .pre .early .lefts)
 
 pub tick-spec : {M : Type 1} → statement M
 tick-spec =
     tie.close
     (tie.spec
-    place-requires
+    Inv-loop
+    μ-loop
     cast-none
-    add-self
-    idle-tick
+    loop-holds
+    pick-requires
+    add-idle
     cast-b
-    add-self-2
+    mul-had
+    array-read-had
+    lesser-requires
     preempts-requires
-    add-self-3
-    mul-rest
-    element-copy-out-rest
+    sub-left
+    mul-left
+    array-write-left
+    add-busy
+    add-preempted
+    unfinished-requires
     sub-rest
-    mul-self
-    element-write-self
-    last-tick
-    busy-tick)
+    loop-less
+    loop-again
+    over
+    idle)
