@@ -163,7 +163,7 @@ more-left v l =
     (bool-cases (ltb v l))
 
 -- A place with ticks left is one of the list's.
-in-list : (js : List Job) (b : ℕ) → 0 < leftAt js b → b < length js
+pub in-list : (js : List Job) (b : ℕ) → 0 < leftAt js b → b < length js
 in-list js b h =
     ⊎-elim (λ e. ltb-true b (length js) e) (λ e. absurd (omega (arith, left-past js b (ltb-false b (length js) e)))) (bool-cases (ltb b (length js)))
 

@@ -11,11 +11,12 @@ use lib.ListN.{length, getD, set, length-set}
 use lib.Seq.{getD-set-same, getD-set-other}
 use borrow.Author.Tests.{eqb-true, eqb-false}
 use Rattle.numbers.specs.Numbers.{All}
-use Rattle.numbers.proofs.Tests.{bool-cases}
+use Rattle.numbers.proofs.Tests.{bool-cases, lt-or-le}
 use Rattle.schedule.specs.Walk.{Task, tasksFrom, Job, sooner, pick}
 use Rattle.schedule.specs.Counted.{leftAt}
-use Rattle.schedule.proofs.Stretch.{workFor, pick-most, pick-left}
-use Rattle.ticks.specs.Arrays.{jobsFrom, blank, picked, Early}
+use Rattle.schedule.proofs.Stretch.{workFor, left-past, pick-most, pick-left, in-list}
+use Rattle.ticks.specs.Arrays.{jobsFrom, blank, picked, IsPick, Early}
+use Rattle.ticks.specs.declared.Picked.{Picked}
 
 -- ---- the pick does not look at tasks
 sooner-same : (k k′ : ℕ → Task) (l d : List ℕ) (e i n : ℕ) → sooner e (jobsFrom k l d i n) ≡ sooner e (jobsFrom k′ l d i n)
@@ -83,19 +84,37 @@ pub jobs-work : (k : ℕ → Task) (l d : List ℕ) (v b n : ℕ) → b < n → 
     jobsFrom k (set l b (getD l b 0 - v)) d 0 n ≡ workFor v (jobsFrom k l d 0 n) b
 jobs-work k l d v b n h q = rw (zero-add b) at (work-from k l d v b 0 n h (omega arith))
 
--- ---- the pick is a place of an unfinished job, or n
-pub picked-most : (l d : List ℕ) (n : ℕ) → picked l d n ≤ n
+-- ---- the pick is the place of an unfinished job, with its ticks left, or n
+picked-most : (l d : List ℕ) (n : ℕ) → picked l d n ≤ n
 unfolding picked
 picked-most l d n = omega (arith, pick-most (jobsFrom blank l d 0 n), length-jobs blank l d 0 n)
 
-pub picked-left : (l d : List ℕ) (n b : ℕ) → b ≡ picked l d n → b < n → 0 < getD l b 0
-unfolding picked
-picked-left l d n b e h =
-    let js = jobsFrom blank l d 0 n in
-    rw e
-    (omega (arith, pick-left js (omega (arith, length-jobs blank l d 0 n)), left-jobs blank l d n (pick js) (omega arith)))
+module _ {l d : List ℕ} {n : ℕ} {r : Picked} (v : IsPick l d n r) where
+  pub pick-some : 0 < r .left → (r .place < n) × (r .left ≡ getD l (r .place) 0)
+  pick-some h =
+      let here : r .place < n = omega (arith, in-list (jobsFrom blank l d 0 n) (r .place) (omega (arith, v .left)), length-jobs blank l d 0 n) in
+      (here, v .left ∙ left-jobs blank l d n (r .place) here)
+
+  pub pick-none : r .left ≡ 0 → n ≤ picked l d n
+  unfolding picked
+  pick-none e =
+      let js = jobsFrom blank l d 0 n in
+      let size = length-jobs blank l d 0 n in
+      ⊎-elim
+      (λ (h : pick js < n). absurd (omega (arith, pick-left js (omega arith), v .left, ap (leftAt js) (v .place))))
+      (λ (h : n ≤ pick js). h)
+      (lt-or-le (pick js) n)
+
+pub is-none : (l d : List ℕ) (n : ℕ) → n ≤ picked l d n → IsPick l d n (record { place = n; left = 0 })
+is-none l d n h = record {
+  place = omega (arith, picked-most l d n);
+  left = sym (left-past (jobsFrom blank l d 0 n) n (omega (arith, length-jobs blank l d 0 n)));
+}
 
 -- ---- the arrays stay early
+pub early-left : (n : ℕ) (l d : List ℕ) (i v : ℕ) → Early n l d → Early n (set l i v) d
+early-left n l d i v s = record { few = s .few; lefts = length-set l i v ∙ s .lefts; dues = s .dues; low = s .low }
+
 pub early-set : (n : ℕ) (l d : List ℕ) (i v w : ℕ) → i < 32 → w < 4294967295 → Early n l d
     → Early n (set l i v) (set d i w)
 early-set n l d i v w h q s = record {

@@ -11,7 +11,8 @@ use Rattle.numbers.proofs.Tests.{below-more}
 use Rattle.schedule.specs.Walk.{Task, tasksFrom}
 use Rattle.schedule.specs.Counted.{walkFrom}
 use Rattle.schedule.proofs.Stretch.{walk-on}
-use Rattle.ticks.specs.Arrays.{taskAt, Early, Begun, TickReady, Ticked, RunReady}
+use Rattle.ticks.specs.Arrays.{taskAt, IsPick, Early, Begun, TickReady, Ticked, RunReady}
+use Rattle.ticks.specs.declared.Picked.{Picked}
 use Rattle.ticks.specs.declared.State.{State}
 use Rattle.ticks.proofs.Releases.{Steady, Counted, counted-on, counted-fit, Held, held-start, held-next, Gap, gap-is, gap-quiet, Part, part-start, part-end, offset-start, offset-steady}
 
@@ -88,9 +89,10 @@ module _ {k : ℕ → Task} {n end t i late next : ℕ} {s : State} (v : AtTask 
   gap : Gap n t next (s .due)
   gap = record { some = v .ahead before; least = λ j x. v .least j (omega arith) }
 
-  pub ticks-ready : end < 4294967295 → TickReady n (next - t) s
-  ticks-ready h =
+  pub ticks-ready : {first : Picked} → end < 4294967295 → IsPick (s .left) (s .due) n first → TickReady n (next - t) first s
+  ticks-ready h first =
       let f = counted-fit (v .counts) in record {
+        picks = first;
         early = v .early;
         busy-room = omega (arith, f .busy, gap .some, v .within);
         idle-room = omega (arith, f .idle, gap .some, v .within);

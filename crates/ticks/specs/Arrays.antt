@@ -7,11 +7,12 @@ use mathlib.Core.List.{List, [], _∷_}
 use lib.Dec.{leb, eqb}
 use lib.ListN.{length, getD, replicate}
 use Rattle.schedule.specs.Walk.{Task, Job, pick, tasksFrom}
-use Rattle.schedule.specs.Counted.{kept, missed, walk}
+use Rattle.schedule.specs.Counted.{leftAt, kept, missed, walk}
 use Rattle.schedule.proofs.Stretch.{Going, ticks}
 use Rattle.layout.specs.Words.{longestPeriod}
 use Rattle.taskset.specs.declared.WalkAnswer.{WalkAnswer}
 use Rattle.taskset.specs.declared.WalkAnswer.the-variants.{Kept, Missed, Refused}
+use Rattle.ticks.specs.declared.Picked.{Picked}
 use Rattle.ticks.specs.declared.State.{State}
 
 -- The jobs of the n tasks from place i on, where k gives each place's task, by ticks left and deadlines.
@@ -26,6 +27,11 @@ blank i = record { period = 0; time = 0; arrives = λ t. 0 }
 -- The place that runs next, of n tasks; n where all are finished.
 unfoldable pub picked : List ℕ → List ℕ → ℕ → ℕ
 picked left due n = pick (jobsFrom blank left due 0 n)
+
+-- The place that runs next, and the ticks left there.
+pub record IsPick (l d : List ℕ) (n : ℕ) (r : Picked) : Type 0 where
+  pub place : r .place ≡ picked l d n
+  pub left : r .left ≡ leftAt (jobsFrom blank l d 0 n) (r .place)
 
 -- Room in the arrays, and deadlines below the largest word.
 pub record Early (n : ℕ) (left due : List ℕ) : Type 0 where
@@ -53,8 +59,9 @@ going k n s = record {
   last = s .last;
 }
 
--- A state of which so many ticks can be made.
-pub record TickReady (n room : ℕ) (s : State) : Type 0 where
+-- A state of which so many ticks can be made, and the job that runs first.
+pub record TickReady (n room : ℕ) (first : Picked) (s : State) : Type 0 where
+  pub picks : IsPick (s .left) (s .due) n first
   pub early : Early n (s .left) (s .due)
   pub busy-room : s .busy + room < 4294967295
   pub idle-room : s .idle + room < 4294967295

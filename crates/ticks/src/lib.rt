@@ -4,7 +4,7 @@ ghost use mathlib.Core.Path.{_≡_};
 ghost use mathlib.Core.Bool.{cond};
 ghost use lib.Dec.{ltb};
 ghost use Rattle.schedule.proofs.Stretch.{cuts};
-ghost use Rattle.ticks.specs.Arrays.{picked, Early, Begun, TickReady, Ticked, RunReady, Says};
+ghost use Rattle.ticks.specs.Arrays.{Early, IsPick, Begun, TickReady, Ticked, RunReady, Says};
 use taskset::WalkAnswer;
 
 // What the walk holds: of each task the ticks left of its job; the counts so far; the place of the job of the tick before
@@ -18,6 +18,12 @@ pub struct State {
     pub preempted: u32,
     pub last: u32,
     pub due: [u32; 32],
+}
+
+// The job that runs next: its place and its ticks left; n and 0 where all jobs are finished.
+pub struct Picked {
+    pub place: usize,
+    pub left: u32,
 }
 
 // 1 where the job at `last` is cut short by the one at `best`, else 0.
@@ -44,10 +50,10 @@ fn unfinished(had: u32, ran: u32, best: u32, n: u32) -> u32
     n
 }
 
-// The place of the unfinished job with the earliest deadline, of several the first; n where all are finished.
-fn pick<'a>(left: &'a [u32; 32], due: &'a [u32; 32], n: usize) -> usize
+// The unfinished job with the earliest deadline, of several the first.
+fn pick<'a>(left: &'a [u32; 32], due: &'a [u32; 32], n: usize) -> Picked
     requires { ⌜ Early n (now left) (now due) ⌝ }
-    ensures { λ r. ⌜ r ≡ picked (now (left .entry)) (now (due .entry)) n ⌝ }
+    ensures { λ r. ⌜ IsPick (now (left .entry)) (now (due .entry)) n r ⌝ }
 {
     let mut best: usize = n;
     let mut when: u32 = 4294967295;
@@ -62,7 +68,13 @@ fn pick<'a>(left: &'a [u32; 32], due: &'a [u32; 32], n: usize) -> usize
         }
         i += 1;
     }
-    best
+    if best < n {
+        return Picked {
+            place: best,
+            left: left[best],
+        };
+    }
+    Picked { place: n, left: 0 }
 }
 
 impl State {
@@ -80,11 +92,12 @@ impl State {
         }
     }
 
-    // So many ticks, with no release after the first of them. In each the unfinished job with the earliest deadline
-    // runs, of several the first; it runs on to its finish or to the last tick, and then the next is picked. What
-    // changes is held apart from the state, which is made again at the end: so no copy of it is changed in place.
-    pub fn tick(self, n: usize, room: u32) -> State
-        requires { ⌜ TickReady n room self ⌝ }
+    // So many ticks, with no release after the first of them; `first` is the job that runs then. In each tick the
+    // unfinished job with the earliest deadline runs, of several the first: it runs on to its finish or to the last
+    // tick, and then the next one is picked. What changes is held apart from the state, which is made again at the end:
+    // so the compiler copies the two lists alone, and no call of it.
+    pub fn tick(self, n: usize, room: u32, first: Picked) -> State
+        requires { ⌜ TickReady n room first self ⌝ }
         ensures { λ r. ⌜ Ticked n room self r ⌝ }
     {
         let none = n as u32;
@@ -95,15 +108,15 @@ impl State {
         let mut preempted = self.preempted;
         let mut last = self.last;
         let mut rest = room;
+        let mut best = first.place;
+        let mut had = first.left;
         while 0 < rest {
-            let best = pick(&left, &due, n);
-            if n <= best {
+            if had == 0 {
                 idle += rest;
                 last = none;
                 break;
             }
             let b = best as u32;
-            let had = left[best];
             let ran = numbers::lesser(had, rest);
             let cut = preempts(last, b, none);
             left[best] = had - ran;
@@ -111,6 +124,11 @@ impl State {
             preempted += cut;
             last = unfinished(had, ran, b, none);
             rest -= ran;
+            if 0 < rest {
+                let next = pick(&left, &due, n);
+                best = next.place;
+                had = next.left;
+            }
         }
         State {
             left,
@@ -151,7 +169,8 @@ pub fn run(p: &[u32; 32], c: &[u32; 32], first: &[u32; 32], n: usize, end: u32) 
         if t == end {
             break 'ticks;
         }
-        s = s.tick(n, next - t);
+        let first_job = pick(&s.left, &s.due, n);
+        s = s.tick(n, next - t, first_job);
         t = next;
     }
     if 0 < late {

@@ -5,7 +5,8 @@ use mathlib.Core.Path.{_≡_, sym, _∙_}
 use mathlib.Core.Logic.{inl, inr, ⊎-elim}
 use native.Mathlib.Omega.{arith}
 use borrow.Author.Needs.{needs}
-use Rattle.ticks.specs.Arrays.{picked}
+use Rattle.ticks.specs.Arrays.{blank, picked}
+use Rattle.ticks.proofs.Jobs.{left-jobs, is-none}
 use Rattle.ticks.proofs.Scan.{scanned, scanned-first, scanned-end, scanned-take, scanned-pass}
 use Rattle.ticks.proofs.pick.Statement.{statement}
 use Rattle.ticks.proofs.pick.Tie as tie
@@ -51,8 +52,29 @@ loop-again c =
     y)
     (c .if1 .came)
 
-returns : tie.Need-returns Inv-loop μ-loop
-returns c = sym (scanned-end _ _ _ _ _ _ (omega arith) (c .before .loop .inv .1))
+-- The scan is over: the best of it is the pick.
+place : (c : tie.After-loop Inv-loop μ-loop) → let q = c .before in let a = q .before .args in
+    q .loop .best ≡ picked (a .left .now) (a .due .now) (a .n)
+place c = sym (scanned-end _ _ _ _ _ _ (omega (arith, c .before .loop .inv .0, c .loop-test .left)) (c .before .loop .inv .1))
+
+mul-t17 : tie.Need-mul-t17 Inv-loop μ-loop
+mul-t17 c = search needs
+
+element-copy-out-t20 : tie.Need-element-copy-out-t20 Inv-loop μ-loop
+element-copy-out-t20 c = search needs
+
+some : tie.Need-returns Inv-loop μ-loop
+some c =
+    let t = c .before in
+    let q = t .before .before in
+    let a = q .before .args in
+    record { place = place (t .before); left = sym (left-jobs blank (a .left .now) (a .due .now) (a .n) (q .loop .best) (t .if3 .taken)) }
+
+none : tie.Need-returns-2 Inv-loop μ-loop
+none c =
+    let q = c .before .before in
+    let a = q .before .args in
+    is-none (a .left .now) (a .due .now) (a .n) (omega (arith, place (c .before), c .if3 .left))
 
 pub pick-spec : {M : Type 1} → statement M
 pick-spec =
@@ -68,4 +90,7 @@ pick-spec =
     add-i
     loop-less
     loop-again
-    returns)
+    mul-t17
+    element-copy-out-t20
+    some
+    none)

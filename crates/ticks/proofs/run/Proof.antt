@@ -142,28 +142,36 @@ loop-again c =
     (λ w. rw (w .1) (turn-over v lt (part-pass lt (v .part) (w .0 .left)) (v .counts) (v .early) (λ j x. refl) (rw (w .1) at (c .lesser .ensures))))
     (c .before .before .if1 .came)
 
+pick-requires : tie.Need-pick-requires Inv-loop μ-loop Inv-ticks μ-ticks
+pick-requires c κs = c .before .before .before .before .before .loop .inv .early
+
+-- The way back from the first job of a stretch.
+abbrev stretch : tie.After-pick Inv-loop μ-loop Inv-ticks μ-ticks → tie.Else3 Inv-loop μ-loop Inv-ticks μ-ticks
+stretch p = p .before .before .before .before
+
 sub-tick : tie.Need-sub-tick Inv-loop μ-loop Inv-ticks μ-ticks
-sub-tick c = omega (arith, c .before .before .loop .inv .ahead (before-end c))
+sub-tick c = let e = stretch c in omega (arith, e .before .before .loop .inv .ahead (before-end e))
 
 tick-requires : tie.Need-tick-requires Inv-loop μ-loop Inv-ticks μ-ticks
 tick-requires c κs =
-    let l = c .before .before in
-    ticks-ready (l .loop .inv) (turns-over c) (before-end c) (omega (arith, start (tick l) .pre .ends))
+    let e = stretch c in
+    let l = e .before .before in
+    ticks-ready (l .loop .inv) (turns-over e) (before-end e) (omega (arith, start (tick l) .pre .ends)) (c .pick .ensures)
 
 ticks-less : tie.Need-ticks-less Inv-loop μ-loop Inv-ticks μ-ticks
 ticks-less c =
-    let e = c .before in
+    let e = stretch (c .before) in
     let v = e .before .before .loop .inv in
     omega (arith, before-end e, v .ahead (before-end e), v .within)
 
 ticks-again : tie.Need-ticks-again Inv-loop μ-loop Inv-ticks μ-ticks
 ticks-again c =
-    let e = c .before in
+    let e = stretch (c .before) in
     let l = e .before .before in
     next-tick (l .loop .inv) (turns-over e) (before-end e) (tick l .ticks .inv) (c .tick .ensures)
 
-cast-t41 : tie.Need-cast-t41 Inv-loop μ-loop Inv-ticks μ-ticks
-cast-t41 c = omega (arith, small (c .before .before))
+cast-t44 : tie.Need-cast-t44 Inv-loop μ-loop Inv-ticks μ-ticks
+cast-t44 c = omega (arith, small (c .before .before))
 
 missed-answer : tie.Need-returns Inv-loop μ-loop Inv-ticks μ-ticks
 missed-answer c =
@@ -201,14 +209,14 @@ at-end c =
     y)
     (c .before .ticks-test .came)
 
-cast-t43 : tie.Need-cast-t43 Inv-loop μ-loop Inv-ticks μ-ticks
-cast-t43 c = omega (arith, small (c .before .before), counted-fit (at-end c .counts) .busy)
+cast-t46 : tie.Need-cast-t46 Inv-loop μ-loop Inv-ticks μ-ticks
+cast-t46 c = omega (arith, small (c .before .before), counted-fit (at-end c .counts) .busy)
 
-cast-t45 : tie.Need-cast-t45 Inv-loop μ-loop Inv-ticks μ-ticks
-cast-t45 c = omega (arith, small (c .before .before), counted-fit (at-end c .counts) .idle)
+cast-t48 : tie.Need-cast-t48 Inv-loop μ-loop Inv-ticks μ-ticks
+cast-t48 c = omega (arith, small (c .before .before), counted-fit (at-end c .counts) .idle)
 
-cast-t47 : tie.Need-cast-t47 Inv-loop μ-loop Inv-ticks μ-ticks
-cast-t47 c = omega (arith, small (c .before .before), counted-fit (at-end c .counts) .preempted)
+cast-t50 : tie.Need-cast-t50 Inv-loop μ-loop Inv-ticks μ-ticks
+cast-t50 c = omega (arith, small (c .before .before), counted-fit (at-end c .counts) .preempted)
 
 kept-answer : tie.Need-returns-2 Inv-loop μ-loop Inv-ticks μ-ticks
 kept-answer c =
@@ -250,13 +258,14 @@ run-spec =
     add-i
     loop-less
     loop-again
+    pick-requires
     sub-tick
     tick-requires
     ticks-less
     ticks-again
-    cast-t41
+    cast-t44
     missed-answer
-    cast-t43
-    cast-t45
-    cast-t47
+    cast-t46
+    cast-t48
+    cast-t50
     kept-answer)
