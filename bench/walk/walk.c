@@ -1,13 +1,14 @@
-/* The walk in plain C, as the measure for the archive's walk: for each tick a
-   loop that tests and releases and a loop that finds the job to run, and no
-   checks of any kind. It is given periods, job times and the hyper-period. */
+/* The walk in plain C, tick by tick, as a measure for the archive's walk: for
+   each tick a loop that tests and releases and a loop that finds the job to run,
+   and no checks of any kind. It is given periods, job times, first releases and
+   the last tick. */
 
 #include <stdint.h>
 
 #define MOST_TASKS 32
 
 void plain_walk(uint32_t tasks, const uint32_t *period, const uint32_t *time,
-                uint32_t span, uint64_t results[4]);
+                const uint32_t *first, uint32_t end, uint64_t results[4]);
 
 /* The last result tells nothing of a miss: it is 0, as in the archive's call. */
 static void missed(uint64_t results[4], uint32_t tick, uint32_t task)
@@ -19,11 +20,11 @@ static void missed(uint64_t results[4], uint32_t tick, uint32_t task)
 }
 
 void plain_walk(uint32_t tasks, const uint32_t *period, const uint32_t *time,
-                uint32_t span, uint64_t results[4])
+                const uint32_t *first, uint32_t end, uint64_t results[4])
 {
     uint32_t left[MOST_TASKS];
     /* A job's deadline is the tick of its task's next release, so this one list
-       says both and no tick needs a division. 0: all are released at tick 0. */
+       says both and no tick needs a division. It begins with the first releases. */
     uint32_t deadline[MOST_TASKS];
     uint32_t before = 0;        /* the task of the tick before */
     uint32_t before_left = 0;   /* what its job had left then; 0 after an idle tick */
@@ -31,9 +32,9 @@ void plain_walk(uint32_t tasks, const uint32_t *period, const uint32_t *time,
 
     for (uint32_t i = 0; i < tasks; i++) {
         left[i] = 0;
-        deadline[i] = 0;
+        deadline[i] = first[i];
     }
-    for (uint32_t tick = 0; tick < span; tick++) {
+    for (uint32_t tick = 0; tick < end; tick++) {
         for (uint32_t i = 0; i < tasks; i++) {
             if (deadline[i] == tick) {
                 if (left[i] != 0) {
@@ -67,10 +68,11 @@ void plain_walk(uint32_t tasks, const uint32_t *period, const uint32_t *time,
             before_left = left[running];
         }
     }
-    /* At the hyper-period every task is due, and nothing is released. */
+    /* At the last tick those are held to their deadlines that have one there, and
+       nothing is run any more. */
     for (uint32_t i = 0; i < tasks; i++) {
-        if (left[i] != 0) {
-            missed(results, span, i + 1);
+        if (deadline[i] == end && left[i] != 0) {
+            missed(results, end, i + 1);
             return;
         }
     }
