@@ -58,6 +58,14 @@ sooner-some d D (j ∷ js) h lt =
     (λ a. omega (arith, sooner-some d D js a lt))
     (or-true (ltb 0 (j .left) && ltb (j .due) d) (sooner d js) h)
 
+pub sooner-left : (d : ℕ) (js : List Job) → sooner d js ≡ true → 0 < sum leftOf js
+sooner-left d [] h = absurd (true≢false (sym h))
+sooner-left d (j ∷ js) h =
+    ⊎-elim
+    (λ a. let x = ltb-true 0 (j .left) (and-true (ltb 0 (j .left)) (ltb (j .due) d) a .0) in omega arith)
+    (λ a. omega (arith, sooner-left d js a))
+    (or-true (ltb 0 (j .left) && ltb (j .due) d) (sooner d js) h)
+
 -- The pick at the first job of a list: it runs, or the pick is among the others.
 pub run-cases : (j : Job) (js : List Job) →
     ((pick (j ∷ js) ≡ zero) × (0 < j .left) × (sooner (j .due) js ≡ false)) ⊎

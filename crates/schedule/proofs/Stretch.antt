@@ -2,7 +2,7 @@
 -- tick until it is finished; the stretch is busy while a job runs and idle after; and a job is cut short at the first
 -- tick or not at all. This holds of all release streams, periodic or not.
 -- Assumes nothing.
-use Prim.Native.Nat.{ℕ, zero, suc, pred, _+_, _-_, _≤_, _<_}
+use Prim.Native.Nat.{ℕ, zero, suc, pred, _+_, _-_, _≤_, _<_, min}
 use mathlib.Core.Path.{_≡_, refl, sym, ap, _∙_}
 use mathlib.Core.Bool.{Bool, true, false, cond, not, _&&_, _||_, and-true, and-false}
 use mathlib.Core.List.{List, [], _∷_, map}
@@ -14,10 +14,10 @@ use lib.ListN.{length}
 use borrow.Author.Tests.{ltb-true, ltb-false, lt-ltb, le-ltb, eq-eqb, ne-eqb}
 use Rattle.numbers.specs.Numbers.{All, over}
 use Rattle.numbers.proofs.Tests.{bool-cases}
-use Rattle.numbers.proofs.Sums.{over-end}
+use Rattle.numbers.proofs.Sums.{sum, over-end}
 use Rattle.schedule.specs.Walk.{Task, Job, released, release, sooner, pick, work, run, before, late, misses}
 use Rattle.schedule.specs.Counted.{ran, count, busyAt, idleAt, leftAt, preemptedAt, walkFrom}
-use Rattle.schedule.proofs.Picked.{run-cases}
+use Rattle.schedule.proofs.Picked.{leftOf, run-cases, run-left, sooner-left}
 use Rattle.schedule.proofs.State.{before-all, length-before, length-released}
 use Rattle.schedule.proofs.Done.{busy-or-idle}
 
@@ -213,6 +213,61 @@ ticks-idle g zero h = ticked-idle g h
 ticks-idle g (suc v) h =
     ticks-end (suc v) g ∙ ap ticked (ticks-idle g v h) ∙ ticked-idle (idledFor (suc v) g) h ∙ same-going refl refl (omega arith) refl refl
 
+-- ---- a whole stretch
+-- Where no job is picked, none has ticks left.
+idle-none : (js : List Job) → length js ≤ pick js → sum leftOf js ≡ 0
+idle-none [] h = refl
+idle-none (j ∷ js) h =
+    ⊎-elim
+    (λ w. absurd (omega (arith, w .0)))
+    (λ w.
+    let z = idle-none js (omega (arith, w .0)) in
+    ⊎-elim (λ a. omega arith) (λ a. absurd (omega (arith, sooner-left (j .due) js a))) (w .1))
+    (run-cases j js)
+
+-- One tick is busy if and only if work is left, and takes a tick of it.
+one-busy : (js : List Job) →
+    (count (ltb (pick js) (length js)) ≡ min 1 (sum leftOf js)) × (sum leftOf (run js) ≡ sum leftOf js - 1) ×
+    (count (not (ltb (pick js) (length js))) ≡ 1 - sum leftOf js)
+one-busy js =
+    let r = run-left js in
+    ⊎-elim
+    (λ e. let q = rw e at r in rw e (omega (arith, q), omega (arith, q), omega (arith, q)))
+    (λ e.
+    let q = rw e at r in
+    let z = idle-none js (ltb-false (pick js) (length js) e) in
+    rw e (omega (arith, z), omega (arith, q, z), omega (arith, z)))
+    (bool-cases (ltb (pick js) (length js)))
+
+-- It is busy while work is left, and idle after.
+pub ticks-work : (m : ℕ) (g : Going) →
+    (ticks m g .busy ≡ g .busy + min m (sum leftOf (g .jobs))) × (ticks m g .idle ≡ g .idle + (m - sum leftOf (g .jobs)))
+ticks-work zero g = (omega arith, omega arith)
+ticks-work (suc m) g =
+    let o = one-busy (g .jobs) in
+    let r = ticks-work m (ticked g) in
+    (omega (arith, o, r), omega (arith, o, r))
+
+-- A tick after another, with no release between them, cuts no job short: the one that ran runs on, or is finished.
+no-cut : (g : Going) → cuts (length (ticked g .jobs)) (pick (ticked g .jobs)) (ticked g .last) ≡ 0
+no-cut g =
+    let js = g .jobs in
+    let b = pick js in
+    let one = work-one js b in
+    let l = left-work 1 js b in
+    cuts-none (length (run js)) (pick (run js)) (stays (length js) (run js) b)
+    (⊎-elim
+    (λ e.
+    let h = ltb-true 0 (leftAt (run js) b) e in
+    inr (inr (rw (e, one) (pick-stands 1 js b (omega (arith, h, rw (← one) at l))))))
+    (λ (e : ltb 0 (leftAt (run js) b) ≡ false). inr (inl (rw e (omega (arith, ap length one, length-work 1 js b)))))
+    (bool-cases (ltb 0 (leftAt (run js) b))))
+
+-- So one job at most is cut short, at the first tick.
+pub ticks-cut : (m : ℕ) (g : Going) → ticks (suc m) g .preempted ≡ g .preempted + cuts (length (g .jobs)) (pick (g .jobs)) (g .last)
+ticks-cut zero g = refl
+ticks-cut (suc m) g = omega (arith, ticks-cut m (ticked g), no-cut g)
+
 -- ---- the walk's own ticks
 -- The place of the job of the tick before t where it is unfinished, else the number of tasks.
 abbrev pub pending : List Task → ℕ → ℕ
@@ -245,7 +300,8 @@ preempted-is ks (suc t) =
 over-more : (f : ℕ → ℕ) (t : ℕ) → over f 0 t + f t ≡ over f 0 (suc t)
 over-more f t = sym (over-end f 0 t ∙ ap (λ (x : ℕ). over f 0 t + f x) (zero-add t))
 
-one-tick : (ks : List Task) (t : ℕ) → ticked (goingAt ks t (map (release t) (before ks t))) ≡ goingAt ks (suc t) (before ks (suc t))
+-- One tick is the definition's.
+pub one-tick : (ks : List Task) (t : ℕ) → ticked (goingAt ks t (map (release t) (before ks t))) ≡ goingAt ks (suc t) (before ks (suc t))
 one-tick ks t =
     rw (length-released ks t)
     (same-going refl (over-more (busyAt ks) t) (over-more (idleAt ks) t)
@@ -277,6 +333,26 @@ stretch ks t (suc m) q =
     ap (ticks (suc m)) (one-tick ks t ∙ ap (goingAt ks (suc t)) (sym here)) ∙
     stretch ks (suc t) m (λ u a b. q u (omega arith) (omega arith)) ∙
     ap (λ (x : ℕ). goingAt ks x (before ks x)) e
+
+-- Its counts: it is busy as long as the work lasts that is left after the releases of tick t, and idle after; and its
+-- preemptions are those of its first tick, one at most.
+pub record StretchCounts (ks : List Task) (t m work : ℕ) : Type 0 where
+  pub busy : over (busyAt ks) 0 (t + suc m) ≡ over (busyAt ks) 0 t + min (suc m) work
+  pub idle : over (idleAt ks) 0 (t + suc m) ≡ over (idleAt ks) 0 t + (suc m - work)
+  pub preempted : over (preemptedAt ks) 0 (t + suc m) ≡ over (preemptedAt ks) 0 t + preemptedAt ks t
+
+pub stretch-counts : (ks : List Task) (t m : ℕ) → ((u : ℕ) → t < u → u < t + suc m → Quiet ks u) →
+    StretchCounts ks t m (sum leftOf (map (release t) (before ks t)))
+stretch-counts ks t m q =
+    let g = goingAt ks t (map (release t) (before ks t)) in
+    let e = sym (stretch ks t m q) in
+    let w = ticks-work (suc m) g in
+    record {
+      busy = ap (λ (h : Going). h .busy) e ∙ w .0;
+      idle = ap (λ (h : Going). h .idle) e ∙ w .1;
+      preempted = ap (λ (h : Going). h .preempted) e ∙ ticks-cut m g ∙
+          ap (λ (x : ℕ). over (preemptedAt ks) 0 t + x) (rw (length-released ks t) (sym (preempted-is ks t)));
+    }
 
 -- Nothing is missed in it, so the walk goes on at its end.
 pub walk-on : (ks : List Task) (t m r : ℕ) → misses ks t ≡ false → ((u : ℕ) → t < u → u < t + suc m → Quiet ks u) →

@@ -8,11 +8,15 @@ use lib.Dec.{ltb}
 use lib.ListN.{length, set}
 use Rattle.schedule.specs.Walk.{Task, pick}
 use Rattle.schedule.specs.Counted.{leftAt}
-use Rattle.schedule.proofs.Stretch.{Going, cuts, cuts-few, ticks, ticks-join, ranFor, ticks-busy, idledFor, ticks-idle}
+use Rattle.schedule.proofs.Stretch.{Going, cuts, cuts-few, ticked, ticks, ticks-join, ranFor, ticks-busy, idledFor, ticks-idle}
 use Rattle.ticks.specs.Arrays.{jobsFrom, IsPick, going, Early, TickReady, Ticked}
 use Rattle.ticks.specs.declared.Picked.{Picked}
 use Rattle.ticks.specs.declared.State.{State}
 use Rattle.ticks.proofs.Jobs.{picked-is, pick-some, pick-none, length-jobs, left-jobs, jobs-work, early-left}
+
+-- With a bound of 1 it is one tick.
+pub ticked-once : {n : ℕ} {s r : State} → Ticked n 1 s r → (k : ℕ → Task) → going k n r ≡ ticked (going k n s)
+ticked-once v k = v .goes k
 
 -- With `rest` ticks to go: what is left of the stretch is the whole stretch, and `job` runs next.
 pub record InStretch (n room rest : ℕ) (job : Picked) (s now : State) : Type 0 where
