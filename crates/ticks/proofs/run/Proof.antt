@@ -134,12 +134,19 @@ loop-again c =
     let i = l .loop .i in
     let lt = c .before .before .before .before .loop-test .taken in
     ⊎-elim
-    (λ w. rw (w .5) (turn-over v lt
+    (λ released.
+    let due-now = released .0 .taken in
+    let none-left = released .2 .left in
+    let state-is = released .5 in
+    rw state-is (turn-over v lt
     (part-take lt (v .part) (omega (arith, v .early)) (omega (arith, v .early)) (steady (start (tick l) .pre) i lt)
-    (w .0 .taken) (omega (arith, w .2 .left)))
+    due-now (omega (arith, none-left)))
     (counted-on (v .counts) _ _) (early-set _ _ _ i _ _ (omega (arith, v .early)) (deadline l lt) (v .early))
-    (λ j x. getD-set-other (l .loop .s .due) i j _ 0 (λ e. absurd (omega arith))) (rw (w .5) at (c .lesser .ensures))))
-    (λ w. rw (w .1) (turn-over v lt (part-pass lt (v .part) (w .0 .left)) (v .counts) (v .early) (λ j x. refl) (rw (w .1) at (c .lesser .ensures))))
+    (λ j x. getD-set-other (l .loop .s .due) i j _ 0 (λ e. absurd (omega arith))) (rw state-is at (c .lesser .ensures))))
+    (λ passed.
+    let not-due = passed .0 .left in
+    let state-is = passed .1 in
+    rw state-is (turn-over v lt (part-pass lt (v .part) not-due) (v .counts) (v .early) (λ j x. refl) (rw state-is at (c .lesser .ensures))))
     (c .before .before .if1 .came)
 
 pick-requires : tie.Need-pick-requires Inv-loop μ-loop Inv-ticks μ-ticks
@@ -178,14 +185,17 @@ missed-answer c =
     let q = c .before .before in
     let v = q .ticks .inv in
     ⊎-elim
-    (λ w. absurd (omega (arith, v .on-time)))
+    (λ past-end. absurd (omega (arith, v .on-time)))
     (λ y. ⊎-elim
-    (λ w.
-    let i = w .1 .i in
-    let m = part-miss (w .2 .taken) (w .1 .inv .part) (steady (start q .pre) i (w .2 .taken)) (w .4 .taken) (w .6 .taken) in
-    sym (v .rest) ∙ walkFrom-miss _ (q .ticks .t) (start q .args .end - q .ticks .t) (m .0) ∙ ap (missed (q .ticks .t))
-    (m .1 ∙ sym (w .8)))
-    (λ w. absurd (omega (arith, w .1 .inv .on-time)))
+    (λ late.
+    let at = late .1 in
+    let in-turn = late .2 .taken in
+    let due-now = late .4 .taken in
+    let work-left = late .6 .taken in
+    let number-is = late .8 in
+    let m = part-miss in-turn (at .inv .part) (steady (start q .pre) (at .i) in-turn) due-now work-left in
+    sym (v .rest) ∙ walkFrom-miss _ (q .ticks .t) (start q .args .end - q .ticks .t) (m .0) ∙ ap (missed (q .ticks .t)) (m .1 ∙ sym number-is))
+    (λ at-end. absurd (omega (arith, at-end .1 .inv .on-time)))
     y)
     (c .before .ticks-test .came)
 
@@ -200,12 +210,15 @@ at-end : (c : tie.Else4 Inv-loop μ-loop Inv-ticks μ-ticks) → let q = c .befo
 at-end c =
     let q = c .before .before in
     ⊎-elim
-    (λ w. absurd (omega (arith, q .ticks .inv .reached, w .0 .left)))
+    (λ past-end. let past = past-end .0 .left in absurd (omega (arith, q .ticks .inv .reached, past)))
     (λ y. ⊎-elim
-    (λ w. absurd (omega (arith, w .8, c .if4 .left)))
-    (λ w.
-    let v = w .1 .inv in
-    rw (w .4) (record { here = w .3 .taken; on-time = part-end (omega (arith, v .inside, w .2 .left)) (v .part) .on-time; counts = v .counts }))
+    (λ late. let number-is = late .8 in absurd (omega (arith, number-is, c .if4 .left)))
+    (λ ended.
+    let v = ended .1 .inv in
+    let all-turns = ended .2 .left in
+    let here = ended .3 .taken in
+    let state-is = ended .4 in
+    rw state-is (record { here = here; on-time = part-end (omega (arith, v .inside, all-turns)) (v .part) .on-time; counts = v .counts }))
     y)
     (c .before .ticks-test .came)
 
