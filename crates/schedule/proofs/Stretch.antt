@@ -2,13 +2,13 @@
 -- tick until it is finished; the stretch is busy while a job runs and idle after; and a job is cut short at the first
 -- tick or not at all. This holds of all release streams, periodic or not.
 -- Assumes nothing.
-use Prim.Native.Nat.{ℕ, zero, suc, pred, _+_, _-_, _≤_, _<_, min}
+use Prim.Native.Nat.{ℕ, zero, suc, _+_, _-_, _≤_, _<_, min}
 use mathlib.Core.Path.{_≡_, refl, sym, ap, _∙_}
 use mathlib.Core.Bool.{Bool, true, false, cond, not, _&&_, _||_, and-true, and-false}
 use mathlib.Core.List.{List, [], _∷_, map}
 use mathlib.Core.Logic.{_⊎_, inl, inr, ⊎-elim}
 use native.Mathlib.Omega.{arith}
-use native.Mathlib.Nat.{zero-add, add-zero, add-suc, suc-add}
+use native.Mathlib.Nat.{zero-add, add-zero, suc-add}
 use lib.Dec.{ltb, eqb}
 use lib.ListN.{length}
 use borrow.Author.Tests.{ltb-true, ltb-false, lt-ltb, le-ltb, eq-eqb, ne-eqb}
@@ -90,7 +90,7 @@ pub record Going : Type 0 where
   pub preempted : ℕ
   pub last : ℕ
 
-same-going : {js js′ : List Job} {b b′ i i′ p p′ l l′ : ℕ} → js ≡ js′ → b ≡ b′ → i ≡ i′ → p ≡ p′ → l ≡ l′ →
+pub same-going : {js js′ : List Job} {b b′ i i′ p p′ l l′ : ℕ} → js ≡ js′ → b ≡ b′ → i ≡ i′ → p ≡ p′ → l ≡ l′ →
     _≡_ {A = Going} (record { jobs = js; busy = b; idle = i; preempted = p; last = l }) (record { jobs = js′; busy = b′; idle = i′; preempted = p′; last = l′ })
 same-going e f g h k = rw (e, f, g, h, k) refl
 
@@ -125,18 +125,14 @@ ticks-end : (m : ℕ) (g : Going) → ticks (suc m) g ≡ ticked (ticks m g)
 ticks-end zero g = refl
 ticks-end (suc m) g = ticks-end m (ticked g)
 
--- ---- cuts, case by case
-pub cuts-one : (n b last : ℕ) → b < n → last < n → (b ≡ last → ⊥) → cuts n b last ≡ 1
-unfolding cuts
-cuts-one n b last p q r = rw (lt-ltb b n p, lt-ltb last n q, ne-eqb b last r) refl
-
+-- ---- where no job is cut short, and that one at most is
 pub cuts-none : (n b last : ℕ) → (n ≤ b) ⊎ ((n ≤ last) ⊎ (b ≡ last)) → cuts n b last ≡ 0
 unfolding cuts
 cuts-none n b last (inl h) = rw (le-ltb b n h) refl
 cuts-none n b last (inr (inl h)) = rw (le-ltb last n h, and-false (ltb b n)) refl
 cuts-none n b last (inr (inr h)) = rw (eq-eqb b last h, and-false (ltb last n), and-false (ltb b n)) refl
 
-count-few : (b : Bool) → count b ≤ 1
+pub count-few : (b : Bool) → count b ≤ 1
 count-few true = omega arith
 count-few false = omega arith
 
@@ -155,7 +151,7 @@ ranFor v b g = record {
   last = cond (ltb v (leftAt (g .jobs) b)) b (length (g .jobs));
 }
 
-more-left : (v l : ℕ) → ltb 0 (l - v) ≡ ltb v l
+pub more-left : (v l : ℕ) → ltb 0 (l - v) ≡ ltb v l
 more-left v l =
     ⊎-elim
     (λ e. let h = ltb-true v l e in rw e (lt-ltb 0 (l - v) (omega arith)))
@@ -268,6 +264,21 @@ pub ticks-cut : (m : ℕ) (g : Going) → ticks (suc m) g .preempted ≡ g .pree
 ticks-cut zero g = refl
 ticks-cut (suc m) g = omega (arith, ticks-cut m (ticked g), no-cut g)
 
+-- No count passes the number of ticks.
+pub record Fits (t : ℕ) (g : Going) : Type 0 where
+  pub busy : g .busy ≤ t
+  pub idle : g .idle ≤ t
+  pub preempted : g .preempted ≤ t
+
+pub ticks-fit : (m t : ℕ) (g : Going) → Fits t g → Fits (t + m) (ticks m g)
+ticks-fit m t g f =
+    let w = ticks-work m g in
+    record { busy = omega (arith, w, f .busy); idle = omega (arith, w, f .idle); preempted = preempted-fit m t g (f .preempted) }
+  where
+    preempted-fit : (m t : ℕ) (g : Going) → g .preempted ≤ t → ticks m g .preempted ≤ t + m
+    preempted-fit zero t g h = omega arith
+    preempted-fit (suc m) t g h = omega (arith, ticks-cut m g, cuts-few (length (g .jobs)) (pick (g .jobs)) (g .last))
+
 -- ---- the walk's own ticks
 -- The place of the job of the tick before t where it is unfinished, else the number of tasks.
 abbrev pub pending : List Task → ℕ → ℕ
@@ -285,7 +296,7 @@ goingAt ks t js = record {
 }
 
 -- The definition's preemption, by what is pending.
-cut-cases : (n a b : ℕ) (z : Bool) → (z ≡ true → b < n) → count (ltb a n && (not (eqb a b) && z)) ≡ cuts n a (cond z b n)
+pub cut-cases : (n a b : ℕ) (z : Bool) → (z ≡ true → b < n) → count (ltb a n && (not (eqb a b) && z)) ≡ cuts n a (cond z b n)
 unfolding cuts
 cut-cases n a b true h = rw (lt-ltb b n (h refl), and-true (not (eqb a b))) refl
 cut-cases n a b false h = rw (le-ltb n n (omega arith), and-false (not (eqb a b))) refl
@@ -369,11 +380,6 @@ preempted-few : (ks : List Task) (t n : ℕ) → over (preemptedAt ks) t n ≤ n
 preempted-few ks t zero = omega arith
 preempted-few ks t (suc n) =
     omega (arith, preempted-is ks t, cuts-few (length ks) (ran ks t) (pending ks t), preempted-few ks (suc t) n)
-
-pub record Fits (t : ℕ) (g : Going) : Type 0 where
-  pub busy : g .busy ≤ t
-  pub idle : g .idle ≤ t
-  pub preempted : g .preempted ≤ t
 
 pub counts-fit : (ks : List Task) (t : ℕ) (js : List Job) → Fits t (goingAt ks t js)
 counts-fit ks t js = record {

@@ -2,7 +2,7 @@
 -- Assumes nothing.
 use Prim.Native.Nat.{ℕ, zero, suc, _+_, _-_, _≤_, _<_}
 use mathlib.Core.Path.{_≡_, refl, sym, ap, _∙_}
-use mathlib.Core.List.{List, [], _∷_}
+use mathlib.Core.List.{List}
 use mathlib.Core.Logic.{⊎-elim}
 use native.Mathlib.Omega.{arith}
 use native.Mathlib.Nat.{add-zero, zero-add}
@@ -12,7 +12,7 @@ use lib.Seq.{getD-set-same, getD-set-other}
 use borrow.Author.Tests.{eqb-true, eqb-false}
 use Rattle.numbers.specs.Numbers.{All}
 use Rattle.numbers.proofs.Tests.{bool-cases, lt-or-le}
-use Rattle.schedule.specs.Walk.{Task, tasksFrom, Job, sooner, pick}
+use Rattle.schedule.specs.Walk.{Task, tasksFrom, sooner, pick}
 use Rattle.schedule.specs.Counted.{leftAt}
 use Rattle.schedule.proofs.Stretch.{workFor, left-past, pick-most, pick-left, in-list}
 use Rattle.ticks.specs.Arrays.{jobsFrom, blank, picked, IsPick, Early}
@@ -112,9 +112,6 @@ is-none l d n h = record {
 }
 
 -- ---- the arrays stay early
-pub early-left : (n : ℕ) (l d : List ℕ) (i v : ℕ) → Early n l d → Early n (set l i v) d
-early-left n l d i v s = record { few = s .few; lefts = length-set l i v ∙ s .lefts; dues = s .dues; low = s .low }
-
 pub early-set : (n : ℕ) (l d : List ℕ) (i v w : ℕ) → i < 32 → w < 4294967295 → Early n l d
     → Early n (set l i v) (set d i w)
 early-set n l d i v w h q s = record {

@@ -11,10 +11,10 @@ use Rattle.numbers.proofs.Tests.{below-more}
 use Rattle.schedule.specs.Walk.{Task, tasksFrom}
 use Rattle.schedule.specs.Counted.{walkFrom}
 use Rattle.schedule.proofs.Stretch.{walk-on}
-use Rattle.ticks.specs.Arrays.{taskAt, IsPick, Early, Begun, TickReady, Ticked, RunReady}
-use Rattle.ticks.specs.declared.Picked.{Picked}
+use Rattle.ticks.specs.Arrays.{taskAt, Early, Begun, RunReady}
 use Rattle.ticks.specs.declared.State.{State}
-use Rattle.ticks.proofs.Releases.{Steady, Counted, counted-on, counted-fit, Held, held-start, held-next, Gap, gap-is, gap-quiet, Part, part-start, part-end, offset-start, offset-steady}
+use Rattle.ticks.proofs.Stretches.{InStretch, stretch-start, stretch-over}
+use Rattle.ticks.proofs.Releases.{Steady, Counted, counted-fit, Held, held-start, held-next, Gap, gap-is, gap-quiet, Part, part-start, part-end, offset-start, offset-steady}
 
 -- Before tick t: what is left of the walk is the whole walk.
 pub record AtTick (k : ℕ → Task) (n end t late : ℕ) (s : State) : Type 0 where
@@ -84,37 +84,27 @@ turn-over {i = i} v h part counts early same e = record {
   least = rw (add-one i) (below-more (λ j y. omega (arith, v .least j y, same j y)) (omega arith));
 }
 
--- All turns are over before the end: the ticks up to `next` can be made, and then the walk stands there.
+-- All turns are over before the end: the stretch up to `next` begins, and at its end the walk stands there.
 module _ {k : ℕ → Task} {n end t i late next : ℕ} {s : State} (v : AtTask k n end t i late next s) (all : i ≡ n) (before : t < end) where
   gap : Gap n t next (s .due)
   gap = record { some = v .ahead before; least = λ j x. v .least j (omega arith) }
 
-  pub ticks-ready : {first : Picked} → end < 4294967295 → IsPick (s .left) (s .due) n first → TickReady n (next - t) first s
-  ticks-ready h first =
-      let f = counted-fit (v .counts) in record {
-        picks = first;
-        early = v .early;
-        busy-room = omega (arith, f .busy, gap .some, v .within);
-        idle-room = omega (arith, f .idle, gap .some, v .within);
-        preempted-room = omega (arith, f .preempted, gap .some, v .within);
-      }
+  pub stretch-comes : InStretch n t next t s s
+  stretch-comes = stretch-start (omega (arith, gap .some)) (v .early) (v .counts .inside) (counted-fit (v .counts))
 
-  pub next-tick : {late₀ : ℕ} {s₀ r : State} → AtTick k n end t late₀ s₀ → Ticked n (next - t) s r → AtTick k n end next late r
-  next-tick u r =
+  pub next-tick : {late₀ t′ : ℕ} {s₀ r : State} → AtTick k n end t late₀ s₀ → InStretch n t next t′ s r → next ≤ t′ → AtTick k n end t′ late r
+  next-tick {t′ = t′} {r = r} u w over =
       let ks = tasksFrom k 0 n in
       let a = part-end all (v .part) in
-      let z : end - t ≡ suc (next - suc t) + (end - next) = omega (arith, gap .some, v .within) in record {
+      let there : next ≡ t′ = omega (arith, w .within) in
+      let z : end - t ≡ suc (next - suc t) + (end - next) = omega (arith, gap .some, v .within) in
+      rw (← there) (record {
         reached = v .within;
         on-time = v .on-time;
-        held = held-next a (v .counts) gap r;
-        early = record {
-          few = v .early .few;
-          lefts = r .size ∙ v .early .lefts;
-          dues = rw (r .due) (v .early .dues);
-          low = rw (r .due) (v .early .low);
-        };
+        held = held-next a (v .counts) gap (stretch-over w over k) (w .due) (w .inside);
+        early = w .early;
         rest =
             ap (λ (x : ℕ). walkFrom ks x (end - next)) (sym (gap-is a gap)) ∙
             sym (walk-on ks t (next - suc t) (end - next) (a .on-time) (gap-quiet a gap)) ∙
             ap (walkFrom ks t) (sym z) ∙ u .rest;
-      }
+      })

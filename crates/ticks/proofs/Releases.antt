@@ -1,7 +1,7 @@
 -- The walk by arrays: releases one task at a time, then the ticks up to the next release; what the arrays and the counts
 -- hold before each tick with a release.
 -- Assumes nothing.
-use Prim.Native.Nat.{ℕ, zero, suc, pred, _+_, _-_, _%_, _≤_, _<_}
+use Prim.Native.Nat.{ℕ, zero, suc, _+_, _-_, _%_, _≤_, _<_}
 use mathlib.Core.Path.{_≡_, refl, sym, ap, _∙_, subst, fun-ext}
 use mathlib.Core.Bool.{Bool, true, false, cond, _&&_, and-false}
 use mathlib.Core.List.{List, [], _∷_, _++_, map, append-assoc, append-nil}
@@ -10,9 +10,9 @@ use native.Mathlib.Omega.{arith}
 use native.Mathlib.Nat.{eq-or-lt-of-le, add-zero, zero-add, sub-zero, sub-self, zero-mod, add-mod-right}
 use native.Mathlib.Numerals.{add-one}
 use lib.Dec.{ltb, leb, eqb}
-use lib.ListN.{length, getD, set, replicate, getD-replicate}
+use lib.ListN.{length, getD, set, getD-replicate}
 use lib.Seq.{getD-set-same, getD-set-other}
-use borrow.Author.Tests.{lt-ltb, le-ltb, le-leb, lt-leb, leb-true, eq-eqb, ne-eqb, eqb-true}
+use borrow.Author.Tests.{lt-ltb, le-ltb, le-leb, lt-leb, leb-true, ne-eqb, eqb-true}
 use Rattle.numbers.specs.Numbers.{over}
 use Rattle.numbers.proofs.Tests.{bool-cases, below-more, and-true}
 use Rattle.schedule.specs.Walk.{Task, tasksFrom, Job, fresh, released, release, before, late, misses, periodic}
@@ -20,7 +20,7 @@ use Rattle.schedule.specs.Counted.{missed, kept, busyAt, idleAt, preemptedAt, l
 use Rattle.schedule.proofs.Periodic.{multiples-apart}
 use Rattle.schedule.proofs.Stretch.{Going, ticks, pending, goingAt, Quiet, stretch, Fits, counts-fit}
 use Rattle.schedule.proofs.Alike.{AllAlike, AlikeGoing, late-alike, release-alike, ticks-alike}
-use Rattle.ticks.specs.Arrays.{jobsFrom, going, offset, Begun, Ticked}
+use Rattle.ticks.specs.Arrays.{jobsFrom, blank, going, Inside, offset, Begun}
 use Rattle.ticks.specs.declared.State.{State}
 use Rattle.ticks.proofs.Jobs.{jobs-same, length-tasks, all-tasks}
 
@@ -84,19 +84,28 @@ pub record Counted (k : ℕ → Task) (n t : ℕ) (s : State) : Type 0 where
   pub busy : s .busy ≡ over (busyAt (tasksFrom k 0 n)) 0 t
   pub idle : s .idle ≡ over (idleAt (tasksFrom k 0 n)) 0 t
   pub preempted : s .preempted ≡ over (preemptedAt (tasksFrom k 0 n)) 0 t
-  pub last : s .last ≡ pending (tasksFrom k 0 n) t
+  pub last : going k n s .last ≡ pending (tasksFrom k 0 n) t
+  pub inside : Inside n s
 
 module _ {k : ℕ → Task} {n t : ℕ} {s : State} (c : Counted k n t s) where
   -- no count passes its tick
-  pub counted-fit : Fits t (going k n s)
+  pub counted-fit : Fits t (going blank n s)
   counted-fit =
       let f = counts-fit (tasksFrom k 0 n) t (before (tasksFrom k 0 n) t) in
       record { busy = omega (arith, c .busy, f .busy); idle = omega (arith, c .idle, f .idle); preempted = omega (arith, c .preempted, f .preempted) }
 
   -- the arrays may change
-  pub counted-on : (l d : List ℕ) →
-      Counted k n t (record { left = l; busy = s .busy; idle = s .idle; preempted = s .preempted; last = s .last; due = d })
-  counted-on l d = record { busy = c .busy; idle = c .idle; preempted = c .preempted; last = c .last }
+  pub counted-on : (l d : List ℕ) → Counted k n t (record {
+    left = l;
+    busy = s .busy;
+    idle = s .idle;
+    preempted = s .preempted;
+    rest = s .rest;
+    at = s .at;
+    made = s .made;
+    due = d;
+  })
+  counted-on l d = record { busy = c .busy; idle = c .idle; preempted = c .preempted; last = c .last; inside = c .inside }
 
 -- ---- before tick t: what the state holds
 pub record Held (k : ℕ → Task) (n t : ℕ) (s : State) : Type 0 where
@@ -215,8 +224,8 @@ module _ {k : ℕ → Task} {n t next : ℕ} {l d : List ℕ} (a : AfterReleases
       (λ j z. a .coming j (omega arith) .quiet u x (omega (arith, gap-is, g .least j (omega arith))))
 
 pub held-next : {k : ℕ → Task} {n t next : ℕ} {s r : State} → AfterReleases k n t (s .left) (s .due) → Counted k n t s →
-    Gap n t next (s .due) → Ticked n (next - t) s r → Held k n next r
-held-next {k} {n} {t} {next} {s} {r} a c g w =
+    Gap n t next (s .due) → going k n r ≡ ticks (next - t) (going k n s) → r .due ≡ s .due → Inside n r → Held k n next r
+held-next {k} {n} {t} {next} {s} {r} a c g goes due inside =
     let ks = tasksFrom k 0 n in
     let m = suc (next - suc t) in
     let z : next - t ≡ m = omega (arith, g .some) in
@@ -225,14 +234,14 @@ held-next {k} {n} {t} {next} {s} {r} a c g w =
     let to = ap (λ (x : ℕ). goingAt ks x (before ks x)) (gap-is a g) in
     let same : AlikeGoing (going k n r) (goingAt ks next (before ks next)) =
     subst (λ (h : Going). AlikeGoing (going k n r) h) (stretch ks t (next - suc t) (gap-quiet a g) ∙ to)
-    (subst (λ (h : Going). AlikeGoing h (ticks m (goingAt ks t (map (release t) (before ks t))))) (sym (w .goes k ∙ ap (λ (x : ℕ). ticks x (going k n s)) z))
+    (subst (λ (h : Going). AlikeGoing h (ticks m (goingAt ks t (map (release t) (before ks t))))) (sym (goes ∙ ap (λ (x : ℕ). ticks x (going k n s)) z))
     (ticks-alike m (going k n s) (goingAt ks t (map (release t) (before ks t))) from)) in
     record {
       jobs = same .jobs;
-      coming = rw (w .due) (λ j x.
+      coming = rw due (λ j x.
           let v = a .coming j x in
           record { reached = g .least j x; quiet = λ u y e. v .quiet u (omega (arith, g .some)) e; there = v .there });
-      counts = record { busy = same .busy; idle = same .idle; preempted = same .preempted; last = same .last };
+      counts = record { busy = same .busy; idle = same .idle; preempted = same .preempted; last = same .last; inside = inside };
     }
 
 -- ---- the whole walk, from tick t with m to go
@@ -258,7 +267,13 @@ pub held-start : {k : ℕ → Task} {n : ℕ} {first : List ℕ} {s : State} →
 held-start {k} {n} {first} {s} few start b = record {
   jobs = fresh-jobs k (s .left) (s .due) 0 n (λ j x. rw (b .left) (getD-replicate {A = ℕ} 32 j 0 0 (omega arith)));
   coming = rw (b .due) start;
-  counts = record { busy = b .busy; idle = b .idle; preempted = b .preempted; last = b .last ∙ sym (length-tasks k 0 n) };
+  counts = record {
+    busy = b .busy;
+    idle = b .idle;
+    preempted = b .preempted;
+    last = rw (b .rest) (sym (length-tasks k 0 n));
+    inside = λ h. absurd (omega (arith, b .rest));
+  };
 }
 
 -- ---- a task that releases a job every p ticks from a on

@@ -1,102 +1,145 @@
--- What the loop over a stretch of ticks holds, and how it goes on.
+-- The ticks of one call, and how the loop over a stretch goes on from one call to the next.
 -- Assumes nothing.
 use Prim.Native.Nat.{ℕ, suc, pred, _+_, _-_, _≤_, _<_, min}
-use mathlib.Core.Path.{_≡_, refl, sym, ap, _∙_}
-use mathlib.Core.Bool.{cond}
+use mathlib.Core.Path.{_≡_, refl, sym, ap, subst, _∙_}
+use mathlib.Core.Bool.{Bool, true, false, cond, not, _&&_}
 use native.Mathlib.Omega.{arith}
-use lib.Dec.{ltb}
-use lib.ListN.{length, set}
-use Rattle.schedule.specs.Walk.{Task, pick}
-use Rattle.schedule.specs.Counted.{leftAt}
-use Rattle.schedule.proofs.Stretch.{Going, cuts, cuts-few, ticked, ticks, ticks-join, ranFor, ticks-busy, idledFor, ticks-idle}
-use Rattle.ticks.specs.Arrays.{jobsFrom, IsPick, going, Early, TickReady, Ticked}
+use lib.Dec.{ltb, eqb}
+use lib.ListN.{length, set, length-set}
+use borrow.Author.Tests.{ltb-true, lt-ltb}
+use Rattle.schedule.specs.Walk.{Task}
+use Rattle.schedule.specs.Counted.{count}
+use Rattle.schedule.proofs.Stretch.{same-going, cuts, cut-cases, ticked, ticks, ticks-join, more-left, ranFor, ticks-busy, idledFor, ticks-idle, Fits, ticks-fit}
+use Rattle.ticks.specs.Arrays.{blank, IsPick, going, listed, Inside, Early, TickReady, Ticked}
 use Rattle.ticks.specs.declared.Picked.{Picked}
 use Rattle.ticks.specs.declared.State.{State}
-use Rattle.ticks.proofs.Jobs.{picked-is, pick-some, pick-none, length-jobs, left-jobs, jobs-work, early-left}
+use Rattle.ticks.proofs.Jobs.{picked-is, pick-some, pick-none, length-jobs, left-jobs, jobs-work}
 
+-- ---- one call
 -- With a bound of 1 it is one tick.
-pub ticked-once : {n : ℕ} {s r : State} → Ticked n 1 s r → (k : ℕ → Task) → going k n r ≡ ticked (going k n s)
-ticked-once v k = v .goes k
+pub ticked-once : {n : ℕ} {job : Picked} {s r : State} → Ticked n 1 job s r → (k : ℕ → Task) → going k n (listed job r) ≡ ticked (going k n s)
+ticked-once {n} {job} {s} {r} v k =
+    let e : r .made ≡ 1 = omega (arith, v .some, v .within) in
+    v .goes k ∙ ap (λ (x : ℕ). ticks x (going k n s)) e
 
--- With `rest` ticks to go: what is left of the stretch is the whole stretch, and `job` runs next.
-pub record InStretch (n room rest : ℕ) (job : Picked) (s now : State) : Type 0 where
-  pub goes : (k : ℕ → Task) → ticks rest (going k n now) ≡ ticks room (going k n s)
-  pub picks : 0 < rest → IsPick (now .left) (now .due) n job
-  pub early : Early n (now .left) (now .due)
-  pub busy-room : now .busy + rest < 4294967295
-  pub idle-room : now .idle + rest < 4294967295
-  pub preempted-room : now .preempted + rest < 4294967295
-
-pub stretch-start : {n room : ℕ} {first : Picked} {s : State} → TickReady n room first s → InStretch n room room first s s
-stretch-start v = record {
-  goes = λ k. refl;
-  picks = λ h. v .picks;
-  early = v .early;
-  busy-room = v .busy-room;
-  idle-room = v .idle-room;
-  preempted-room = v .preempted-room;
-}
-
-module _ {n room rest : ℕ} {job : Picked} {s now : State} (v : InStretch n room rest job s now) where
-  -- The stretch is over.
-  pub stretch-over : rest ≡ 0 → now .due ≡ s .due → length (s .left) ≡ 32 → Ticked n room s now
-  stretch-over e same size = record {
-    goes = λ k. ap (λ (x : ℕ). ticks x (going k n now)) (sym e) ∙ v .goes k;
-    due = same;
-    size = v .early .lefts ∙ sym size;
-  }
-
-  -- All jobs are finished: the rest of the stretch is idle.
-  pub stretch-idle : 0 < rest → job .left ≡ 0 → now .due ≡ s .due → length (s .left) ≡ 32 →
-      Ticked n room s (record { left = now .left; busy = now .busy; idle = now .idle + rest; preempted = now .preempted; last = n; due = now .due })
-  stretch-idle p none same size = record {
+module _ {n room : ℕ} {job : Picked} {s : State} (v : TickReady n room job s) where
+  -- All jobs are finished: the ticks up to the bound are idle.
+  pub ticked-idle : job .left ≡ 0 → Ticked n room job s (record {
+    left = s .left;
+    busy = s .busy;
+    idle = s .idle + room;
+    preempted = s .preempted;
+    rest = 0;
+    at = n;
+    made = room;
+    due = s .due;
+  })
+  ticked-idle none = record {
+    some = v .some;
+    within = omega arith;
     goes = λ k.
-        let g = going k n now in
-        let m = length-jobs k (now .left) (now .due) 0 n in
-        let e : suc (pred rest) ≡ rest = omega arith in
-        ap (λ (x : ℕ). record { jobs = g .jobs; busy = g .busy; idle = g .idle + rest; preempted = g .preempted; last = x }) (sym m) ∙
+        let g = going k n s in
+        let m = length-jobs k (s .left) (s .due) 0 n in
+        let e : suc (pred room) ≡ room = omega (arith, v .some) in
+        rw none
+        (ap (λ (x : ℕ). record { jobs = g .jobs; busy = g .busy; idle = g .idle + room; preempted = g .preempted; last = x }) (sym m) ∙
         ap (λ (x : ℕ). idledFor x g) (sym e) ∙
-        sym (ticks-idle g (pred rest) (omega (arith, m, picked-is k (now .left) (now .due) n, pick-none (v .picks p) none))) ∙
-        ap (λ (x : ℕ). ticks x g) e ∙ v .goes k;
-    due = same;
-    size = v .early .lefts ∙ sym size;
+        sym (ticks-idle g (pred room) (omega (arith, m, picked-is k (s .left) (s .due) n, pick-none (v .picks) none))) ∙
+        ap (λ (x : ℕ). ticks x g) e);
+    left = refl;
+    due = refl;
+    inside = λ h. absurd (omega arith);
   }
 
-  -- A job runs, to its finish or to the end of the stretch; then the next one is picked, if ticks are left.
-  module _ (next : Picked) (ran cut last : ℕ) (p : 0 < rest) (some : 0 < job .left) (most : ran ≡ min (job .left) rest)
-      (cuts-is : cut ≡ cuts n (job .place) (now .last)) (last-is : last ≡ cond (ltb ran (job .left)) (job .place) n) where
-    abbrev after : State
-    after = record {
-      left = set (now .left) (job .place) (job .left - ran);
-      busy = now .busy + ran;
-      idle = now .idle;
-      preempted = now .preempted + cut;
-      last = last;
-      due = now .due;
-    }
+  -- The job runs, to its finish or to the bound.
+  pub ticked-busy : (ran cut : ℕ) → 0 < job .left → ran ≡ min (job .left) room →
+      cut ≡ count (not (eqb (job .place) (s .at)) && ltb 0 (s .rest)) → Ticked n room job s (record {
+        left = s .left;
+        busy = s .busy + ran;
+        idle = s .idle;
+        preempted = s .preempted + cut;
+        rest = job .left - ran;
+        at = job .place;
+        made = ran;
+        due = s .due;
+      })
+  ticked-busy ran cut some most cut-is =
+      let b = job .place in
+      let here = pick-some (v .picks) some in record {
+        some = omega (arith, v .some);
+        within = omega arith;
+        goes = λ k.
+            let g = going k n s in
+            let m = length-jobs k (s .left) (s .due) 0 n in
+            let l = left-jobs k (s .left) (s .due) n b (here .0) in
+            let z : suc (pred ran) ≡ ran = omega (arith, v .some) in
+            let cuts-is : cuts n b (g .last) ≡ cut =
+            sym (cut-cases n b (s .at) (ltb 0 (s .rest)) (λ e. v .inside (ltb-true 0 (s .rest) e))) ∙
+            ap (λ (x : Bool). count (x && (not (eqb b (s .at)) && ltb 0 (s .rest)))) (lt-ltb b n (here .0)) ∙ sym cut-is in
+            sym
+            (ap (λ (x : ℕ). ticks x g) (sym z) ∙
+            ticks-busy g b (pred ran) (picked-is k (s .left) (s .due) n ∙ sym (v .picks .place)) (omega (arith, here .1, l, v .some)) ∙
+            ap (λ (x : ℕ). ranFor x b g) z ∙
+            same-going
+            (rw (lt-ltb 0 (job .left) some, here .1) (sym (jobs-work k (s .left) (s .due) ran b n (here .0) (omega (arith, v .early, here .0)))))
+            refl refl
+            (rw (m, cuts-is) refl)
+            (rw (m, l, ← here .1, more-left ran (job .left)) refl));
+        left = refl;
+        due = refl;
+        inside = λ h. here .0;
+      }
 
-    runs : (k : ℕ → Task) → ticks ran (going k n now) ≡ going k n after
-    runs k =
-        let g = going k n now in
-        let b = job .place in
-        let m = length-jobs k (now .left) (now .due) 0 n in
-        let here = pick-some (v .picks p) some in
-        let l = left-jobs k (now .left) (now .due) n b (here .0) in
-        let z : suc (pred ran) ≡ ran = omega arith in
-        ap (λ (x : ℕ). ticks x g) (sym z) ∙
-        ticks-busy g b (pred ran) (picked-is k (now .left) (now .due) n ∙ sym (v .picks p .place)) (omega (arith, here .1)) ∙
-        ap (λ (x : ℕ). ranFor x b g) z ∙
-        rw (m, l, ← jobs-work k (now .left) (now .due) ran b n (here .0) (omega (arith, v .early, here .0)), ← here .1, ← cuts-is, ← last-is) refl
+-- ---- a stretch, call by call
+-- At tick t of a stretch that began at `from`: what is left of the stretch is the whole stretch.
+pub record InStretch (n from next t : ℕ) (s₀ s : State) : Type 0 where
+  pub within : t ≤ next
+  pub goes : (k : ℕ → Task) → ticks (next - t) (going k n s) ≡ ticks (next - from) (going k n s₀)
+  pub early : Early n (s .left) (s .due)
+  pub due : s .due ≡ s₀ .due
+  pub inside : Inside n s
+  pub fits : Fits t (going blank n s)
 
-    pub stretch-busy : (0 < rest - ran → IsPick (after .left) (after .due) n next) → InStretch n room (rest - ran) next s after
-    stretch-busy picks = record {
-      goes = λ k.
-          let z : ran + (rest - ran) ≡ rest = omega arith in
-          ap (ticks (rest - ran)) (sym (runs k)) ∙ sym (ticks-join ran (rest - ran) (going k n now)) ∙
-          ap (λ (x : ℕ). ticks x (going k n now)) z ∙ v .goes k;
-      picks = picks;
-      early = early-left n (now .left) (now .due) (job .place) (job .left - ran) (v .early);
-      busy-room = omega (arith, v .busy-room);
-      idle-room = omega (arith, v .idle-room);
-      preempted-room = omega (arith, v .preempted-room, cuts-is, cuts-few n (job .place) (now .last));
-    }
+pub stretch-start : {n t next : ℕ} {s : State} → t ≤ next → Early n (s .left) (s .due) → Inside n s → Fits t (going blank n s)
+    → InStretch n t next t s s
+stretch-start h early inside fits =
+    record { within = h; goes = λ k. refl; early = early; due = refl; inside = inside; fits = fits }
+
+module _ {n from next t : ℕ} {s₀ s : State} (v : InStretch n from next t s₀ s) where
+  pub stretch-ready : {job : Picked} → t < next → next < 4294967295 → IsPick (s .left) (s .due) n job → TickReady n (next - t) job s
+  stretch-ready h small picks = record {
+    picks = picks;
+    early = v .early;
+    inside = v .inside;
+    some = omega arith;
+    busy-room = omega (arith, v .fits .busy);
+    idle-room = omega (arith, v .fits .idle);
+    preempted-room = omega (arith, v .fits .preempted);
+  }
+
+  pub stretch-on : {job : Picked} {r : State} → t < next → Ticked n (next - t) job s r
+      → InStretch n from next (t + r .made) s₀ (listed job r)
+  stretch-on {job} {r} h w = record {
+    within = omega (arith, w .within);
+    goes = λ k.
+        let z : r .made + (next - (t + r .made)) ≡ next - t = omega (arith, w .within) in
+        ap (ticks (next - (t + r .made))) (w .goes k) ∙ sym (ticks-join (r .made) (next - (t + r .made)) (going k n s)) ∙
+        ap (λ (x : ℕ). ticks x (going k n s)) z ∙ v .goes k;
+    early = record {
+      few = v .early .few;
+      lefts = size (ltb 0 (job .left)) ∙ ap length (w .left) ∙ v .early .lefts;
+      dues = rw (w .due) (v .early .dues);
+      low = rw (w .due) (v .early .low);
+    };
+    due = w .due ∙ v .due;
+    inside = w .inside;
+    fits = subst (Fits (t + r .made)) (sym (w .goes blank)) (ticks-fit (r .made) t (going blank n s) (v .fits));
+  }
+    where
+      size : (b : Bool) → length (cond b (set (r .left) (job .place) (r .rest)) (r .left)) ≡ length (r .left)
+      size true = length-set (r .left) (job .place) (r .rest)
+      size false = refl
+
+  -- The stretch is over.
+  pub stretch-over : next ≤ t → (k : ℕ → Task) → going k n s ≡ ticks (next - from) (going k n s₀)
+  stretch-over h k = let z : next - t ≡ 0 = omega arith in ap (λ (x : ℕ). ticks x (going k n s)) (sym z) ∙ v .goes k

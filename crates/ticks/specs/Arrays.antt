@@ -4,8 +4,8 @@ use Prim.Native.Nat.{ℕ, zero, suc, _+_, _-_, _%_, _≤_, _<_}
 use mathlib.Core.Path.{_≡_}
 use mathlib.Core.Bool.{cond, _&&_}
 use mathlib.Core.List.{List, [], _∷_}
-use lib.Dec.{leb, eqb}
-use lib.ListN.{length, getD, replicate}
+use lib.Dec.{ltb, leb, eqb}
+use lib.ListN.{length, getD, set, replicate}
 use Rattle.schedule.specs.Walk.{Task, Job, pick, tasksFrom}
 use Rattle.schedule.specs.Counted.{leftAt, kept, missed, walk}
 use Rattle.schedule.proofs.Stretch.{Going, ticks}
@@ -46,7 +46,9 @@ pub record Begun (first : List ℕ) (n : ℕ) (r : State) : Type 0 where
   pub busy : r .busy ≡ 0
   pub idle : r .idle ≡ 0
   pub preempted : r .preempted ≡ 0
-  pub last : r .last ≡ n
+  pub rest : r .rest ≡ 0
+  pub at : r .at ≡ n
+  pub made : r .made ≡ 0
   pub due : r .due ≡ first
 
 -- The state as the laws of the schedule have it.
@@ -56,22 +58,44 @@ going k n s = record {
   busy = s .busy;
   idle = s .idle;
   preempted = s .preempted;
-  last = s .last;
+  last = cond (ltb 0 (s .rest)) (s .at) n;
 }
 
--- A state of which so many ticks can be made, and the job that runs first.
-pub record TickReady (n room : ℕ) (first : Picked) (s : State) : Type 0 where
-  pub picks : IsPick (s .left) (s .due) n first
+-- The state once the list has the ticks left of the job that ran, if one did.
+abbrev pub listed : Picked → State → State
+listed job s = record {
+  left = cond (ltb 0 (job .left)) (set (s .left) (job .place) (s .rest)) (s .left);
+  busy = s .busy;
+  idle = s .idle;
+  preempted = s .preempted;
+  rest = s .rest;
+  at = s .at;
+  made = s .made;
+  due = s .due;
+}
+
+-- An unfinished job of the tick before is one of the n.
+abbrev pub Inside : ℕ → State → Type 0
+Inside n s = 0 < s .rest → s .at < n
+
+-- A state of which as many ticks can be made, and the job that is picked.
+pub record TickReady (n room : ℕ) (job : Picked) (s : State) : Type 0 where
+  pub picks : IsPick (s .left) (s .due) n job
   pub early : Early n (s .left) (s .due)
+  pub inside : Inside n s
+  pub some : 0 < room
   pub busy-room : s .busy + room < 4294967295
   pub idle-room : s .idle + room < 4294967295
   pub preempted-room : s .preempted + room < 4294967295
 
--- So many ticks, whoever's the jobs are. With one it is document 01's tick.
-pub record Ticked (n room : ℕ) (s r : State) : Type 0 where
-  pub goes : (k : ℕ → Task) → going k n r ≡ ticks room (going k n s)
+-- The ticks that were made, one or more, whoever's the jobs are. With a bound of 1 it is document 01's tick.
+pub record Ticked (n room : ℕ) (job : Picked) (s r : State) : Type 0 where
+  pub some : 0 < r .made
+  pub within : r .made ≤ room
+  pub goes : (k : ℕ → Task) → going k n (listed job r) ≡ ticks (r .made) (going k n s)
+  pub left : r .left ≡ s .left
   pub due : r .due ≡ s .due
-  pub size : length (r .left) ≡ length (s .left)
+  pub inside : Inside n r
 
 -- What the loop over ticks asks: n tasks by their periods, job times and first releases, and a last tick.
 pub record RunReady (p c a : List ℕ) (n end : ℕ) : Type 0 where

@@ -1,22 +1,25 @@
 // The walk over arrays of periods, job times and first releases: the state, the ticks of it, and the loop over the ticks.
 // Whose periods and job times these are, and what was checked before, are left to others.
 ghost use mathlib.Core.Path.{_≡_};
-ghost use mathlib.Core.Bool.{cond};
-ghost use lib.Dec.{ltb};
-ghost use Rattle.schedule.proofs.Stretch.{cuts};
+ghost use mathlib.Core.Bool.{not, _&&_};
+ghost use lib.Dec.{ltb, eqb};
+ghost use Rattle.schedule.specs.Counted.{count};
 ghost use Rattle.ticks.specs.Arrays.{Early, IsPick, Begun, TickReady, Ticked, RunReady, Says};
 use taskset::WalkAnswer;
 
-// What the walk holds: of each task the ticks left of its job; the counts so far; the place of the job of the tick before
-// where it is unfinished, else the number of tasks; and of each task its job's deadline, which is its next release: before
-// its first job that first release. Words alone, so that no copy of it has gaps; the counts stand between the two lists,
-// so that the compiler copies each list by itself.
+// What the walk holds: of each task the ticks left of its job; the counts so far; of the job of the tick before its ticks
+// left and its place, 0 and the number of tasks where there was none; how many ticks were made last; and of each task
+// its job's deadline, which is its next release: before its first job that first release. The ticks left of a job that
+// runs are in `rest` and go into the list after the call, so that the ticks change no list; and the numbers stand between
+// the two lists: so the compiler copies neither.
 pub struct State {
     pub left: [u32; 32],
     pub busy: u32,
     pub idle: u32,
     pub preempted: u32,
-    pub last: u32,
+    pub rest: u32,
+    pub at: usize,
+    pub made: u32,
     pub due: [u32; 32],
 }
 
@@ -26,28 +29,16 @@ pub struct Picked {
     pub left: u32,
 }
 
-// 1 where the job at `last` is cut short by the one at `best`, else 0.
-fn preempts(last: u32, best: u32, n: u32) -> u32
-    ensures { λ r. ⌜ r ≡ cuts n best last ⌝ }
+// 1 where the job at `best` runs and another, at `at`, is unfinished with `rest` ticks left; else 0.
+fn preempts(best: usize, at: usize, rest: u32) -> u32
+    ensures { λ r. ⌜ r ≡ count (not (eqb best at) && ltb 0 rest) ⌝ }
 {
-    if best < n {
-        if last < n {
-            if best != last {
-                return 1;
-            }
+    if best != at {
+        if 0 < rest {
+            return 1;
         }
     }
     0
-}
-
-// The place of a job that had so many ticks left and has run so many, where it is unfinished; else n.
-fn unfinished(had: u32, ran: u32, best: u32, n: u32) -> u32
-    ensures { λ r. ⌜ r ≡ cond (ltb ran had) best n ⌝ }
-{
-    if ran < had {
-        return best;
-    }
-    n
 }
 
 // The unfinished job with the earliest deadline, of several the first.
@@ -79,7 +70,7 @@ fn pick<'a>(left: &'a [u32; 32], due: &'a [u32; 32], n: usize) -> Picked
 
 impl State {
     // Before tick 0, where each task's first job is to come.
-    pub fn new(first: &[u32; 32], n: u32) -> State
+    pub fn new(first: &[u32; 32], n: usize) -> State
         ensures { λ r. ⌜ Begun (now (first .entry)) n r ⌝ }
     {
         State {
@@ -87,67 +78,45 @@ impl State {
             busy: 0,
             idle: 0,
             preempted: 0,
-            last: n,
+            rest: 0,
+            at: n,
+            made: 0,
             due: *first,
         }
     }
 
-    // So many ticks, with no release after the first of them; `first` is the job that runs then. In each tick the
-    // unfinished job with the earliest deadline runs, of several the first: it runs on to its finish or to the last
-    // tick, and then the next one is picked. What changes is held apart from the state, which is made again at the end:
-    // so the compiler copies the two lists alone, and no call of it.
-    pub fn tick(self, n: usize, room: u32, first: Picked) -> State
-        requires { ⌜ TickReady n room first self ⌝ }
-        ensures { λ r. ⌜ Ticked n room self r ⌝ }
+    // One tick or more, with no release after the first of them: the job that is picked runs to its finish or to the
+    // bound. Where there is none, all ticks up to the bound are idle.
+    pub fn tick(mut self, n: usize, room: u32, job: Picked) -> State
+        requires { ⌜ TickReady n room job self ⌝ }
+        ensures { λ r. ⌜ Ticked n room job self r ⌝ }
     {
-        let none = n as u32;
-        let due = self.due;
-        let mut left = self.left;
-        let mut busy = self.busy;
-        let mut idle = self.idle;
-        let mut preempted = self.preempted;
-        let mut last = self.last;
-        let mut rest = room;
-        let mut best = first.place;
-        let mut had = first.left;
-        while 0 < rest {
-            if had == 0 {
-                idle += rest;
-                last = none;
-                break;
-            }
-            let b = best as u32;
-            let ran = numbers::lesser(had, rest);
-            let cut = preempts(last, b, none);
-            left[best] = had - ran;
-            busy += ran;
-            preempted += cut;
-            last = unfinished(had, ran, b, none);
-            rest -= ran;
-            if 0 < rest {
-                let next = pick(&left, &due, n);
-                best = next.place;
-                had = next.left;
-            }
+        if job.left == 0 {
+            self.idle += room;
+            self.rest = 0;
+            self.at = n;
+            self.made = room;
+            return self;
         }
-        State {
-            left,
-            busy,
-            idle,
-            preempted,
-            last,
-            due,
-        }
+        let ran = numbers::lesser(job.left, room);
+        let cut = preempts(job.place, self.at, self.rest);
+        self.busy += ran;
+        self.preempted += cut;
+        self.rest = job.left - ran;
+        self.at = job.place;
+        self.made = ran;
+        self
     }
 }
 
 // The walk of n tasks with periods p, job times c and first releases `first`, to the tick end. It goes from each tick
-// with a release to the next one, or to `end`; the loop over the ticks is left at the first task with work left.
+// with a release to the next one, or to `end`, and in between from job to job; the loop over the ticks is left at the
+// first task with work left.
 pub fn run(p: &[u32; 32], c: &[u32; 32], first: &[u32; 32], n: usize, end: u32) -> WalkAnswer
     requires { ⌜ RunReady (now p) (now c) (now first) n end ⌝ }
     ensures { λ r. ⌜ Says (now (p .entry)) (now (c .entry)) (now (first .entry)) n end r ⌝ }
 {
-    let mut s = State::new(first, n as u32);
+    let mut s = State::new(first, n);
     let mut late: usize = 0;
     let mut t: u32 = 0;
     'ticks: while t <= end {
@@ -169,9 +138,16 @@ pub fn run(p: &[u32; 32], c: &[u32; 32], first: &[u32; 32], n: usize, end: u32) 
         if t == end {
             break 'ticks;
         }
-        let first_job = pick(&s.left, &s.due, n);
-        s = s.tick(n, next - t, first_job);
-        t = next;
+        while t < next {
+            let room = next - t;
+            let job = pick(&s.left, &s.due, n);
+            s = s.tick(n, room, job);
+            if 0 < job.left {
+                let at = job.place;
+                s.left[at] = s.rest;
+            }
+            t += s.made;
+        }
     }
     if 0 < late {
         return WalkAnswer::Missed {
