@@ -11,7 +11,7 @@ use native.Mathlib.Omega.{arith}
 use native.Mathlib.Nat.{zero-add, add-zero, suc-add}
 use lib.Dec.{ltb, eqb}
 use lib.ListN.{length}
-use borrow.Author.Tests.{ltb-true, ltb-false, lt-ltb, le-ltb, eq-eqb, ne-eqb}
+use borrow.Author.Tests.{ltb-true, ltb-false, lt-ltb, le-ltb, eq-eqb}
 use Rattle.numbers.specs.Numbers.{All, over}
 use Rattle.numbers.proofs.Tests.{bool-cases}
 use Rattle.numbers.proofs.Sums.{sum, over-end}
@@ -71,11 +71,7 @@ pick-stands v [] b h = refl
 pick-stands v (j ∷ js) zero h = rw (lt-ltb 0 (j .left - v) (omega arith), lt-ltb 0 (j .left) (omega arith)) refl
 pick-stands v (j ∷ js) (suc b) h = rw (sooner-stands v (j .due) js b h, pick-stands v js b h) refl
 
--- The pick is the place of an unfinished job, or the number of jobs.
-pub pick-most : (js : List Job) → pick js ≤ length js
-pick-most [] = omega arith
-pick-most (j ∷ js) = ⊎-elim (λ w. rw (w .0) (omega arith)) (λ w. rw (w .0) (omega (arith, pick-most js))) (run-cases j js)
-
+-- A place that is picked is that of an unfinished job.
 pub pick-left : (js : List Job) → pick js < length js → 0 < leftAt js (pick js)
 pick-left [] h = absurd (omega arith)
 pick-left (j ∷ js) h =

@@ -14,7 +14,7 @@ use Rattle.numbers.specs.Numbers.{All}
 use Rattle.numbers.proofs.Tests.{bool-cases, lt-or-le}
 use Rattle.schedule.specs.Walk.{Task, tasksFrom, sooner, pick}
 use Rattle.schedule.specs.Counted.{leftAt}
-use Rattle.schedule.proofs.Stretch.{workFor, left-past, pick-most, pick-left, in-list}
+use Rattle.schedule.proofs.Stretch.{workFor, left-past, pick-left, in-list}
 use Rattle.ticks.specs.Arrays.{jobsFrom, blank, picked, IsPick, Early}
 use Rattle.ticks.specs.declared.Picked.{Picked}
 
@@ -85,10 +85,6 @@ pub jobs-work : (k : ℕ → Task) (l d : List ℕ) (v b n : ℕ) → b < n → 
 jobs-work k l d v b n h q = rw (zero-add b) at (work-from k l d v b 0 n h (omega arith))
 
 -- ---- the pick is the place of an unfinished job, with its ticks left, or n
-picked-most : (l d : List ℕ) (n : ℕ) → picked l d n ≤ n
-unfolding picked
-picked-most l d n = omega (arith, pick-most (jobsFrom blank l d 0 n), length-jobs blank l d 0 n)
-
 module _ {l d : List ℕ} {n : ℕ} {r : Picked} (v : IsPick l d n r) where
   pub pick-some : 0 < r .left → (r .place < n) × (r .left ≡ getD l (r .place) 0)
   pick-some h =
@@ -105,11 +101,9 @@ module _ {l d : List ℕ} {n : ℕ} {r : Picked} (v : IsPick l d n r) where
       (λ (h : n ≤ pick js). h)
       (lt-or-le (pick js) n)
 
-pub is-none : (l d : List ℕ) (n : ℕ) → n ≤ picked l d n → IsPick l d n (record { place = n; left = 0 })
-is-none l d n h = record {
-  place = omega (arith, picked-most l d n);
-  left = sym (left-past (jobsFrom blank l d 0 n) n (omega (arith, length-jobs blank l d 0 n)));
-}
+-- the place n has none
+pub none-left : (l d : List ℕ) (n : ℕ) → leftAt (jobsFrom blank l d 0 n) n ≡ 0
+none-left l d n = left-past (jobsFrom blank l d 0 n) n (omega (arith, length-jobs blank l d 0 n))
 
 -- ---- the arrays stay early
 pub early-set : (n : ℕ) (l d : List ℕ) (i v w : ℕ) → i < 32 → w < 4294967295 → Early n l d

@@ -9,9 +9,9 @@ use taskset::WalkAnswer;
 
 // What the walk holds: of each task the ticks left of its job; the counts so far; of the job of the tick before its ticks
 // left and its place, 0 and the number of tasks where there was none; how many ticks were made last; and of each task
-// its job's deadline, which is its next release: before its first job that first release. The ticks left of a job that
-// runs are in `rest` and go into the list after the call, so that the ticks change no list; and the numbers stand between
-// the two lists: so the compiler copies neither.
+// its job's deadline, which is its next release: before its first job that first release. The ticks left of the job that
+// runs are held in `rest`, and its entry in the list is written after the call: so a tick changes no list; and the
+// numbers stand between the two lists: so the compiler copies neither.
 pub struct State {
     pub left: [u32; 32],
     pub busy: u32,
@@ -47,25 +47,25 @@ fn pick<'a>(left: &'a [u32; 32], due: &'a [u32; 32], n: usize) -> Picked
     ensures { λ r. ⌜ IsPick (now (left .entry)) (now (due .entry)) n r ⌝ }
 {
     let mut best: usize = n;
+    let mut had: u32 = 0;
     let mut when: u32 = 4294967295;
     let mut i: usize = 0;
     while i < n {
+        let l = left[i];
         let d = due[i];
-        if 0 < left[i] {
+        if 0 < l {
             if d < when {
                 best = i;
+                had = l;
                 when = d;
             }
         }
         i += 1;
     }
-    if best < n {
-        return Picked {
-            place: best,
-            left: left[best],
-        };
+    Picked {
+        place: best,
+        left: had,
     }
-    Picked { place: n, left: 0 }
 }
 
 impl State {

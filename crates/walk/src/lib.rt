@@ -1,6 +1,6 @@
-// The walk: a set and a plan, tick by tick from 0 to the hyper-period under the rule of the earliest deadline. Its
-// answer is the definition's walk, with what that says of the endless walk. Which plan is selected, and texts, are left
-// to others.
+// The walk: a set and a plan, from tick 0 to the hyper-period under the rule of the earliest deadline. Its answer is the
+// definition's walk, which goes tick by tick, with what that says of the endless walk. Which plan is selected, and texts,
+// are left to others.
 ghost use Rattle.layout.specs.Words.{period};
 ghost use Rattle.layout.specs.declared.Layout.the-variants.{Ordinary};
 ghost use Rattle.taskset.specs.Refusals.{walkChecks};
