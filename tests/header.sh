@@ -2,7 +2,7 @@
 # Holds include/seedspell.h and the archive to what docs/CALLS.md says of them: bash tests/header.sh
 # A program that uses every name of the header (tests/c/header.c) compiles without a warning, as C99 and, where there is
 # a C++ compiler, as C++11. With the archive it links, position independent and not, and finds each refusal under its
-# name. The archive has no data that calls could share, goes into a shared object, and needs memcpy and memset alone.
+# name. The archive has no data that calls could share, goes into a shared object, and needs memset alone.
 set -eu
 cd "$(dirname "$0")/.."
 
@@ -41,5 +41,5 @@ while read -r name number; do
 done < <(sed -n 's/^#define SEEDSPELL_REFUSED_\([A-Z_]*\) \([0-9]*\) .*/\1 \2/p' include/seedspell.h)
 [ "$names" -eq 10 ] || fail "the header has $names names of refusals"
 needed=$(nm -u "$archive" | sed -n 's/^ *U //p' | sort | tr '\n' ' ')
-[ "$needed" = "memcpy memset " ] || fail "the archive needs: $needed"
+[ "$needed" = "memset " ] || fail "the archive needs: $needed"
 echo "include/seedspell.h: as docs/CALLS.md says, in $languages"
