@@ -312,7 +312,7 @@ struct family {
     uint32_t alone;             /* the period of a task by itself */
 };
 
-/* A mean gap of 100; of 10 to 20; and of 3 to 3.2. */
+/* A mean gap of 100; of 12; and of 3. */
 static const struct family few = {"few", {160, 250, 320}, 1, 100};
 static const struct family some = {"some", {20, 32, 50}, 1, 12};
 static const struct family many = {"many", {4, 10, 25}, 1, 3};

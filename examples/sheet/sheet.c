@@ -402,8 +402,8 @@ int main(int argc, char **argv)
     }
     read_results(results, planned);
 
-    /* The walk says the same again, tick by tick; a host that finds otherwise was linked with something else. The walk
-       takes the plan's N words and no more, where the planner had room for MOST_TASKS. */
+    /* The walk says the same again; a host that finds otherwise was linked with something else. The walk takes the
+       plan's N words and no more, where the planner had room for MOST_TASKS. */
     returned = seedspell_walk(set, set_len, plan, tasks(), results, sizeof results);
     read_results(results, walked);
     if (returned != 0 || walked[0] != 1 || walked[1] != planned[1] || walked[1] + walked[2] != planned[2])

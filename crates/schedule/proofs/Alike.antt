@@ -23,10 +23,6 @@ AllAlike [] (j ∷ js) = ⊥
 AllAlike (i ∷ is) [] = ⊥
 AllAlike (i ∷ is) (j ∷ js) = Alike i j × AllAlike is js
 
-pub alike-self : (js : List Job) → AllAlike js js
-alike-self [] = tt
-alike-self (j ∷ js) = (record { task = refl; left = refl; due = λ h. refl }, alike-self js)
-
 -- ---- what the walk asks of them is the same
 -- A test of the deadline is made only where ticks are left.
 both : (x y y′ : Bool) → (x ≡ true → y ≡ y′) → (x && y) ≡ (x && y′)
@@ -45,7 +41,7 @@ sooner-alike d (i ∷ is) (j ∷ js) a =
     ap (λ (x : Bool). x || sooner d is) (test-alike (λ e. ltb e d) i j (a .0)) ∙
     ap (λ (x : Bool). (ltb 0 (j .left) && ltb (j .due) d) || x) (sooner-alike d is js (a .1))
 
-pub pick-alike : (is js : List Job) → AllAlike is js → pick is ≡ pick js
+pick-alike : (is js : List Job) → AllAlike is js → pick is ≡ pick js
 pick-alike [] [] a = refl
 pick-alike [] (j ∷ js) a = absurd a
 pick-alike (i ∷ is) [] a = absurd a
@@ -54,7 +50,7 @@ pick-alike (i ∷ is) (j ∷ js) a =
     ap (λ (x : Bool). cond (ltb 0 (j .left) && not x) zero (suc (pick is))) (sooner-alike (j .due) is js (a .1)) ∙
     ap (λ (x : ℕ). cond (ltb 0 (j .left) && not (sooner (j .due) js)) zero (suc x)) (pick-alike is js (a .1))
 
-pub length-alike : (is js : List Job) → AllAlike is js → length is ≡ length js
+length-alike : (is js : List Job) → AllAlike is js → length is ≡ length js
 length-alike [] [] a = refl
 length-alike [] (j ∷ js) a = absurd a
 length-alike (i ∷ is) [] a = absurd a

@@ -40,7 +40,7 @@ work-more v [] b = refl
 work-more v (j ∷ js) zero = ap (holding j js) (omega arith)
 work-more v (j ∷ js) (suc b) = ap (λ (r : List Job). j ∷ r) (work-more v js b)
 
-pub length-work : (v : ℕ) (js : List Job) (b : ℕ) → length (workFor v js b) ≡ length js
+length-work : (v : ℕ) (js : List Job) (b : ℕ) → length (workFor v js b) ≡ length js
 length-work v [] b = refl
 length-work v (j ∷ js) zero = refl
 length-work v (j ∷ js) (suc b) = ap suc (length-work v js b)
@@ -122,7 +122,7 @@ ticks-end zero g = refl
 ticks-end (suc m) g = ticks-end m (ticked g)
 
 -- ---- where no job is cut short, and that one at most is
-pub cuts-none : (n b last : ℕ) → (n ≤ b) ⊎ ((n ≤ last) ⊎ (b ≡ last)) → cuts n b last ≡ 0
+cuts-none : (n b last : ℕ) → (n ≤ b) ⊎ ((n ≤ last) ⊎ (b ≡ last)) → cuts n b last ≡ 0
 unfolding cuts
 cuts-none n b last (inl h) = rw (le-ltb b n h) refl
 cuts-none n b last (inr (inl h)) = rw (le-ltb last n h, and-false (ltb b n)) refl
@@ -132,7 +132,7 @@ pub count-few : (b : Bool) → count b ≤ 1
 count-few true = omega arith
 count-few false = omega arith
 
-pub cuts-few : (n b last : ℕ) → cuts n b last ≤ 1
+cuts-few : (n b last : ℕ) → cuts n b last ≤ 1
 unfolding cuts
 cuts-few n b last = count-few (ltb b n && (ltb last n && not (eqb b last)))
 
@@ -232,7 +232,7 @@ one-busy js =
     (bool-cases (ltb (pick js) (length js)))
 
 -- It is busy while work is left, and idle after.
-pub ticks-work : (m : ℕ) (g : Going) →
+ticks-work : (m : ℕ) (g : Going) →
     (ticks m g .busy ≡ g .busy + min m (sum leftOf (g .jobs))) × (ticks m g .idle ≡ g .idle + (m - sum leftOf (g .jobs)))
 ticks-work zero g = (omega arith, omega arith)
 ticks-work (suc m) g =
@@ -256,7 +256,7 @@ no-cut g =
     (bool-cases (ltb 0 (leftAt (run js) b))))
 
 -- So one job at most is cut short, at the first tick.
-pub ticks-cut : (m : ℕ) (g : Going) → ticks (suc m) g .preempted ≡ g .preempted + cuts (length (g .jobs)) (pick (g .jobs)) (g .last)
+ticks-cut : (m : ℕ) (g : Going) → ticks (suc m) g .preempted ≡ g .preempted + cuts (length (g .jobs)) (pick (g .jobs)) (g .last)
 ticks-cut zero g = refl
 ticks-cut (suc m) g = omega (arith, ticks-cut m (ticked g), no-cut g)
 

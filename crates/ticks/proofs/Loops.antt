@@ -1,4 +1,4 @@
--- What the two loops of the walk hold, and how they go on.
+-- What the loops over the ticks and over the tasks hold, and how they go on.
 -- Assumes nothing.
 use Prim.Native.Nat.{ℕ, suc, _+_, _-_, _≤_, _<_, min}
 use mathlib.Core.Path.{_≡_, refl, sym, ap, _∙_}

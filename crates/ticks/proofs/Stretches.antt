@@ -3,10 +3,12 @@
 use Prim.Native.Nat.{ℕ, suc, pred, _+_, _-_, _≤_, _<_, min}
 use mathlib.Core.Path.{_≡_, refl, sym, ap, subst, _∙_}
 use mathlib.Core.Bool.{Bool, true, false, cond, not, _&&_}
+use mathlib.Core.Logic.{⊎-elim}
 use native.Mathlib.Omega.{arith}
 use lib.Dec.{ltb, eqb}
 use lib.ListN.{length, set, length-set}
 use borrow.Author.Tests.{ltb-true, lt-ltb}
+use Rattle.numbers.proofs.Tests.{bool-cases}
 use Rattle.schedule.specs.Walk.{Task}
 use Rattle.schedule.specs.Counted.{count}
 use Rattle.schedule.proofs.Stretch.{same-going, cuts, cut-cases, ticked, ticks, ticks-join, more-left, ranFor, ticks-busy, idledFor, ticks-idle, Fits, ticks-fit}
@@ -16,11 +18,19 @@ use Rattle.ticks.specs.declared.State.{State}
 use Rattle.ticks.proofs.Jobs.{picked-is, pick-some, pick-none, length-jobs, left-jobs, jobs-work}
 
 -- ---- one call
+-- It makes one tick or more, up to the bound.
+pub made-fits : {n room : ℕ} {job : Picked} {s r : State} → 0 < room → Ticked n room job s r → (0 < r .made) × (r .made ≤ room)
+made-fits {job = job} h w =
+    ⊎-elim
+    (λ e. let m = rw e at (w .made) in let some = ltb-true 0 (job .left) e in (omega (arith, m), omega (arith, m)))
+    (λ e. let m = rw e at (w .made) in (omega (arith, m), omega (arith, m)))
+    (bool-cases (ltb 0 (job .left)))
+
 -- With a bound of 1 it is one tick.
 pub ticked-once : {n : ℕ} {job : Picked} {s r : State} → Ticked n 1 job s r → (k : ℕ → Task) → going k n (listed job r) ≡ ticked (going k n s)
-ticked-once {n} {job} {s} {r} v k =
-    let e : r .made ≡ 1 = omega (arith, v .some, v .within) in
-    v .goes k ∙ ap (λ (x : ℕ). ticks x (going k n s)) e
+ticked-once {n} {job} {s} {r} w k =
+    let e : r .made ≡ 1 = omega (arith, made-fits (omega arith) w) in
+    w .goes k ∙ ap (λ (x : ℕ). ticks x (going k n s)) e
 
 module _ {n room : ℕ} {job : Picked} {s : State} (v : TickReady n room job s) where
   -- All jobs are finished: the ticks up to the bound are idle.
@@ -35,8 +45,7 @@ module _ {n room : ℕ} {job : Picked} {s : State} (v : TickReady n room job s) 
     due = s .due;
   })
   ticked-idle none = record {
-    some = v .some;
-    within = omega arith;
+    made = rw none refl;
     goes = λ k.
         let g = going k n s in
         let m = length-jobs k (s .left) (s .due) 0 n in
@@ -66,8 +75,7 @@ module _ {n room : ℕ} {job : Picked} {s : State} (v : TickReady n room job s) 
   ticked-busy ran cut some most cut-is =
       let b = job .place in
       let here = pick-some (v .picks) some in record {
-        some = omega (arith, v .some);
-        within = omega arith;
+        made = rw (lt-ltb 0 (job .left) some) most;
         goes = λ k.
             let g = going k n s in
             let m = length-jobs k (s .left) (s .due) 0 n in
@@ -120,9 +128,9 @@ module _ {n from next t : ℕ} {s₀ s : State} (v : InStretch n from next t s�
   pub stretch-on : {job : Picked} {r : State} → t < next → Ticked n (next - t) job s r
       → InStretch n from next (t + r .made) s₀ (listed job r)
   stretch-on {job} {r} h w = record {
-    within = omega (arith, w .within);
+    within = omega (arith, made-fits (omega arith) w);
     goes = λ k.
-        let z : r .made + (next - (t + r .made)) ≡ next - t = omega (arith, w .within) in
+        let z : r .made + (next - (t + r .made)) ≡ next - t = omega (arith, made-fits (omega arith) w) in
         ap (ticks (next - (t + r .made))) (w .goes k) ∙ sym (ticks-join (r .made) (next - (t + r .made)) (going k n s)) ∙
         ap (λ (x : ℕ). ticks x (going k n s)) z ∙ v .goes k;
     early = record {

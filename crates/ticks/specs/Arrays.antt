@@ -1,6 +1,6 @@
 -- The walk's state as arrays hold it, and what the walk's functions take and give. Not part of what a reader must
 -- believe: the call's contract speaks of the walk's own definitions.
-use Prim.Native.Nat.{ℕ, zero, suc, _+_, _-_, _%_, _≤_, _<_}
+use Prim.Native.Nat.{ℕ, zero, suc, _+_, _-_, _%_, _≤_, _<_, min}
 use mathlib.Core.Path.{_≡_}
 use mathlib.Core.Bool.{cond, _&&_}
 use mathlib.Core.List.{List, [], _∷_}
@@ -78,7 +78,7 @@ listed job s = record {
 abbrev pub Inside : ℕ → State → Type 0
 Inside n s = 0 < s .rest → s .at < n
 
--- A state of which as many ticks can be made, and the job that is picked.
+-- A state of which `room` ticks can be made, and the job that is picked.
 pub record TickReady (n room : ℕ) (job : Picked) (s : State) : Type 0 where
   pub picks : IsPick (s .left) (s .due) n job
   pub early : Early n (s .left) (s .due)
@@ -88,10 +88,9 @@ pub record TickReady (n room : ℕ) (job : Picked) (s : State) : Type 0 where
   pub idle-room : s .idle + room < 4294967295
   pub preempted-room : s .preempted + room < 4294967295
 
--- The ticks that were made, one or more, whoever's the jobs are. With a bound of 1 it is document 01's tick.
+-- The ticks up to the job's finish or to the bound, whoever's the jobs are. With a bound of 1 it is document 01's tick.
 pub record Ticked (n room : ℕ) (job : Picked) (s r : State) : Type 0 where
-  pub some : 0 < r .made
-  pub within : r .made ≤ room
+  pub made : r .made ≡ cond (ltb 0 (job .left)) (min (job .left) room) room
   pub goes : (k : ℕ → Task) → going k n (listed job r) ≡ ticks (r .made) (going k n s)
   pub left : r .left ≡ s .left
   pub due : r .due ≡ s .due

@@ -14,7 +14,7 @@ use Rattle.ticks.specs.Arrays.{taskAt}
 use Rattle.ticks.specs.declared.State.{State}
 use Rattle.ticks.proofs.Releases.{Counted, counted-on, counted-fit, part-pass, part-take, part-miss, part-end, walkFrom-miss, walkFrom-kept}
 use Rattle.ticks.proofs.Jobs.{pick-some, early-set}
-use Rattle.ticks.proofs.Stretches.{InStretch, stretch-ready, stretch-on}
+use Rattle.ticks.proofs.Stretches.{InStretch, made-fits, stretch-ready, stretch-on}
 use Rattle.ticks.proofs.Loops.{AtTick, AtTask, steady, first-tick, turns-come, turn-over, stretch-comes, next-tick}
 use borrow.Author.Needs.{needs}
 use Rattle.ticks.proofs.run.Statement.{statement}
@@ -210,9 +210,10 @@ goes-on c =
     let i = stretch (a .before) in
     let w = a .tick .ensures in
     let on = stretch-on (i .before .loop2 .inv) (i .loop2-test .taken) w in
+    let made = made-fits (omega (arith, i .loop2-test .taken)) w in
     ⊎-elim
-    (λ ran. let job-left = ran .0 .taken in let state-is = ran .1 in rw state-is (w .within, w .some, rw (lt-ltb 0 (job .left) job-left) at on))
-    (λ idle. let none-left = idle .0 .left in let state-is = idle .1 in rw state-is (w .within, w .some, rw (le-ltb 0 (job .left) none-left) at on))
+    (λ ran. let job-left = ran .0 .taken in let state-is = ran .1 in rw state-is (made .1, made .0, rw (lt-ltb 0 (job .left) job-left) at on))
+    (λ idle. let none-left = idle .0 .left in let state-is = idle .1 in rw state-is (made .1, made .0, rw (le-ltb 0 (job .left) none-left) at on))
     (c .if4 .came)
 
 add-t : tie.Need-add-t Inv-loop μ-loop Inv-loop2 μ-loop2 Inv-ticks μ-ticks
