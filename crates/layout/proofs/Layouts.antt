@@ -1,17 +1,18 @@
 -- What holds of every layout: each law goes through the layouts, one by one.
 -- Assumes nothing.
-use Prim.Native.Nat.{ℕ, _+_, _*_, _≤_, _<_}
+use Prim.Native.Nat.{ℕ, _+_, _-_, _*_, _≤_, _<_}
 use mathlib.Core.Path.{_≡_, refl}
 use mathlib.Core.Bool.{true}
 use mathlib.Core.List.{List}
 use native.Mathlib.Bridge.{le-by-compare, IsLe}
 use native.Mathlib.Nat.{mul-le-mul}
 use native.Mathlib.Omega.{arith}
+use borrow.Author.Tests.{lt-ltb}
 use Rattle.layout.specs.Words.{headKinds, extraKinds, headSize, extraSize, mostRates, mostTasks, mostWords}
 use Rattle.layout.specs.Words.{slackPlace, idlePlace, taskSize, periodPlace, word, kindIn, headKind, allows}
 use Rattle.layout.specs.declared.Layout.{Layout}
 use Rattle.layout.specs.declared.Layout.the-variants.{Ordinary}
-use Rattle.layout.specs.declared.Kind.the-variants.{Slack, Idle}
+use Rattle.layout.specs.declared.Kind.the-variants.{Slack, Idle, First}
 
 -- A head is short, and begins with the slack and the idle energy.
 pub head-few : (layout : Layout) → headSize layout ≤ 8
@@ -38,6 +39,15 @@ idle-kind Ordinary = refl
 pub extra-few : (layout : Layout) → extraSize layout ≤ 8
 unfolding extraKinds IsLe
 extra-few Ordinary = le-by-compare _ _ tt
+
+-- The first release is the first of them.
+pub first-in-extra : (layout : Layout) → 0 < extraSize layout
+unfolding extraKinds IsLe
+first-in-extra Ordinary = le-by-compare _ _ tt
+
+pub first-kind : (layout : Layout) → kindIn (extraKinds layout) 0 ≡ First
+unfolding extraKinds kindIn
+first-kind Ordinary = refl
 
 -- The words of at most 32 tasks are few.
 pub task-words : (layout : Layout) (m t : ℕ) → m ≤ mostRates → t ≤ mostTasks → t * taskSize layout m ≤ 576
@@ -66,5 +76,8 @@ zero-in-head s q some h e =
 
 pub zero-in-extra : (s : List ℕ) (p k : ℕ) → 1 ≤ word s p → k < extraSize Ordinary → word s (p + (2 + k)) ≡ 0
     → allows s (p + (2 + k)) (kindIn (extraKinds Ordinary) k) ≡ true
-unfolding extraKinds
-zero-in-extra s p k some h e = absurd (omega arith)
+unfolding extraKinds kindIn allows
+zero-in-extra s p k some h e =
+    let none : k ≡ 0 = omega arith in
+    let own : p + (2 + 0) - 2 ≡ p = omega arith in
+    rw (none, own, (rw none at e)) (lt-ltb 0 (word s p) some)

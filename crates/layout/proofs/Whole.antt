@@ -9,16 +9,17 @@ use mathlib.Core.Logic.{inl, inr, ⊎-elim, _↔_}
 use native.Mathlib.Nat.{div-add-mod', div-lt-iff-lt-mul, mod-lt}
 use native.Mathlib.Omega.{arith}
 use lib.ListN.{length}
+use borrow.Author.Tests.{ltb-true}
 use Rattle.numbers.proofs.Tests.{bool-cases, lt-or-le, between-true, true-between}
 use Rattle.layout.specs.Words.{headSize, extraKinds, extraSize, mostRates, mostTasks, mostIdle, longestPeriod}
 use Rattle.layout.specs.Words.{slack, slackPlace, idle, idlePlace, rateCount, taskCount, ratePlace}
 use Rattle.layout.specs.Words.{taskCountPlace, tasksPlace, periodPlace, cyclesPlace, energyPlace, taskSize}
-use Rattle.layout.specs.Words.{wordCount, rate, period, cycles, energy, kindIn, headKind, taskKind, kindAt}
+use Rattle.layout.specs.Words.{wordCount, rate, period, cycles, first, firstPlace, energy, kindIn, headKind, taskKind, kindAt}
 use Rattle.layout.specs.Words.{allows, WordFault}
 use Rattle.layout.specs.declared.Layout.{Layout}
 use Rattle.layout.specs.declared.Kind.{Kind}
-use Rattle.layout.specs.declared.Kind.the-variants.{RateCount, Rate, TaskCount, Period, Cycles, Energy, LeftOver}
-use Rattle.layout.proofs.Layouts.{slack-in-head, slack-kind, idle-in-head, idle-kind}
+use Rattle.layout.specs.declared.Kind.the-variants.{RateCount, Rate, TaskCount, Period, Cycles, First, Energy, LeftOver}
+use Rattle.layout.proofs.Layouts.{slack-in-head, slack-kind, idle-in-head, idle-kind, first-in-extra, first-kind}
 use Rattle.layout.proofs.Places.{before-end, kind-head, kind-rates, kind-rate, kind-tasks, kind-past, kind-task, kind-period, kind-cycles, kind-extra, kind-energy}
 
 pub record IsWhole (layout : Layout) (s : List ℕ) : Type 0 where
@@ -128,6 +129,15 @@ module _ (layout : Layout) (s : List ℕ) where
     pub idle-in : idle s ≤ mostIdle
     unfolding allows
     idle-in = between-true 0 mostIdle (idle s) (in-range refl (idle-kind layout) (w .head-word idlePlace (idle-in-head layout))) .1
+
+    -- A first release is below its own task's period.
+    pub first-in : (t : ℕ) → t < taskCount layout s → first layout s t < period layout s t
+    unfolding allows
+    first-in t h =
+        let own : firstPlace layout (rateCount layout s) t - 2 ≡ periodPlace layout (rateCount layout s) t = omega arith in
+        let is : allows s (firstPlace layout (rateCount layout s) t) First ≡ true =
+        in-range refl (first-kind layout) (w .extra-word t 0 h (first-in-extra layout)) in
+        ltb-true (first layout s t) (period layout s t) (rw own at is)
 
     task-word : (t k : ℕ) → t < taskCount layout s → k < taskSize layout (rateCount layout s)
         → allows s (periodPlace layout (rateCount layout s) t + k) (taskKind layout k) ≡ true

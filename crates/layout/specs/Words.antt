@@ -12,18 +12,19 @@ use lib.Dec.{ltb, eqb}
 use lib.ListN.{length, getD}
 use Rattle.numbers.specs.Numbers.{between}
 use Rattle.layout.specs.declared.Kind.{Kind}
-use Rattle.layout.specs.declared.Kind.the-variants.{Slack, Idle, RateCount, Rate, TaskCount, Period, Cycles, Energy, LeftOver}
+use Rattle.layout.specs.declared.Kind.the-variants.{Slack, Idle, RateCount, Rate, TaskCount, Period, Cycles, First, Energy, LeftOver}
 use Rattle.layout.specs.declared.Layout.{Layout}
 use Rattle.layout.specs.declared.Layout.the-variants.{Ordinary}
 
 -- WHICH LIST. A layout is the kinds of the words of its head, in order, and of the words between a task's cycles and
--- its energies. Document 01's list is the ordinary one: "the slack G" before "the rate count M", and energies straight
--- after the cycles; and of document 02's note 4, "the set list gains H as a word after the slack".
+-- its energies. Document 01's list is the ordinary one: "the slack G" before "the rate count M", and energies after the
+-- cycles; of document 02's note 4, "the set list gains H as a word after the slack"; of its note 6, "the task record gains
+-- A after the cycles".
 unfoldable pub headKinds : Layout → List Kind
 headKinds Ordinary = Slack ∷ Idle ∷ []
 
 unfoldable pub extraKinds : Layout → List Kind
-extraKinds Ordinary = []
+extraKinds Ordinary = First ∷ []
 
 -- How many words these are.
 abbrev pub headSize : Layout → ℕ
@@ -41,7 +42,7 @@ abbrev pub mostTasks : ℕ
 mostTasks = 32
 
 abbrev pub mostWords : ℕ
-mostWords = 332
+mostWords = 364
 
 abbrev pub mostIdle : ℕ
 mostIdle = 1000
@@ -84,6 +85,10 @@ periodPlace layout m t = tasksPlace layout m + t * taskSize layout m
 abbrev pub cyclesPlace : Layout → ℕ → ℕ → ℕ
 cyclesPlace layout m t = periodPlace layout m t + 1
 
+-- The first release is straight after the cycles.
+abbrev pub firstPlace : Layout → ℕ → ℕ → ℕ
+firstPlace layout m t = periodPlace layout m t + 2
+
 abbrev pub energyPlace : Layout → ℕ → ℕ → ℕ → ℕ
 energyPlace layout m t r = periodPlace layout m t + (1 + extraSize layout + r)
 
@@ -104,7 +109,8 @@ taskCount layout s = word s (taskCountPlace layout (rateCount layout s))
 abbrev pub wordCount : Layout → List ℕ → ℕ
 wordCount layout s = periodPlace layout (rateCount layout s) (taskCount layout s)
 
--- "M rates", and "for each task the period p .., the cycles c .., and M energies": of rate number r, of the task at t.
+-- "M rates", and "for each task the period p .., the cycles c .., and M energies", with "A after the cycles": of rate
+-- number r, of the task at t.
 module _ (layout : Layout) (s : List ℕ) where
   abbrev pub rate : ℕ → ℕ
   rate r = word s (ratePlace layout r)
@@ -114,6 +120,9 @@ module _ (layout : Layout) (s : List ℕ) where
 
   abbrev pub cycles : ℕ → ℕ
   cycles t = word s (cyclesPlace layout (rateCount layout s) t)
+
+  abbrev pub first : ℕ → ℕ
+  first t = word s (firstPlace layout (rateCount layout s) t)
 
   abbrev pub energy : ℕ → ℕ → ℕ
   energy t r = word s (energyPlace layout (rateCount layout s) t r)
@@ -151,8 +160,8 @@ kindAt layout s q =
 -- RANGES. "the slack G in thousandths (1 to 1,000); the rate count M (2 to 8); M rates in cycles per tick (1 to
 -- 1,000,000); the task count N (1 to 32); then for each task the period p in ticks (1 to 10,000,000), the cycles c of
 -- one job (1 to 4,000,000,000), and M energies in microjoules per job (1 to 1,000,000)": whether the word at place q,
--- of a kind, is in its range; and "H in microjoules per tick, 0 to 1,000". A range may look at the words before it. A
--- word that is left over may be nothing.
+-- of a kind, is in its range; and "H in microjoules per tick, 0 to 1,000"; and "A below the period", which stands two
+-- places before it. A word that is left over may be nothing.
 unfoldable pub allows : List ℕ → ℕ → Kind → Bool
 allows s q Slack = between 1 1000 (word s q)
 allows s q Idle = between 0 mostIdle (word s q)
@@ -161,6 +170,7 @@ allows s q Rate = between 1 1000000 (word s q)
 allows s q TaskCount = between 1 mostTasks (word s q)
 allows s q Period = between 1 longestPeriod (word s q)
 allows s q Cycles = between 1 4000000000 (word s q)
+allows s q First = ltb (word s q) (word s (q - 2))
 allows s q Energy = between 1 mostEnergy (word s q)
 allows s q LeftOver = false
 

@@ -2,7 +2,7 @@
 // list stands here, by its kind, its range and its place in a layout, and in specs/Words; what is made of it is left to
 // the crates above.
 ghost use mathlib.Core.Path.{_≡_};
-ghost use Prim.Native.Nat.{_^_, _<_, _≤_};
+ghost use Prim.Native.Nat.{_-_, _^_, _<_, _≤_};
 ghost use lib.ListN.{length};
 ghost use Rattle.layout.specs.Words.{headSize, extraSize, mostRates, mostTasks, ratePlace, taskCountPlace, tasksPlace, taskSize, periodPlace, cyclesPlace, energyPlace, headKind, taskKind, allows};
 
@@ -15,6 +15,7 @@ pub enum Kind {
     TaskCount,
     Period,
     Cycles,
+    First,
     Energy,
     LeftOver,
 }
@@ -27,7 +28,7 @@ pub enum Layout {
 // The most tasks and words of the ordinary list.
 pub const MOST_TASKS: usize = 32;
 
-pub const MOST_WORDS: usize = 332;
+pub const MOST_WORDS: usize = 364;
 
 // The largest energy of a job.
 pub const MOST_ENERGY: u64 = 1_000_000;
@@ -51,7 +52,7 @@ fn extra_size(layout: Layout) -> usize
     ensures { λ r. ⌜ r ≡ extraSize layout ⌝ }
 {
     match layout {
-        Layout::Ordinary => 0,
+        Layout::Ordinary => 1,
     }
 }
 
@@ -78,9 +79,23 @@ pub fn task_kind(layout: Layout, k: usize) -> Kind
     if k == 1 {
         return Kind::Cycles;
     }
+    if k == 2 {
+        return Kind::First;
+    }
     match layout {
         Layout::Ordinary => Kind::Energy,
     }
+}
+
+// The place of a task's period, where q is that of its first release. A list may be asked of at any place: before the
+// third it is the first.
+fn own_period(q: usize) -> usize
+    ensures { λ r. ⌜ r ≡ q - 2 ⌝ }
+{
+    if q < 2 {
+        return 0;
+    }
+    q - 2
 }
 
 // Whether the word at place q of a list, of this kind, is in its range.
@@ -97,6 +112,7 @@ pub fn is_allowed(s: &[u32], q: usize, k: Kind) -> bool
         Kind::TaskCount => numbers::is_between(1, 32, w),
         Kind::Period => numbers::is_between(1, 10_000_000, w),
         Kind::Cycles => numbers::is_between(1, 4_000_000_000, w),
+        Kind::First => w < s[own_period(q)] as u64,
         Kind::Energy => numbers::is_between(1, MOST_ENERGY, w),
         Kind::LeftOver => false,
     }

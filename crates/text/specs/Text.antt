@@ -1,4 +1,4 @@
--- The bracketed text (document 01, 'The bracketed text'; document 02, notes 2 and 4): the one text of a script, which
+-- The bracketed text (document 01, 'The bracketed text'; document 02, notes 2, 4 and 6): the one text of a script, which
 -- texts are well formed, where another departs, and the words that a script says. A script is what stands in a text,
 -- form by form; it is not yet a task set: "Ranges are not judged by the reader."
 use Prim.Native.Nat.{ℕ, zero, suc, _+_, _/_, _%_, _^_, _≤_, _<_}
@@ -12,7 +12,7 @@ use mathlib.Core.Option.{Option, none, some}
 use lib.ListN.{length, take}
 use lib.Dec.{ltb}
 use Rattle.numbers.specs.Numbers.{All, each, joined}
-use Rattle.layout.specs.Words.{slack, idle, rateCount, taskCount, rate, period, cycles, energy}
+use Rattle.layout.specs.Words.{slack, idle, rateCount, taskCount, rate, period, cycles, first, energy}
 use Rattle.layout.specs.declared.Layout.the-variants.{Ordinary}
 use Rattle.chips.specs.Chips.{chipRates, chipEnergies, chipIdle}
 use Rattle.chips.specs.declared.Chip.{Chip}
@@ -20,11 +20,12 @@ use Rattle.chips.specs.declared.Chip.the-variants.{Xscale, Ppc405lp}
 
 -- A task's line, and a whole text: "The order is slack, rates, then 1 to 32 tasks", where "a line `(chip xscale)` or
 -- `(chip ppc405lp)` replaces the rates line" and "A line `(idle H)` may follow the slack line". A task's line under a
--- chip has no energies.
+-- chip has no energies, and "Each task may end with `(from A)`".
 pub record TaskLine : Type 0 where
   pub period : ℕ
   pub cycles : ℕ
   pub energies : List ℕ
+  pub first : Option ℕ
 
 pub data Clock : Type 0 where
   rates : List ℕ → Clock
@@ -62,10 +63,15 @@ abbrev pub energyText : List ℕ → List ℕ
 energyText [] = []
 energyText (e ∷ es) = bytes " (energy" ++ (joined spaced (e ∷ es) ++ bytes ")")
 
+-- "Each task may end with `(from A)`"
+abbrev pub firstText : Option ℕ → List ℕ
+firstText none = []
+firstText (some a) = bytes " (from " ++ (decimal a ++ bytes ")")
+
 abbrev pub taskText : TaskLine → List ℕ
 taskText t =
     bytes "(task (period " ++ (decimal (t .period) ++ (bytes ") (cycles " ++ (decimal (t .cycles) ++
-    (bytes ")" ++ (energyText (t .energies) ++ bytes ")\n")))))
+    (bytes ")" ++ (energyText (t .energies) ++ (firstText (t .first) ++ bytes ")\n"))))))
 
 -- "`(chip xscale)` or `(chip ppc405lp)`"
 abbrev pub chipName : Chip → List ℕ
@@ -99,10 +105,10 @@ pub record Between {A : Type 0} (P : A → Type 0) (low high : ℕ) (xs : List A
   pub most : length xs ≤ high
   pub each : All P xs
 
--- "Ranges are not judged by the reader": H may be any number, or absent.
-abbrev pub IdleOk : Option ℕ → Type 0
-IdleOk none = Unit {0}
-IdleOk (some h) = Word h
+-- "Ranges are not judged by the reader": H and A may be any number, or absent.
+abbrev pub MaybeWord : Option ℕ → Type 0
+MaybeWord none = Unit {0}
+MaybeWord (some v) = Word v
 
 -- "Rates number 2 to 8, and each task has as many energies as there are rates": under a chip, none.
 abbrev pub ClockOk : Clock → Type 0
@@ -117,10 +123,11 @@ pub record TaskLineOk (m : ℕ) (t : TaskLine) : Type 0 where
   pub period : Word (t .period)
   pub cycles : Word (t .cycles)
   pub energies : Between Word m m (t .energies)
+  pub first : MaybeWord (t .first)
 
 pub record ScriptOk (s : Script) : Type 0 where
   pub slack : Word (s .slack)
-  pub idle : IdleOk (s .idle)
+  pub idle : MaybeWord (s .idle)
   pub clock : ClockOk (s .clock)
   pub tasks : Between (TaskLineOk (energyCount (s .clock))) 1 32 (s .tasks)
 
@@ -154,8 +161,13 @@ idleOf none (chip c) = chipIdle c
 abbrev pub headWords : Script → List ℕ
 headWords s = s .slack ∷ idleOf (s .idle) (s .clock) ∷ []
 
+-- A is "0 if absent"; "the task record gains A after the cycles"
+abbrev pub firstOf : Option ℕ → ℕ
+firstOf none = 0
+firstOf (some a) = a
+
 abbrev pub extraWords : TaskLine → List ℕ
-extraWords t = []
+extraWords t = firstOf (t .first) ∷ []
 
 -- "Reading gives the ordinary list, expanded": the rates and a task's energies, as they stand in the text or as the
 -- chip has them.
@@ -180,22 +192,23 @@ words s =
 abbrev pub listRates : List ℕ → List ℕ
 listRates s = each (rate Ordinary s) 1 (rateCount Ordinary s)
 
+-- "The writer writes the line only if H is above 0", and of A, "written only if above 0".
+abbrev pub shown : ℕ → Option ℕ
+shown zero = none
+shown (suc v) = some (suc v)
+
 abbrev pub lineOf : List ℕ → ℕ → TaskLine
 lineOf s t = record {
   period = period Ordinary s t;
   cycles = cycles Ordinary s t;
   energies = each (energy Ordinary s t) 1 (rateCount Ordinary s);
+  first = shown (first Ordinary s t);
 }
-
--- "The writer writes the line only if H is above 0."
-abbrev pub shownIdle : ℕ → Option ℕ
-shownIdle zero = none
-shownIdle (suc h) = some (suc h)
 
 unfoldable pub scriptOf : List ℕ → Script
 scriptOf s = record {
   slack = slack s;
-  idle = shownIdle (idle s);
+  idle = shown (idle s);
   clock = rates (listRates s);
   tasks = each (lineOf s) 0 (taskCount Ordinary s);
 }

@@ -5,7 +5,7 @@ use Rattle.layout.specs.declared.Layout.the-variants.{Ordinary}
 use Rattle.layout.proofs.extra_size.Statement.{statement}
 use Rattle.layout.proofs.extra_size.Tie as tie
 
-size : (layout : Layout) → 0 ≡ extraSize layout
+size : (layout : Layout) → 1 ≡ extraSize layout
 unfolding extraKinds
 size Ordinary = refl
 

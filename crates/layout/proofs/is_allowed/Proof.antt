@@ -1,5 +1,6 @@
 -- Whether a word is in its range: the tests of the definition, one for each kind.
 -- Assumes nothing.
+use mathlib.Core.Path.{refl}
 use native.Mathlib.Omega.{arith}
 use Rattle.layout.specs.Words.{allows}
 use borrow.Author.Needs.{needs}
@@ -63,8 +64,23 @@ enum-told-8 c = search needs
 is-between-requires-8 : tie.Need-is-between-requires-8
 is-between-requires-8 c κs = search needs
 
+own-period-requires : tie.Need-own-period-requires
+own-period-requires c κs = search needs
+
+mul-result : tie.Need-mul-result
+mul-result c = search needs
+
+shared-slice-read-result : tie.Need-shared-slice-read-result
+shared-slice-read-result c = search needs
+
+cast-result : tie.Need-cast-result
+cast-result c = omega (arith, c .shared-slice-known3 .given (c .before .own-period .result))
+
 enum-told-9 : tie.Need-enum-told-9
 enum-told-9 c = search needs
+
+enum-told-10 : tie.Need-enum-told-10
+enum-told-10 c = search needs
 
 slack-range : tie.Need-returns
 unfolding allows
@@ -94,13 +110,17 @@ cycles-range : tie.Need-returns-7
 unfolding allows
 cycles-range c = rw (c .before .enum-told7 .given .1) (c .is-between7 .ensures)
 
-energy-range : tie.Need-returns-8
+first-range : tie.Need-returns-8
 unfolding allows
-energy-range c = rw (c .before .enum-told8 .given .1) (c .is-between8 .ensures)
+first-range c = rw (c .before .before .enum-told8 .given .1, c .before .own-period .ensures) refl
 
-left-over : tie.Need-returns-9
+energy-range : tie.Need-returns-9
 unfolding allows
-left-over c = rw (c .enum-told9 .given .1)
+energy-range c = rw (c .before .enum-told9 .given .1) (c .is-between8 .ensures)
+
+left-over : tie.Need-returns-10
+unfolding allows
+left-over c = rw (c .enum-told10 .given .1)
 
 pub is-allowed-spec : {M : Type 1} → statement M
 is-allowed-spec =
@@ -124,8 +144,13 @@ is-allowed-spec =
     enum-told-7
     is-between-requires-7
     enum-told-8
-    is-between-requires-8
+    own-period-requires
+    mul-result
+    shared-slice-read-result
+    cast-result
     enum-told-9
+    is-between-requires-8
+    enum-told-10
     slack-range
     idle-range
     rate-count-range
@@ -133,5 +158,6 @@ is-allowed-spec =
     task-count-range
     period-range
     cycles-range
+    first-range
     energy-range
     left-over)
