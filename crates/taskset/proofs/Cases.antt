@@ -42,51 +42,51 @@ use Rattle.taskset.proofs.Margin.{allowance, margin-reached}
 
 -- "The set list S", with slack G.
 unfoldable pub S : ℕ → List ℕ
-S G = G ∷ 0 ∷ 3 ∷ 2 ∷ 4 ∷ 8 ∷ 2 ∷ 10 ∷ 12 ∷ 4 ∷ 9 ∷ 20 ∷ 15 ∷ 20 ∷ 7 ∷ 15 ∷ 30 ∷ []
+S G = G ∷ 0 ∷ 3 ∷ 2 ∷ 4 ∷ 8 ∷ 2 ∷ 10 ∷ 12 ∷ 0 ∷ 4 ∷ 9 ∷ 20 ∷ 15 ∷ 20 ∷ 0 ∷ 7 ∷ 15 ∷ 30 ∷ []
 
 -- "Highest rate 2, one task of period 30", of c cycles.
 one-task : ℕ → List ℕ
-one-task c = 100 ∷ 0 ∷ 2 ∷ 1 ∷ 2 ∷ 1 ∷ 30 ∷ c ∷ 5 ∷ 6 ∷ []
+one-task c = 100 ∷ 0 ∷ 2 ∷ 1 ∷ 2 ∷ 1 ∷ 30 ∷ c ∷ 0 ∷ 5 ∷ 6 ∷ []
 
 -- Two rates, and a task for each period.
 one-period : ℕ → List ℕ
-one-period p = 100 ∷ 0 ∷ 2 ∷ 2 ∷ 4 ∷ 1 ∷ p ∷ 1 ∷ 1 ∷ 1 ∷ []
+one-period p = 100 ∷ 0 ∷ 2 ∷ 2 ∷ 4 ∷ 1 ∷ p ∷ 1 ∷ 0 ∷ 1 ∷ 1 ∷ []
 
 two-periods : ℕ → ℕ → List ℕ
-two-periods p q = 100 ∷ 0 ∷ 2 ∷ 2 ∷ 4 ∷ 2 ∷ p ∷ 1 ∷ 1 ∷ 1 ∷ q ∷ 1 ∷ 1 ∷ 1 ∷ []
+two-periods p q = 100 ∷ 0 ∷ 2 ∷ 2 ∷ 4 ∷ 2 ∷ p ∷ 1 ∷ 0 ∷ 1 ∷ 1 ∷ q ∷ 1 ∷ 0 ∷ 1 ∷ 1 ∷ []
 
 -- The list that a text with the chip ppc405lp says (document 02, note 2): rates 33, 100, 266 and 333 MHz, one tick a
 -- millisecond, and (note 4) its idle energy of 12 microjoules per tick. At 33 MHz the jobs take 31 and 16 ticks, rounded
 -- up: two of the second do not fit beside the first.
 unfoldable pub chip-set : List ℕ
 chip-set =
-    500 ∷ 12 ∷ 4 ∷ 33000 ∷ 100000 ∷ 266000 ∷ 333000 ∷ 2 ∷ 40 ∷ 1000000 ∷ 589 ∷ 720 ∷ 2400 ∷ 3000 ∷ 20 ∷ 500000 ∷ 304 ∷ 360 ∷ 1200 ∷
-    1500 ∷ []
+    500 ∷ 12 ∷ 4 ∷ 33000 ∷ 100000 ∷ 266000 ∷ 333000 ∷ 2 ∷ 40 ∷ 1000000 ∷ 0 ∷ 589 ∷ 720 ∷ 2400 ∷ 3000 ∷ 20 ∷ 500000 ∷ 0 ∷ 304 ∷ 360 ∷
+    1200 ∷ 1500 ∷ []
 
 -- Two tasks alike.
 even-tasks : List ℕ
-even-tasks = 100 ∷ 0 ∷ 2 ∷ 1 ∷ 3 ∷ 2 ∷ 4 ∷ 3 ∷ 1 ∷ 5 ∷ 4 ∷ 3 ∷ 1 ∷ 5 ∷ []
+even-tasks = 100 ∷ 0 ∷ 2 ∷ 1 ∷ 3 ∷ 2 ∷ 4 ∷ 3 ∷ 0 ∷ 1 ∷ 5 ∷ 4 ∷ 3 ∷ 0 ∷ 1 ∷ 5 ∷ []
 
 -- Slack 100, idle energy h, rates 1 and 9, one task of period 100 and 90 cycles with energies e and 200: its jobs take 90
 -- ticks or 10.
 unfoldable pub slow-or-fast : ℕ → ℕ → List ℕ
-slow-or-fast h e = 100 ∷ h ∷ 2 ∷ 1 ∷ 9 ∷ 1 ∷ 100 ∷ 90 ∷ e ∷ 200 ∷ []
+slow-or-fast h e = 100 ∷ h ∷ 2 ∷ 1 ∷ 9 ∷ 1 ∷ 100 ∷ 90 ∷ 0 ∷ e ∷ 200 ∷ []
 
 -- Idle energy 10, two rates, two tasks whose jobs take 4 and 2 ticks; periods p and q.
 idle-tasks : ℕ → ℕ → ℕ → ℕ → ℕ → ℕ → List ℕ
-idle-tasks p q a b c d = 100 ∷ 10 ∷ 2 ∷ 1 ∷ 2 ∷ 2 ∷ p ∷ 4 ∷ a ∷ b ∷ q ∷ 4 ∷ c ∷ d ∷ []
+idle-tasks p q a b c d = 100 ∷ 10 ∷ 2 ∷ 1 ∷ 2 ∷ 2 ∷ p ∷ 4 ∷ 0 ∷ a ∷ b ∷ q ∷ 4 ∷ 0 ∷ c ∷ d ∷ []
 
 -- Slack 1,000, idle energy h, rates 1 2, one task of period 10 and 10 cycles with energies e and f: its jobs take 10 ticks
 -- or 5. And two such tasks of period 20.
 two-energies : ℕ → ℕ → ℕ → List ℕ
-two-energies h e f = 1000 ∷ h ∷ 2 ∷ 1 ∷ 2 ∷ 1 ∷ 10 ∷ 10 ∷ e ∷ f ∷ []
+two-energies h e f = 1000 ∷ h ∷ 2 ∷ 1 ∷ 2 ∷ 1 ∷ 10 ∷ 10 ∷ 0 ∷ e ∷ f ∷ []
 
 twice : ℕ → ℕ → List ℕ
-twice e f = 1000 ∷ 0 ∷ 2 ∷ 1 ∷ 2 ∷ 2 ∷ 20 ∷ 10 ∷ e ∷ f ∷ 20 ∷ 10 ∷ e ∷ f ∷ []
+twice e f = 1000 ∷ 0 ∷ 2 ∷ 1 ∷ 2 ∷ 2 ∷ 20 ∷ 10 ∷ 0 ∷ e ∷ f ∷ 20 ∷ 10 ∷ 0 ∷ e ∷ f ∷ []
 
 -- Two rates and one task, with a last word that may be missing or be followed by more.
 with-rates : ℕ → ℕ → List ℕ → List ℕ
-with-rates f g rest = 100 ∷ 0 ∷ 2 ∷ f ∷ g ∷ 1 ∷ 10 ∷ 12 ∷ 4 ∷ rest
+with-rates f g rest = 100 ∷ 0 ∷ 2 ∷ f ∷ g ∷ 1 ∷ 10 ∷ 12 ∷ 0 ∷ 4 ∷ rest
 
 -- The planner refuses, whatever is lent, and leaves both lists as they are.
 abbrev pub Declined : List ℕ → Refusal → Type 0
@@ -254,14 +254,14 @@ pub record Cases : Type 0 where
   empty : Declined [] (BadWord 0)
   rates-4-4 : Declined (with-rates 4 4 (9 ∷ [])) (NotAbove 4)
   -- "Two rates, periods 9,999,999 and 10,000,000: refusal 4, place 9. One period of 10,000,000 passes."
-  periods-too-long : Declined (two-periods 9999999 10000000) (TooLong 10)
+  periods-too-long : Declined (two-periods 9999999 10000000) (TooLong 11)
   period-10000000 : SetAfter (idleChecks Ordinary (one-period 10000000) ▹ hyperCheck Ordinary (one-period 10000000)) Ordinary (one-period 10000000) (Good 2 1 10000000)
   -- A rate count of 9 and a task count of 33, refused where they stand; a list that ends before its last word; a word
   -- too many.
   bad-rate-count : Declined (100 ∷ 0 ∷ 9 ∷ 2 ∷ []) (BadWord 2)
   bad-task-count : Declined (100 ∷ 0 ∷ 2 ∷ 2 ∷ 4 ∷ 33 ∷ 10 ∷ []) (BadWord 5)
-  missing : Declined (with-rates 2 4 []) (BadWord 9)
-  left-over : Declined (with-rates 2 4 (9 ∷ 1 ∷ [])) (BadWord 10)
+  missing : Declined (with-rates 2 4 []) (BadWord 10)
+  left-over : Declined (with-rates 2 4 (9 ∷ 1 ∷ [])) (BadWord 11)
   -- A plan list of one word for two tasks: refusal 6 with 2. Two plans that differ in rate numbers alone: the lower
   -- number for task 2.
   plan-list-1 : (plan work : List ℕ) → length plan ≡ 1 → length work ≡ 243 → PlannerGives (S 100) plan work plan work (NotPlanned (TooShort 2))
@@ -285,16 +285,16 @@ pub record Cases : Type 0 where
   -- "10, an energy below H × job time": 900 is not below 10 × 90, and 899 is. With 900 the energy that selection sees is 0.
   idle-equal : (plan work : List ℕ) → length plan ≡ 1 → length work ≡ 82
       → PlannerGives (slow-or-fast 10 900) plan work (1 ∷ []) (replicate 82 0) (Planned 1 90 100 1000)
-  pub idle-above : Declined (slow-or-fast 10 899) (BelowIdle 8)
+  pub idle-above : Declined (slow-or-fast 10 899) (BelowIdle 9)
   -- All that selection sees is 0: the first unit is 1, and the least load decides.
   nothing-left : (plan work : List ℕ) → length plan ≡ 2 → length work ≡ 243
       → PlannerGives (idle-tasks 10 10 40 20 40 20) plan work (2 ∷ 2 ∷ []) (replicate 243 0) (Planned 1 4 10 100)
   -- "with the first such energy's place": tasks in order, rates in order; no plan would use the second task's 39, as its
   -- other rate is cheaper. "after 3, before 4, and never by walk".
-  first-task : Declined (idle-tasks 10 10 40 19 39 20) (BelowIdle 9)
-  second-task : Declined (idle-tasks 10 10 40 20 39 20) (BelowIdle 12)
-  before-4 : Declined (idle-tasks 9999999 10000000 40 20 39 20) (BelowIdle 12)
-  after-4 : Declined (idle-tasks 9999999 10000000 40 20 40 20) (TooLong 10)
+  first-task : Declined (idle-tasks 10 10 40 19 39 20) (BelowIdle 10)
+  second-task : Declined (idle-tasks 10 10 40 20 39 20) (BelowIdle 14)
+  before-4 : Declined (idle-tasks 9999999 10000000 40 20 39 20) (BelowIdle 14)
+  after-4 : Declined (idle-tasks 9999999 10000000 40 20 40 20) (TooLong 11)
   not-by-walk : WalkAnswers (idle-tasks 10 10 40 20 39 20) (1 ∷ 1 ∷ []) (Kept 8 2 0)
   -- "H in microjoules per tick, 0 to 1,000".
   idle-1001 : Declined (slow-or-fast 1001 910) (BadWord 1)
@@ -368,12 +368,12 @@ cases =
       slack-0 = set-refused (S 0) (BadWord 0) refl;
       empty = set-refused [] (BadWord 0) refl;
       rates-4-4 = set-refused (with-rates 4 4 (9 ∷ [])) (NotAbove 4) refl;
-      periods-too-long = set-refused (two-periods 9999999 10000000) (TooLong 10) refl;
+      periods-too-long = set-refused (two-periods 9999999 10000000) (TooLong 11) refl;
       period-10000000 = answered (one-period 10000000) (Good 2 1 10000000) refl;
       bad-rate-count = set-refused (100 ∷ 0 ∷ 9 ∷ 2 ∷ []) (BadWord 2) refl;
       bad-task-count = set-refused (100 ∷ 0 ∷ 2 ∷ 2 ∷ 4 ∷ 33 ∷ 10 ∷ []) (BadWord 5) refl;
-      missing = set-refused (with-rates 2 4 []) (BadWord 9) refl;
-      left-over = set-refused (with-rates 2 4 (9 ∷ 1 ∷ [])) (BadWord 10) refl;
+      missing = set-refused (with-rates 2 4 []) (BadWord 10) refl;
+      left-over = set-refused (with-rates 2 4 (9 ∷ 1 ∷ [])) (BadWord 11) refl;
       short-plan = plan-refused (S 100) 3 2 30 refl (1 ∷ []) 1 refl;
       long-plan = plan-refused (S 100) 3 2 30 refl (1 ∷ 1 ∷ 1 ∷ []) 2 refl;
       long-bad-plan = plan-refused (S 100) 3 2 30 refl (1 ∷ 1 ∷ 9 ∷ 9 ∷ []) 2 refl;
@@ -395,13 +395,13 @@ cases =
           (le-by-compare _ _ tt) (le-by-compare _ _ tt) refl refl refl refl refl refl;
       idle-equal = planned (slow-or-fast 10 900) 2 1 100 refl (1 ∷ []) 0 1 90 1000
           (le-by-compare _ _ tt) (le-by-compare _ _ tt) refl refl refl refl refl refl;
-      idle-above = set-refused (slow-or-fast 10 899) (BelowIdle 8) refl;
+      idle-above = set-refused (slow-or-fast 10 899) (BelowIdle 9) refl;
       nothing-left = planned (idle-tasks 10 10 40 20 40 20) 2 2 10 refl (2 ∷ 2 ∷ []) 0 1 4 100
           (le-by-compare _ _ tt) (le-by-compare _ _ tt) refl refl refl refl refl refl;
-      first-task = set-refused (idle-tasks 10 10 40 19 39 20) (BelowIdle 9) refl;
-      second-task = set-refused (idle-tasks 10 10 40 20 39 20) (BelowIdle 12) refl;
-      before-4 = set-refused (idle-tasks 9999999 10000000 40 20 39 20) (BelowIdle 12) refl;
-      after-4 = set-refused (idle-tasks 9999999 10000000 40 20 40 20) (TooLong 10) refl;
+      first-task = set-refused (idle-tasks 10 10 40 19 39 20) (BelowIdle 10) refl;
+      second-task = set-refused (idle-tasks 10 10 40 20 39 20) (BelowIdle 14) refl;
+      before-4 = set-refused (idle-tasks 9999999 10000000 40 20 39 20) (BelowIdle 14) refl;
+      after-4 = set-refused (idle-tasks 9999999 10000000 40 20 40 20) (TooLong 11) refl;
       not-by-walk = (walks (idle-tasks 10 10 40 20 39 20) 2 2 10 refl (1 ∷ 1 ∷ []) refl, refl);
       idle-1001 = set-refused (slow-or-fast 1001 910) (BadWord 1) refl;
       margin-31 = by-33-64;
