@@ -1,5 +1,6 @@
--- The finite walk of periodic tasks to L says 'kept' exactly where they keep every deadline for ever, and then its busy
--- ticks are the load and its idle ticks are the rest of L.
+-- A finite walk says 'kept' exactly where no tick up to its last misses, so wherever its tasks keep every deadline for
+-- ever, and then each of its ticks is busy or idle. That of periodic tasks to L says it exactly where they keep every
+-- deadline for ever, and then its busy ticks are the load.
 -- Assumes nothing.
 use Prim.Native.Nat.{ℕ, zero, suc, _+_, _≤_, _<_}
 use mathlib.Core.Path.{_≡_, refl, sym, ap, subst, _∙_}
@@ -47,25 +48,28 @@ module _ (ks : List Task) (L : ℕ) where
   pub misses-none-kept : ((t : ℕ) → t ≤ L → misses ks t ≡ false) → walk ks L ≡ keptTo ks L
   misses-none-kept h = keeps-from ks 0 L (λ u a b. h u (omega arith)) ∙ ap (keptTo ks) (zero-add L)
 
-  module _ (pos : 0 < L) (regular : All (Regular L) ks) where
-    pub kept-iff-keeps : IsKept (walk ks L) ↔ KeepsForEver ks
-    kept-iff-keeps = (
-      λ h. keeps-iff-fits L ks pos regular .1 (kept-fits L ks pos regular (kept-misses-none h)),
-      λ h. rw (misses-none-kept (λ t l. h t)) tt,
-    )
+  pub keeps-kept : KeepsForEver ks → IsKept (walk ks L)
+  keeps-kept h = rw (misses-none-kept (λ t l. h t)) tt
 
-    -- The counts of a kept walk.
-    pub record Counts (busy idle : ℕ) : Type 0 where
-      pub busy-is-load : busy ≡ sum (load L) ks
-      pub rest-is-idle : busy + idle ≡ L
+  -- The counts of a kept walk.
+  module _ (busy idle preempted : ℕ) (e : walk ks L ≡ kept busy idle preempted) where
+    kept-none : (t : ℕ) → t ≤ L → misses ks t ≡ false
+    kept-none = kept-misses-none (rw e tt)
 
-    pub kept-counts : (busy idle preempted : ℕ) → walk ks L ≡ kept busy idle preempted → Counts busy idle
-    kept-counts busy idle preempted e =
-        let none = kept-misses-none (rw e tt) in
-        let f = misses-none-kept none in
-        let b : busy ≡ over (busyAt ks) 0 L = cc in
+    busy-is : busy ≡ over (busyAt ks) 0 L
+    busy-is = let f = misses-none-kept kept-none in cc
+
+    pub busy-and-idle : busy + idle ≡ L
+    busy-and-idle =
+        let f = misses-none-kept kept-none in
         let i : idle ≡ over (idleAt ks) 0 L = cc in
-        record {
-          busy-is-load = b ∙ kept-busy L ks pos regular none;
-          rest-is-idle = omega (arith, busy-or-idle ks 0 L);
-        }
+        omega (arith, busy-is, busy-or-idle ks 0 L)
+
+    pub busy-is-load : 0 < L → All (Regular L) ks → busy ≡ sum (load L) ks
+    busy-is-load pos regular = busy-is ∙ kept-busy L ks pos regular kept-none
+
+  pub kept-iff-keeps : 0 < L → All (Regular L) ks → IsKept (walk ks L) ↔ KeepsForEver ks
+  kept-iff-keeps pos regular = (
+    λ h. keeps-iff-fits L ks pos regular .1 (kept-fits L ks pos regular (kept-misses-none h)),
+    keeps-kept,
+  )

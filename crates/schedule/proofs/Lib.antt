@@ -1,9 +1,11 @@
+pub mod ByPlace
 pub mod Picked
 pub mod Demand
 pub mod State
 pub mod Capacity
 pub mod Done
 pub mod Periodic
+pub mod Offset
 pub mod Finite
 pub mod Stretch
 pub mod Alike

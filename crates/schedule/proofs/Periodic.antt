@@ -16,6 +16,7 @@ use Rattle.schedule.specs.Walk.{Task, misses, KeepsForEver, periodic, ta
 use Rattle.schedule.specs.Counted.{busyAt}
 use Rattle.schedule.proofs.Demand.{Shares, load, all-sporadic}
 use Rattle.schedule.proofs.Capacity.{fits-keeps}
+use Rattle.schedule.proofs.ByPlace.{all-tasks}
 use Rattle.schedule.proofs.Done.{releasedBefore, all-done, busy-or-idle}
 
 -- A task that releases a full job at each multiple of its period and at no other tick, of which L is a multiple of the
@@ -120,11 +121,6 @@ module _ (L : ℕ) (p c : ℕ → ℕ) where
   taskAt i = periodic (p i) (c i)
 
   pub tasks-regular : (i n : ℕ) → ((j : ℕ) → i ≤ j → j < i + n → (0 < p j) × (L % p j ≡ 0)) → All (Regular L) (tasksFrom taskAt i n)
-  tasks-regular i zero h = tt
-  tasks-regular i (suc n) h =
-      let here = h i (omega arith) (omega arith) in
-      (record { positive = here .0; multiple = here .1; releases = λ t. refl }, tasks-regular (suc i) n (λ j a b. h j (omega arith) (omega arith)))
-
-  pub tasks-load : (i n : ℕ) → sum (load L) (tasksFrom taskAt i n) ≡ over (λ j. L / p j * c j) i n
-  tasks-load i zero = refl
-  tasks-load i (suc n) = ap (λ (x : ℕ). L / p i * c i + x) (tasks-load (suc i) n)
+  tasks-regular i n h =
+      all-tasks (Regular L) taskAt i n
+      (λ j a b. let here = h j a b in record { positive = here .0; multiple = here .1; releases = λ t. refl })

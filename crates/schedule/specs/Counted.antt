@@ -1,5 +1,5 @@
 -- The walk with a last tick and its counts (document 01, 'The walk'). The last tick is a parameter: L for document 01's
--- call.
+-- call, and of document 02's note 6 "it goes to 2 × L" where some first release is above 0.
 use Prim.Native.Nat.{ℕ, zero, suc}
 use mathlib.Core.Path.{_≡_, refl}
 use mathlib.Core.Bool.{Bool, true, false, cond, not, _&&_}
@@ -7,7 +7,7 @@ use mathlib.Core.List.{List, [], _∷_, map}
 use lib.Dec.{ltb, eqb}
 use lib.ListN.{length}
 use Rattle.numbers.specs.Numbers.{over}
-use Rattle.schedule.specs.Walk.{Task, periodic, Job, release, pick, before, misses}
+use Rattle.schedule.specs.Walk.{Task, periodic, offset, Job, release, pick, before, misses}
 
 -- "'missed', that tick and the task"; "'kept' and three counts: busy ticks, idle ticks, and preemptions".
 pub data Outcome : Type 0 where
@@ -85,3 +85,21 @@ lowest-late = refl
 -- A load of exactly L is kept, with no idle tick.
 pub full-load : walk (periodic 2 1 ∷ periodic 4 2 ∷ []) 4 ≡ kept 4 0 1
 full-load = refl
+
+-- First releases, to 2 × L. Periods 2 and 2, job times 1 and 2, first releases 0 and 1: 'kept' though the load of 3 is
+-- above L = 2, as an "unfinished job whose deadline lies past it is no miss".
+pub kept-over-load : walk (offset 0 2 1 ∷ offset 1 2 2 ∷ []) 4 ≡ kept 4 0 0
+kept-over-load = refl
+
+-- One period on it misses: task 2's second job, of tick 3, is due at 5.
+pub missed-later : walk (offset 0 2 1 ∷ offset 1 2 2 ∷ []) 6 ≡ missed 5 2
+missed-later = refl
+
+-- Periods 2 and 4, job times 1 and 2, first releases 1 and 1: task 1 preempts task 2 in ticks 3 and 7. In tick 5 it does
+-- not: task 2's job ended in tick 4, though tick 5 releases the next.
+pub asked-before-releases : walk (offset 1 2 1 ∷ offset 1 4 2 ∷ []) 8 ≡ kept 7 1 2
+asked-before-releases = refl
+
+-- A job is due one period after its own release: task 2's of tick 2 at 6, as task 1's, and not at 4, so that it waits.
+pub due-from-release : walk (offset 0 6 3 ∷ offset 2 4 1 ∷ []) 24 ≡ kept 18 6 0
+due-from-release = refl

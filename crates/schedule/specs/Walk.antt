@@ -1,9 +1,9 @@
 -- The endless walk (document 01, 'The walk'): earliest deadline first, tick by tick, with no last tick.
-use Prim.Native.Nat.{ℕ, zero, suc, pred, _+_, _%_}
+use Prim.Native.Nat.{ℕ, zero, suc, pred, _+_, _-_, _%_}
 use mathlib.Core.Path.{_≡_}
 use mathlib.Core.Bool.{Bool, false, cond, not, _&&_, _||_}
 use mathlib.Core.List.{List, [], _∷_, map}
-use lib.Dec.{ltb, eqb}
+use lib.Dec.{ltb, leb, eqb}
 
 -- A task, as far as the walk goes: its period; its job time, the most ticks that a job of it takes, by which theorems
 -- speak of its load; and for each tick the ticks of the job that it releases there, 0 where it releases none.
@@ -16,6 +16,11 @@ pub record Task : Type 0 where
 -- next job is released", each time with "the full job time".
 abbrev pub periodic : ℕ → ℕ → Task
 periodic p c = record { period = p; time = c; arrives = λ t. cond (eqb (t % p) 0) c 0 }
+
+-- Document 02, note 6: "each task's first release falls at its A", here a, and "releases fall at A plus multiples of the
+-- period".
+abbrev pub offset : ℕ → ℕ → ℕ → Task
+offset a p c = record { period = p; time = c; arrives = λ t. cond (leb a t && eqb ((t - a) % p) 0) c 0 }
 
 -- The tasks k i, k (i + 1), and so on, n of them.
 abbrev pub tasksFrom : (ℕ → Task) → ℕ → ℕ → List Task
