@@ -1,9 +1,11 @@
 -- The cases of document 01's 'Either side of an edge', gathered in one record and proved together of the definitions:
 -- every marked one, each of the call's whole answer, and the unmarked refusals of a set; with document 02's. Of its note
--- 4: "Later places move up by one; document 01's example lists .. hold 0 there", so that a quoted place 3 is 4 here.
+-- 4: "Later places move up by one; document 01's example lists .. hold 0 there", so that a quoted place 3 is 4 here; and
+-- of its note 6, A is 0 "in document 01's examples", so that a quoted place 9 is 11.
 -- Assumes nothing.
 use Prim.Native.Nat.{ℕ, _+_, _*_, _^_, _≤_, _<_}
 use mathlib.Core.Path.{_≡_, refl, sym, _∙_, subst}
+use mathlib.Core.Bool.{true, false, true≢false}
 use mathlib.Core.Option.{none, some}
 use mathlib.Core.List.{List, [], _∷_, append-nil}
 use native.Mathlib.Bridge.{le-by-compare, IsLe}
@@ -13,14 +15,15 @@ use lib.Seq.{take-all}
 use Rattle.numbers.specs.Numbers.{total, gcdIn, gcd, lcm, running}
 use Rattle.numbers.proofs.Search.{seek}
 use Rattle.numbers.proofs.Powers.{exponent}
+use Rattle.schedule.specs.Walk.{KeepsForEver}
 use Rattle.selection.specs.Plan.{planLoad, fastest, Fitting}
 use Rattle.selection.proofs.Fastest.{fastest-fits, fastest-least}
 use Rattle.selection.proofs.Table.{leastOf, firstOf, via, best}
 use Rattle.selection.proofs.Choose.{spend, cell}
 use Rattle.selection.proofs.Compute.{trace, leastEnergy, choose, usedFrom, usedExponent, planned-is}
-use Rattle.layout.specs.Words.{slack, rateCount, taskCount, headKinds, extraKinds, kindIn, headKind, taskKind, kindAt, allows}
+use Rattle.layout.specs.Words.{slack, rateCount, taskCount, first, headKinds, extraKinds, kindIn, headKind, taskKind, kindAt, allows}
 use Rattle.layout.specs.declared.Layout.the-variants.{Ordinary}
-use Rattle.taskset.specs.Quantities.{hyperPeriod, problem, jobsEnergy, reportedEnergy, workNeeded}
+use Rattle.taskset.specs.Quantities.{allZero, hyperPeriod, problem, walkTasks, jobsEnergy, reportedEnergy, workNeeded}
 use Rattle.taskset.specs.Refusals.{number, second, Check, Accepts, _▹_, wordChecks, idleChecks, hyperCheck}
 use Rattle.taskset.specs.Refusals.{workCheck, roomCheck, noneCheck, planCheck, readyChecks, plannerChecks}
 use Rattle.taskset.specs.Refusals.{walkChecks}
@@ -37,6 +40,7 @@ use Rattle.taskset.proofs.Verdict.{isBad, isFall, isOver, isBelow, hasB
 use Rattle.taskset.proofs.Verdict.{checkedOf, coveredOf, checked-answers, covered-answers}
 use Rattle.taskset.proofs.PlanVerdict.{isUnfit, planVerdict, PlanSays, plan-verdict-says}
 use Rattle.taskset.proofs.Sets.{IsSet, set-of, falling}
+use Rattle.taskset.proofs.Released.{zero-each}
 use Rattle.taskset.proofs.DemandThree.{answer-owes, walk-owes}
 use Rattle.taskset.proofs.Margin.{allowance, margin-reached}
 
@@ -87,6 +91,10 @@ twice e f = 1000 ∷ 0 ∷ 2 ∷ 1 ∷ 2 ∷ 2 ∷ 20 ∷ 10 ∷ 0 ∷ e ∷ f �
 -- Two rates and one task, with a last word that may be missing or be followed by more.
 with-rates : ℕ → ℕ → List ℕ → List ℕ
 with-rates f g rest = 100 ∷ 0 ∷ 2 ∷ f ∷ g ∷ 1 ∷ 10 ∷ 12 ∷ 0 ∷ 4 ∷ rest
+
+-- Two rates, and two tasks whose jobs take 1 tick and 2 at the slower, with periods p and q, first released at a and b.
+with-firsts : ℕ → ℕ → ℕ → ℕ → List ℕ
+with-firsts p q a b = 100 ∷ 0 ∷ 2 ∷ 1 ∷ 2 ∷ 2 ∷ p ∷ 1 ∷ a ∷ 5 ∷ 6 ∷ q ∷ 2 ∷ b ∷ 5 ∷ 6 ∷ []
 
 -- The planner refuses, whatever is lent, and leaves both lists as they are.
 abbrev pub Declined : List ℕ → Refusal → Type 0
@@ -209,6 +217,12 @@ module _ (s : List ℕ) where
           let bad = subst (PlanSays (rateCount Ordinary s) (taskCount Ordinary s) P) v (plan-verdict-says (rateCount Ordinary s) (taskCount Ordinary s) P) in
           refuses-next walked (planCheck Ordinary s P) k (walk-answered (Good m n l) e .0) bad
 
+-- With every first release 0, a plan whose walk is kept keeps every deadline for ever.
+kept-keeps : (s P : List ℕ) (busy idle preempted : ℕ) → allZero (first Ordinary s) (taskCount Ordinary s) ≡ true
+    → WalkAnswers s P (Kept busy idle preempted) → Keeps s P
+kept-keeps s P busy idle preempted zero w =
+    walk-owes s P (Kept busy idle preempted) w .together (zero-each (first Ordinary s) (taskCount Ordinary s) zero) .0
+
 -- ---- a plan given, with just the words needed lent, and its promise
 abbrev Given : (s P : List ℕ) (unit load hyper energy : ℕ) → Type 0
 Given s P unit load hyper energy =
@@ -225,10 +239,10 @@ module _ (s P : List ℕ) (unit load hyper energy : ℕ) (size : length P ≤ ta
       (given plan work (length-replicate (taskCount Ordinary s) 0) (length-replicate (workNeeded s) 0)))
 
   -- A plan whose walk is kept, with an energy that is just the margin below: it has the least.
-  least-by-margin : (Q : List ℕ) (busy idle preempted : ℕ) → WalkAnswers s Q (Kept busy idle preempted)
+  least-by-margin : (Q : List ℕ) (busy idle preempted : ℕ) → allZero (first Ordinary s) (taskCount Ordinary s) ≡ true
+      → WalkAnswers s Q (Kept busy idle preempted)
       → energy ≡ reportedEnergy s Q + margin s unit → IsLeast s Q (reportedEnergy s Q)
-  least-by-margin Q busy idle preempted w =
-      margin-reached s P unit energy promised Q (walk-owes s Q (Kept busy idle preempted) w .0)
+  least-by-margin Q busy idle preempted zero w = margin-reached s P unit energy promised Q (kept-keeps s Q busy idle preempted zero w)
 
 -- ---- the cases
 pub record Cases : Type 0 where
@@ -321,6 +335,21 @@ pub record Cases : Type 0 where
   unit-32 : (plan work : List ℕ) → length plan ≡ 1 → length work ≡ 10
       → PlannerGives (two-energies 0 33 33) plan work (2 ∷ []) (replicate 10 0) (Planned 32 5 10 33)
   allowances : (allowance (two-energies 0 33 33) 33 ≡ 16) × (margin (two-energies 0 33 33) 32 ≡ 31) × (allowance (two-energies 0 33 64) 64 ≡ 32)
+  -- Document 02, note 6. "A below the period", of its own task: 1 and 3 with periods 2 and 4; 2 and 4 are "refusal 2".
+  first-1 : SetAfter (idleChecks Ordinary (with-firsts 2 4 1 3) ▹ hyperCheck Ordinary (with-firsts 2 4 1 3)) Ordinary (with-firsts 2 4 1 3) (Good 2 2 4)
+  first-2 : Declined (with-firsts 2 4 2 3) (BadWord 8)
+  first-4 : Declined (with-firsts 2 4 1 4) (BadWord 13)
+  -- "it goes to 2 × L. If some A is above 0, 'kept' means just that stretch": periods 2 and 2, first releases 0 and 1, are
+  -- kept with a load of 3, above L = 2, and the plan does not keep every deadline for ever, from there or together.
+  walk-over-load : WalkAnswers (with-firsts 2 2 0 1) (1 ∷ 1 ∷ []) (Kept 4 0 0)
+  over-load : (planLoad (problem (with-firsts 2 2 0 1)) (1 ∷ 1 ∷ []) ≡ 3) × (hyperPeriod Ordinary (with-firsts 2 2 0 1) ≡ 2)
+  not-for-ever : (KeepsForEver (walkTasks Ordinary (with-firsts 2 2 0 1) (1 ∷ 1 ∷ [])) → ⊥) × (Keeps (with-firsts 2 2 0 1) (1 ∷ 1 ∷ []) → ⊥)
+  -- 'Unfinished' is asked before the tick's releases: 2 preemptions, where it would be 3 after them. "If all are 0 it ends
+  -- at L as before": in 4 ticks.
+  walk-asked-before : WalkAnswers (with-firsts 2 4 1 1) (1 ∷ 1 ∷ []) (Kept 7 1 2)
+  walk-together : WalkAnswers (with-firsts 2 4 0 0) (1 ∷ 1 ∷ []) (Kept 4 0 1)
+  -- With both released together the first set misses where it has to: at L.
+  missed-together : WalkAnswers (with-firsts 2 2 0 0) (1 ∷ 1 ∷ []) (Missed 2 2)
   -- A chip's list: its plan, and the walk of it.
   pub planned-chip : (plan work : List ℕ) → length plan ≡ 2 → length work ≡ 51
       → PlannerGives chip-set plan work (2 ∷ 2 ∷ []) (replicate 51 0) (Planned 128 20 40 1680)
@@ -339,7 +368,7 @@ pub record Cases : Type 0 where
   empty-plan : WalkAnswers (S 100) [] (NotWalked (BadPlan 0))
 
 pub cases : Cases
-unfolding S one-task one-period two-periods chip-set even-tasks with-rates slow-or-fast idle-tasks two-energies twice checkedOf coveredOf shapeOf coverOf afterShape isBad isFall isOver isBelow hasBelow headKinds extraKinds kindIn kindAt headKind taskKind allows isUnfit planVerdict seek total gcdIn gcd lcm running fastest exponent usedExponent usedFrom leastEnergy cell best leastOf firstOf via spend trace choose IsLe
+unfolding S one-task one-period two-periods chip-set even-tasks with-rates slow-or-fast idle-tasks two-energies twice with-firsts checkedOf coveredOf shapeOf coverOf afterShape isBad isFall isOver isBelow hasBelow headKinds extraKinds kindIn kindAt headKind taskKind allows isUnfit planVerdict seek total gcdIn gcd lcm running fastest exponent usedExponent usedFrom leastEnergy cell best leastOf firstOf via spend trace choose IsLe
 cases =
     let by-33-64 : Given (two-energies 0 33 64) (2 ∷ []) 32 5 10 64
     = planned (two-energies 0 33 64) 2 1 10 refl (2 ∷ []) 5 32 5 64
@@ -386,8 +415,8 @@ cases =
         refl,
         refl,
         refl,
-        walk-owes (slow-or-fast 10 910) (2 ∷ []) (Kept 10 90 0)
-            (walks (slow-or-fast 10 910) 2 1 100 refl (2 ∷ []) refl, refl) .0,
+        kept-keeps (slow-or-fast 10 910) (2 ∷ []) 10 90 0 refl
+            (walks (slow-or-fast 10 910) 2 1 100 refl (2 ∷ []) refl, refl),
       );
       jobs-alone-false = λ h. let bound : 1000 * 910 ≤ 1100 * 200 = h in omega arith;
       jobs-alone-above = λ h. let bound : 910 ≤ 200 = h in omega arith;
@@ -407,37 +436,51 @@ cases =
       margin-31 = by-33-64;
       margin-31-reached = (
         refl,
-        least-by-margin (two-energies 0 33 64) (2 ∷ []) 32 5 10 64 (le-by-compare _ _ tt) by-33-64 (1 ∷ []) 10 0 0
+        least-by-margin (two-energies 0 33 64) (2 ∷ []) 32 5 10 64 (le-by-compare _ _ tt) by-33-64 (1 ∷ []) 10 0 0 refl
             (walks (two-energies 0 33 64) 2 1 10 refl (1 ∷ []) refl, refl) refl,
       );
       idle-margin = by-43-69;
       idle-margin-reached = (
         refl,
-        least-by-margin (two-energies 1 43 69) (2 ∷ []) 32 5 10 74 (le-by-compare _ _ tt) by-43-69 (1 ∷ []) 10 0 0
+        least-by-margin (two-energies 1 43 69) (2 ∷ []) 32 5 10 74 (le-by-compare _ _ tt) by-43-69 (1 ∷ []) 10 0 0 refl
             (walks (two-energies 1 43 69) 2 1 10 refl (1 ∷ []) refl, refl) refl,
       );
       unit-2 = by-3-4;
       unit-2-above =
           let cheaper : IsLeast (two-energies 0 3 4) (1 ∷ []) 3
-          = least-by-margin (two-energies 0 3 4) (2 ∷ []) 2 5 10 4 (le-by-compare _ _ tt) by-3-4 (1 ∷ []) 10 0 0
+          = least-by-margin (two-energies 0 3 4) (2 ∷ []) 2 5 10 4 (le-by-compare _ _ tt) by-3-4 (1 ∷ []) 10 0 0 refl
           (walks (two-energies 0 3 4) 2 1 10 refl (1 ∷ []) refl, refl) refl in
           (cheaper, (λ l. let below : 4 ≤ 3 = l .least (1 ∷ []) (cheaper .keeps) in omega arith));
       both-tasks = by-twice;
       both-tasks-reached = (
         refl,
-        least-by-margin (twice 3 4) (2 ∷ 2 ∷ []) 2 10 20 8 (le-by-compare _ _ tt) by-twice (1 ∷ 1 ∷ []) 20 0 0
+        least-by-margin (twice 3 4) (2 ∷ 2 ∷ []) 2 10 20 8 (le-by-compare _ _ tt) by-twice (1 ∷ 1 ∷ []) 20 0 0 refl
             (walks (twice 3 4) 2 2 20 refl (1 ∷ 1 ∷ []) refl, refl) refl,
       );
       least-41 = promised (S 100) (2 ∷ 1 ∷ []) 1 29 30 41 (le-by-compare _ _ tt) of-S .least refl;
       unit-32 = planned (two-energies 0 33 33) 2 1 10 refl (2 ∷ []) 5 32 5 33
           (le-by-compare _ _ tt) (le-by-compare _ _ tt) refl refl refl refl refl refl;
       allowances = (refl, refl, refl);
+      first-1 = answered (with-firsts 2 4 1 3) (Good 2 2 4) refl;
+      first-2 = set-refused (with-firsts 2 4 2 3) (BadWord 8) refl;
+      first-4 = set-refused (with-firsts 2 4 1 4) (BadWord 13) refl;
+      walk-over-load = (walks (with-firsts 2 2 0 1) 2 2 2 refl (1 ∷ 1 ∷ []) refl, refl);
+      over-load = (refl, refl);
+      not-for-ever = (
+        (λ h. let late : true ≡ false = h 5 in absurd (true≢false late)),
+        (λ k.
+            let together : WalkAnswers (with-firsts 2 2 0 0) (1 ∷ 1 ∷ []) (Missed 2 2) = (walks (with-firsts 2 2 0 0) 2 2 2 refl (1 ∷ 1 ∷ []) refl, refl) in
+            walk-owes (with-firsts 2 2 0 0) (1 ∷ 1 ∷ []) (Missed 2 2) together .from-0 (k .for-ever)),
+      );
+      walk-asked-before = (walks (with-firsts 2 4 1 1) 2 2 4 refl (1 ∷ 1 ∷ []) refl, refl);
+      walk-together = (walks (with-firsts 2 4 0 0) 2 2 4 refl (1 ∷ 1 ∷ []) refl, refl);
+      missed-together = (walks (with-firsts 2 2 0 0) 2 2 2 refl (1 ∷ 1 ∷ []) refl, refl);
       planned-chip = planned chip-set 4 2 40 refl (2 ∷ 2 ∷ []) 7 128 20 1680
           (le-by-compare _ _ tt) (le-by-compare _ _ tt) refl refl refl refl refl refl;
       walk-chip = (walks chip-set 4 2 40 refl (2 ∷ 2 ∷ []) refl, refl);
-      plan-3-3 = (refl, refl, walk-owes (S 100) (3 ∷ 3 ∷ []) (Kept 12 18 0) (walks (S 100) 3 2 30 refl (3 ∷ 3 ∷ []) refl, refl) .0);
+      plan-3-3 = (refl, refl, kept-keeps (S 100) (3 ∷ 3 ∷ []) 12 18 0 refl (walks (S 100) 3 2 30 refl (3 ∷ 3 ∷ []) refl, refl));
       plan-3-3-stopped = λ unit p.
-          let other : Keeps (S 100) (2 ∷ 1 ∷ []) = walk-owes (S 100) (2 ∷ 1 ∷ []) (Kept 29 1 1) (walks (S 100) 3 2 30 refl (2 ∷ 1 ∷ []) refl, refl) .0 in
+          let other : Keeps (S 100) (2 ∷ 1 ∷ []) = kept-keeps (S 100) (2 ∷ 1 ∷ []) 29 1 1 refl (walks (S 100) 3 2 30 refl (2 ∷ 1 ∷ []) refl, refl) in
           let bound : 1000 * 120 ≤ 1100 * 41 = p .within (2 ∷ 1 ∷ []) other in
           omega arith;
       returns = (refl, refl);

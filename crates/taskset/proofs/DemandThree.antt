@@ -5,7 +5,7 @@
 -- Assumes nothing.
 use Prim.Native.Nat.{ℕ, _+_, _-_, _*_, _^_, _≤_, _<_}
 use native.Mathlib.Nat.{mul-add, mul-le-mul-right}
-use mathlib.Core.Path.{_≡_, refl, sym, subst, _∙_}
+use mathlib.Core.Path.{_≡_, refl, sym, ap, subst, _∙_}
 use mathlib.Core.Bool.{true, false, true≢false}
 use mathlib.Core.List.{List, [], _∷_}
 use mathlib.Core.Logic.{inl, inr, ⊎-elim, _↔_}
@@ -14,16 +14,16 @@ use lib.ListN.{length, getD}
 use Rattle.numbers.specs.Numbers.{between}
 use Rattle.numbers.proofs.Powers.{power-positive}
 use Rattle.numbers.proofs.Tests.{bool-cases, lt-or-le, between-true, true-between}
-use Rattle.schedule.specs.Walk.{KeepsForEver}
+use Rattle.schedule.specs.Walk.{Task, KeepsForEver}
 use Rattle.schedule.specs.Counted.{Outcome, IsKept, walk, kept, missed}
-use Rattle.schedule.proofs.Finite.{kept-iff-keeps, kept-counts}
+use Rattle.schedule.proofs.Finite.{kept-misses-none, keeps-kept, kept-iff-keeps, busy-and-idle, busy-is-load}
 use Rattle.selection.specs.Plan.{Fitting, IsPlan, IsPlanned, planLoad, planEnergy}
 use Rattle.selection.proofs.Bounds.{planned-within, within-margin}
-use Rattle.layout.specs.Words.{slack, idle, rateCount, taskCount}
-use Rattle.taskset.specs.Quantities.{hyperPeriod, problem, endlessTasks, walkTasks, reportedEnergy}
+use Rattle.layout.specs.Words.{slack, idle, rateCount, taskCount, first}
+use Rattle.taskset.specs.Quantities.{hyperPeriod, problem, endlessTasks, tasksWith, walkTasks, lastTick, reportedEnergy}
 use Rattle.taskset.specs.Refusals.{number, second, Check, Accepts, Refuses, _▹_, NoneOk, PlanFault, IsBadPlan, noneCheck, readyChecks, walkChecks}
-use Rattle.taskset.specs.Calls.{plannerValues, Selected, PlannerGives, outcomeValues, WalkAnswers}
-use Rattle.taskset.specs.DemandThree.{Keeps, margin, PlanPromise, NoneKeeps, PlannerOwes, WalkOwes}
+use Rattle.taskset.specs.Calls.{plannerValues, Selected, PlannerGives, outcomeValues, walkOf, WalkAnswers}
+use Rattle.taskset.specs.DemandThree.{Keeps, margin, PlanPromise, NoneKeeps, PlannerOwes, Together, WalkOwes}
 use Rattle.taskset.specs.declared.PlannerAnswer.{PlannerAnswer}
 use Rattle.taskset.specs.declared.PlannerAnswer.the-variants.{Planned, Refused as NotPlanned}
 use Rattle.taskset.specs.declared.WalkAnswer.{WalkAnswer}
@@ -32,6 +32,7 @@ use Rattle.taskset.proofs.Checks.{no-plan-fault, Without, without-by, a
 use Rattle.layout.proofs.Whole.{slack-in}
 use Rattle.layout.specs.declared.Layout.the-variants.{Ordinary}
 use Rattle.taskset.proofs.Sets.{IsSet, set-of, regular, walk-load, keeps-iff-load}
+use Rattle.taskset.proofs.Released.{load-keeps, together-last, together-tasks}
 use Rattle.taskset.proofs.Idle.{Covered, covered-of, reported-is}
 
 -- A bound between two numbers holds with the same added to both.
@@ -45,6 +46,10 @@ module _ (s : List ℕ) (set : IsSet Ordinary s) where
     λ k. record { plan = k .plan; fits = keeps-iff-load Ordinary s set Q .0 (k .for-ever) },
     λ f. record { plan = f .plan; for-ever = keeps-iff-load Ordinary s set Q .1 (f .fits) },
   )
+
+  -- And then it does whatever the first releases.
+  pub keeps-with : (Q : List ℕ) → Keeps s Q → (a : ℕ → ℕ) → KeepsForEver (tasksWith Ordinary s a Q)
+  keeps-with Q k a = load-keeps Ordinary s set a Q (keeps-iff-fits Q .0 k .fits)
 
   -- The plan selected, with 2 ^ a the unit used, of a set that passes 10. Selection bounds what every plan costs over
   -- H × L, and every plan that keeps its deadlines costs that besides, this one too: so both bounds go over.
@@ -83,6 +88,7 @@ module _ (s : List ℕ) (set : IsSet Ordinary s) where
       = λ Q k. rw unit-is (in-margin covered P (c .exponent) (c .planned) Q k) in
       record {
         keeps = keeps;
+        keeps-from = λ a h. keeps-with P keeps a;
         own = own;
         within = λ Q k. omega (arith, in-slack covered P (c .exponent) (c .planned) Q k);
         from-1 = omega (arith, power-positive (c .exponent));
@@ -97,16 +103,28 @@ module _ (s : List ℕ) (set : IsSet Ordinary s) where
   pub none-fits-iff-none-keeps : NoneOk (Fitting (problem s)) 0 ↔ NoneKeeps s
   none-fits-iff-none-keeps = ((λ n Q k. n .1 Q (keeps-iff-fits Q .0 k)), (λ n. (refl, (λ P f. n P (keeps-iff-fits P .1 f)))))
 
-  -- The walk of any list of rate numbers says 'kept' exactly when it keeps every deadline for ever, and then its busy
-  -- ticks are the load.
-  pub walk-decides : (P : List ℕ) → IsKept (walk (walkTasks Ordinary s P) (hyperPeriod Ordinary s)) ↔ KeepsForEver (endlessTasks Ordinary s P)
-  walk-decides P = kept-iff-keeps (endlessTasks Ordinary s P) (hyperPeriod Ordinary s) (set .hyper-range .0) (regular Ordinary s set P)
+  module _ (P : List ℕ) where
+    -- The walk of a plan that fits is kept, whatever the first releases: of any list of rate numbers.
+    pub walk-kept : planLoad (problem s) P ≤ hyperPeriod Ordinary s → IsKept (walkOf s P)
+    walk-kept fits = keeps-kept (walkTasks Ordinary s P) (lastTick Ordinary s) (load-keeps Ordinary s set (first Ordinary s) P fits)
 
-  pub walk-busy : (P : List ℕ) (busy idle preempted : ℕ) → walk (walkTasks Ordinary s P) (hyperPeriod Ordinary s) ≡ kept busy idle preempted
-      → (busy ≡ planLoad (problem s) P) × (busy + idle ≡ hyperPeriod Ordinary s)
-  walk-busy P busy idle preempted e =
-      let c = kept-counts (walkTasks Ordinary s P) (hyperPeriod Ordinary s) (set .hyper-range .0) (regular Ordinary s set P) busy idle preempted e in
-      (omega (arith, c .busy-is-load, walk-load Ordinary s set P), c .rest-is-idle)
+    -- With every first release 0 the walk says 'kept' exactly when the endless walk keeps every deadline, and then its
+    -- busy ticks are the load.
+    module _ (zero : Together s) where
+      abbrev ks : List Task
+      ks = endlessTasks Ordinary s P
+
+      walk-is : walkOf s P ≡ walk ks (hyperPeriod Ordinary s)
+      walk-is =
+          ap (λ (ts : List Task). walk ts (lastTick Ordinary s)) (together-tasks Ordinary s zero P) ∙ ap (walk ks) (together-last Ordinary s zero)
+
+      pub walk-decides : IsKept (walkOf s P) ↔ KeepsForEver ks
+      walk-decides = rw walk-is (kept-iff-keeps ks (hyperPeriod Ordinary s) (set .hyper-range .0) (regular Ordinary s set P))
+
+      pub walk-busy : (busy idle preempted : ℕ) → walkOf s P ≡ kept busy idle preempted → busy ≡ planLoad (problem s) P
+      walk-busy busy idle preempted e =
+          busy-is-load ks (hyperPeriod Ordinary s) busy idle preempted (sym walk-is ∙ e) (set .hyper-range .0) (regular Ordinary s set P) ∙
+          walk-load Ordinary s set P
 
 -- A call whose checks are cs, 2, 3 and 4 among them, and 7 last, refuses with 7 exactly when all before it pass and no
 -- plan keeps every deadline for ever.
@@ -217,11 +235,20 @@ walk-set s P a = set-of Ordinary s (passed 2 (walkChecks s P) refl a) (passed 3 
 pub walk-owes : (s P : List ℕ) (a : WalkAnswer) → WalkAnswers s P a → WalkOwes s P a
 walk-owes s P (Kept b i p) h =
     let set = walk-set s P (h .0) in
-    let o = outcome-kept (walk (walkTasks Ordinary s P) (hyperPeriod Ordinary s)) b i p (h .1) in
-    (record { plan = plan-of s P (passed 8 (walkChecks s P) refl (h .0)); for-ever = walk-decides s set P .0 (rw o tt) }, walk-busy s set P b i p o .0)
+    let o = outcome-kept (walkOf s P) b i p (h .1) in
+    record {
+      stretch = kept-misses-none (walkTasks Ordinary s P) (lastTick Ordinary s) (rw o tt);
+      counted = busy-and-idle (walkTasks Ordinary s P) (lastTick Ordinary s) b i p o;
+      together = λ zero. (
+        record { plan = plan-of s P (passed 8 (walkChecks s P) refl (h .0)); for-ever = walk-decides s set P zero .0 (rw o tt) },
+        walk-busy s set P zero b i p o,
+      );
+    }
 walk-owes s P (Missed t k) h =
-    λ keeps.
     let set = walk-set s P (h .0) in
-    let o = outcome-missed (walk (walkTasks Ordinary s P) (hyperPeriod Ordinary s)) t k (h .1) in
-    subst IsKept o (walk-decides s set P .1 keeps)
+    let o = outcome-missed (walkOf s P) t k (h .1) in
+    record {
+      from-these = λ keeps. subst IsKept o (keeps-kept (walkTasks Ordinary s P) (lastTick Ordinary s) keeps);
+      from-0 = λ keeps. subst IsKept o (walk-kept s set P (keeps-iff-load Ordinary s set P .0 keeps));
+    }
 walk-owes s P (NotWalked r) h = tt

@@ -2,6 +2,7 @@ pub mod Checks
 pub mod Verdict
 pub mod PlanVerdict
 pub mod Sets
+pub mod Released
 pub mod Idle
 pub mod Small
 pub mod DemandThree

@@ -13,9 +13,10 @@ use Rattle.numbers.proofs.Tests.{lt-or-le}
 use Rattle.numbers.proofs.Rounding.{ceil-falls, ceil-positive}
 use Rattle.numbers.proofs.Sums.{sum, total-bound, total-over}
 use Rattle.numbers.proofs.Multiples.{running-positive, running-divides, running-least}
-use Rattle.schedule.specs.Walk.{KeepsForEver}
+use Rattle.schedule.specs.Walk.{KeepsForEver, periodic}
 use Rattle.schedule.proofs.Demand.{load}
-use Rattle.schedule.proofs.Periodic.{Regular, keeps-iff-fits, tasks-regular, tasks-load}
+use Rattle.schedule.proofs.ByPlace.{sum-places}
+use Rattle.schedule.proofs.Periodic.{Regular, keeps-iff-fits, tasks-regular}
 use Rattle.selection.specs.Plan.{IsPlan, planLoad}
 use Rattle.selection.proofs.Fastest.{Falling}
 use Rattle.layout.specs.Words.{mostTasks, mostIdle, headSize, word, idle, rateCount, taskCount, ratePlace, rate, period, energy}
@@ -146,7 +147,7 @@ module _ (layout : Layout) (s : List ℕ) where
 
     pub walk-load : (P : List ℕ) → sum (load (hyperPeriod layout s)) (endlessTasks layout s P) ≡ planLoad (problemOf layout s) P
     walk-load P =
-        tasks-load (hyperPeriod layout s) (period layout s) (λ t. jobTime layout s t (getD P t 0)) 0 (taskCount layout s) ∙
+        sum-places (load (hyperPeriod layout s)) (λ t. periodic (period layout s t) (jobTime layout s t (getD P t 0))) 0 (taskCount layout s) ∙
         sym (total-over (taskLoad layout s) (taskCount layout s) P)
 
     pub keeps-iff-load : (P : List ℕ) → KeepsForEver (endlessTasks layout s P) ↔ (planLoad (problemOf layout s) P ≤ hyperPeriod layout s)

@@ -8,7 +8,7 @@ use Rattle.selection.specs.Plan.{planLoad, IsPlanned}
 use Rattle.layout.specs.Words.{slack, rateCount, taskCount}
 use Rattle.layout.specs.declared.Layout.{Layout}
 use Rattle.layout.specs.declared.Layout.the-variants.{Ordinary}
-use Rattle.taskset.specs.Quantities.{hyperPeriod, problem, walkTasks, reportedEnergy, workNeeded}
+use Rattle.taskset.specs.Quantities.{hyperPeriod, problem, walkTasks, lastTick, reportedEnergy, workNeeded}
 use Rattle.taskset.specs.Refusals.{number, second, Check, Accepts, Refuses, plannerChecks, walkChecks}
 use Rattle.taskset.specs.declared.Refusal.{Refusal}
 use Rattle.taskset.specs.declared.Shape.{Shape}
@@ -90,14 +90,17 @@ PlannerGives s plan work plan′ work′ (Planned unit load hyper energy) =
 PlannerGives s plan work plan′ work′ (NotPlanned r) =
     Refuses (plannerChecks s (length plan) (length work)) (number r) (second r) × (plan′ ≡ plan) × (work′ ≡ work)
 
--- THE WALK. "The walk takes a set and a plan and goes tick by tick from 0 to L."
+-- THE WALK. "The walk takes a set and a plan and goes tick by tick from 0 to L", or with first releases "to 2 × L".
 abbrev pub outcomeValues : Outcome → List ℕ
 outcomeValues (kept busy idle preempted) = 1 ∷ busy ∷ idle ∷ preempted ∷ []
 outcomeValues (missed tick task) = 0 ∷ tick ∷ task ∷ 0 ∷ []
 
+abbrev pub walkOf : List ℕ → List ℕ → Outcome
+walkOf s P = walk (walkTasks Ordinary s P) (lastTick Ordinary s)
+
 -- The outcome's values are the answer's.
 abbrev pub Walks : List ℕ → List ℕ → WalkAnswer → Type 0
-Walks s P a = Accepts (walkChecks s P) × (walkValues a ≡ outcomeValues (walk (walkTasks Ordinary s P) (hyperPeriod Ordinary s)))
+Walks s P a = Accepts (walkChecks s P) × (walkValues a ≡ outcomeValues (walkOf s P))
 
 abbrev pub WalkAnswers : List ℕ → List ℕ → WalkAnswer → Type 0
 WalkAnswers s P (Kept busy idle preempted) = Walks s P (Kept busy idle preempted)

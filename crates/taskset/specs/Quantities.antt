@@ -1,12 +1,14 @@
--- What a set and a plan come to (document 01, 'A task set' and 'Which plan'; document 02, note 4): job times,
+-- What a set and a plan come to (document 01, 'A task set' and 'Which plan'; document 02, notes 4 and 6): job times,
 -- hyper-period, loads, energies, working words; the set as a problem of selection, and with a plan as the walk's tasks.
-use Prim.Native.Nat.{ℕ, _+_, _-_, _*_, _/_}
+use Prim.Native.Nat.{ℕ, zero, suc, _+_, _-_, _*_, _/_}
+use mathlib.Core.Bool.{Bool, true, cond, _&&_}
 use mathlib.Core.List.{List}
+use lib.Dec.{eqb}
 use lib.ListN.{getD}
 use Rattle.numbers.specs.Numbers.{ceil, total, running}
-use Rattle.schedule.specs.Walk.{Task, periodic, tasksFrom}
+use Rattle.schedule.specs.Walk.{Task, periodic, offset, tasksFrom}
 use Rattle.selection.specs.Plan.{Problem, planLoad, workWords}
-use Rattle.layout.specs.Words.{slack, idle, rateCount, taskCount, rate, period, cycles, energy}
+use Rattle.layout.specs.Words.{slack, idle, rateCount, taskCount, rate, period, cycles, first, energy}
 use Rattle.layout.specs.declared.Layout.{Layout}
 use Rattle.layout.specs.declared.Layout.the-variants.{Ordinary}
 
@@ -17,6 +19,11 @@ hyperLimit = 10000000
 -- "Job time at rate f: c / f rounded up to whole ticks": of a job of so many cycles.
 abbrev pub jobTicks : ℕ → ℕ → ℕ
 jobTicks c f = ceil c f
+
+-- "all are 0": the first n of f 0, f 1, and so on.
+abbrev pub allZero : (ℕ → ℕ) → ℕ → Bool
+allZero f zero = true
+allZero f (suc n) = allZero f n && eqb (f n) 0
 
 module _ (layout : Layout) (s : List ℕ) where
   -- The job time of the task at t at rate number r.
@@ -50,9 +57,17 @@ module _ (layout : Layout) (s : List ℕ) where
   abbrev pub endlessTasks : List ℕ → List Task
   endlessTasks P = tasksFrom (λ t. periodic (period layout s t) (jobTime t (getD P t 0))) 0 (taskCount layout s)
 
-  -- The tasks of the walk's call. Document 01 releases them as the endless walk does.
+  -- The same where "each task's first release falls at its A": a t for the task at t.
+  abbrev pub tasksWith : (ℕ → ℕ) → List ℕ → List Task
+  tasksWith a P = tasksFrom (λ t. offset (a t) (period layout s t) (jobTime t (getD P t 0))) 0 (taskCount layout s)
+
+  -- The tasks of the walk's call, and its last tick. "The walk takes A: releases fall at A plus multiples of the period,
+  -- and it goes to 2 × L. .. If all are 0 it ends at L as before."
   abbrev pub walkTasks : List ℕ → List Task
-  walkTasks P = tasksFrom (λ t. periodic (period layout s t) (jobTime t (getD P t 0))) 0 (taskCount layout s)
+  walkTasks P = tasksWith (first layout s) P
+
+  abbrev pub lastTick : ℕ
+  lastTick = cond (allZero (first layout s) (taskCount layout s)) hyperPeriod (2 * hyperPeriod)
 
 -- The same of document 01's own list.
 abbrev pub problem : List ℕ → Problem

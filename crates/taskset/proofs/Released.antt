@@ -1,0 +1,72 @@
+-- Where first releases matter and where they do not: a load of at most L keeps every deadline for ever whatever they are;
+-- and with every one 0 the walk's tasks are those of the endless walk, to L.
+-- Assumes nothing.
+use Prim.Native.Nat.{ℕ, zero, suc, _+_, _*_, _≤_, _<_}
+use mathlib.Core.Path.{_≡_, refl, sym, ap, _∙_}
+use mathlib.Core.Bool.{Bool, true, false, cond, true≢false}
+use mathlib.Core.List.{List}
+use mathlib.Core.Logic.{⊎-elim}
+use native.Mathlib.Nat.{mod-eq-zero-of-dvd}
+use native.Mathlib.Omega.{arith}
+use lib.Dec.{eqb}
+use lib.ListN.{getD}
+use borrow.Author.Tests.{eqb-true}
+use Rattle.numbers.specs.Numbers.{All}
+use Rattle.numbers.proofs.Tests.{bool-cases, and-true, below-more}
+use Rattle.numbers.proofs.Sums.{sum, total-over}
+use Rattle.schedule.specs.Walk.{Task, KeepsForEver, periodic, offset}
+use Rattle.schedule.proofs.Demand.{Shares, load}
+use Rattle.schedule.proofs.Capacity.{fits-keeps}
+use Rattle.schedule.proofs.ByPlace.{all-tasks, same-tasks, sum-places}
+use Rattle.schedule.proofs.Offset.{offset-shares, offset-none}
+use Rattle.selection.specs.Plan.{planLoad}
+use Rattle.layout.specs.Words.{taskCount, period, first}
+use Rattle.layout.specs.declared.Layout.{Layout}
+use Rattle.taskset.specs.Quantities.{allZero, jobTime, hyperPeriod, taskLoad, problemOf, endlessTasks, tasksWith, walkTasks, lastTick}
+use Rattle.taskset.proofs.Sets.{IsSet}
+
+-- ---- all are 0
+pub all-zero : (f : ℕ → ℕ) (n : ℕ) → ((t : ℕ) → t < n → f t ≡ 0) → allZero f n ≡ true
+all-zero f zero h = refl
+all-zero f (suc n) h = rw (all-zero f n (λ t l. h t (omega arith)), h n (omega arith)) refl
+
+pub zero-each : (f : ℕ → ℕ) (n : ℕ) → allZero f n ≡ true → (t : ℕ) → t < n → f t ≡ 0
+zero-each f zero e = λ t l. absurd (omega arith)
+zero-each f (suc n) e = let o = and-true (allZero f n) (eqb (f n) 0) e in below-more (zero-each f n (o .0)) (eqb-true (f n) 0 (o .1))
+
+pub some-above : (f : ℕ → ℕ) (n t : ℕ) → t < n → (f t ≡ 0 → ⊥) → allZero f n ≡ false
+some-above f n t l some =
+    ⊎-elim (λ e. absurd (some (zero-each f n e t l))) (λ e. e) (bool-cases (allZero f n))
+
+module _ (layout : Layout) (s : List ℕ) where
+  abbrev L : ℕ
+  L = hyperPeriod layout s
+
+  -- ---- whatever the first releases
+  module _ (set : IsSet layout s) (a : ℕ → ℕ) (P : List ℕ) where
+    abbrev place : ℕ → Task
+    place t = offset (a t) (period layout s t) (jobTime layout s t (getD P t 0))
+
+    shares : All (Shares L) (tasksWith layout s a P)
+    shares =
+        all-tasks (Shares L) place 0 (taskCount layout s)
+        (λ t b c. offset-shares (a t) (period layout s t) (jobTime layout s t (getD P t 0)) L
+        (set .whole .period-range t (omega arith) .0) (mod-eq-zero-of-dvd (period layout s t) (set .divides t (omega arith))))
+
+    load-is : sum (load L) (tasksWith layout s a P) ≡ planLoad (problemOf layout s) P
+    load-is =
+        sum-places (load L) place 0 (taskCount layout s) ∙ sym (total-over (taskLoad layout s) (taskCount layout s) P)
+
+    pub load-keeps : planLoad (problemOf layout s) P ≤ L → KeepsForEver (tasksWith layout s a P)
+    load-keeps fits = fits-keeps L (tasksWith layout s a P) (set .hyper-range .0) shares (omega (arith, load-is))
+
+  -- ---- every one 0
+  module _ (zero : (t : ℕ) → t < taskCount layout s → first layout s t ≡ 0) where
+    pub together-last : lastTick layout s ≡ L
+    together-last = ap (λ (b : Bool). cond b L (2 * L)) (all-zero (first layout s) (taskCount layout s) zero)
+
+    pub together-tasks : (P : List ℕ) → walkTasks layout s P ≡ endlessTasks layout s P
+    together-tasks P =
+        same-tasks (λ t. offset (first layout s t) (period layout s t) (jobTime layout s t (getD P t 0)))
+        (λ t. periodic (period layout s t) (jobTime layout s t (getD P t 0))) 0 (taskCount layout s)
+        (λ t b c. rw (zero t (omega arith)) (offset-none (period layout s t) (jobTime layout s t (getD P t 0))))
