@@ -6,7 +6,7 @@ ghost use Prim.Native.Nat.{_+_, _*_, _<_, _≤_};
 ghost use lib.ListN.{length};
 ghost use Rattle.numbers.specs.Search.{Found};
 ghost use Rattle.layout.specs.Words.{ratePlace, taskCountPlace, tasksPlace, mostRates, idlePlace, slack, idle, rate};
-ghost use Rattle.layout.specs.Words.{period, cycles, energy, OutOfRange};
+ghost use Rattle.layout.specs.Words.{period, cycles, first, energy, OutOfRange};
 ghost use Rattle.taskset.specs.Quantities.{jobTime};
 ghost use Rattle.taskset.specs.Refusals.{_▹_, wordChecks, idleCheck, idleChecks, hyperCheck};
 ghost use Rattle.taskset.specs.Calls.{CountsAfter, SetAfter};
@@ -305,6 +305,15 @@ pub fn cycles_of(s: &[u32], layout: Layout, m: usize, t: usize) -> u32
     ensures { λ r. ⌜ r ≡ cycles layout (now (s .entry)) t ⌝ }
 {
     let at = layout::cycles_place(layout, m, t);
+    s[at]
+}
+
+// The first release of the task at place t.
+pub fn first_of(s: &[u32], layout: Layout, m: usize, t: usize) -> u32
+    requires { ⌜ OfTask layout m t (now s) ⌝ }
+    ensures { λ r. ⌜ r ≡ first layout (now (s .entry)) t ⌝ }
+{
+    let at = layout::first_place(layout, m, t);
     s[at]
 }
 

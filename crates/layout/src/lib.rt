@@ -4,7 +4,7 @@
 ghost use mathlib.Core.Path.{_≡_};
 ghost use Prim.Native.Nat.{_-_, _^_, _<_, _≤_};
 ghost use lib.ListN.{length};
-ghost use Rattle.layout.specs.Words.{headSize, extraSize, mostRates, mostTasks, ratePlace, taskCountPlace, tasksPlace, taskSize, periodPlace, cyclesPlace, energyPlace, headKind, taskKind, allows};
+ghost use Rattle.layout.specs.Words.{headSize, extraSize, mostRates, mostTasks, ratePlace, taskCountPlace, tasksPlace, taskSize, periodPlace, cyclesPlace, firstPlace, energyPlace, headKind, taskKind, allows};
 
 // What a word of a set's list stands for.
 pub enum Kind {
@@ -171,6 +171,14 @@ pub fn cycles_place(layout: Layout, m: usize, t: usize) -> usize
     ensures { λ r. ⌜ r ≡ cyclesPlace layout m t ⌝ }
 {
     period_place(layout, m, t) + 1
+}
+
+// The place of its first release.
+pub fn first_place(layout: Layout, m: usize, t: usize) -> usize
+    requires { ⌜ (m ≤ mostRates) × (t ≤ mostTasks) ⌝ }
+    ensures { λ r. ⌜ r ≡ firstPlace layout m t ⌝ }
+{
+    period_place(layout, m, t) + 2
 }
 
 // The place of its energy at rate number r.

@@ -1,9 +1,9 @@
 -- Where first releases matter and where they do not: a load of at most L keeps every deadline for ever whatever they are;
 -- and with every one 0 the walk's tasks are those of the endless walk, to L.
 -- Assumes nothing.
-use Prim.Native.Nat.{ℕ, zero, suc, _+_, _*_, _≤_, _<_}
+use Prim.Native.Nat.{ℕ, zero, suc, _*_, _≤_, _<_}
 use mathlib.Core.Path.{_≡_, refl, sym, ap, _∙_}
-use mathlib.Core.Bool.{Bool, true, false, cond, true≢false}
+use mathlib.Core.Bool.{Bool, true, false, cond}
 use mathlib.Core.List.{List}
 use mathlib.Core.Logic.{⊎-elim}
 use native.Mathlib.Nat.{mod-eq-zero-of-dvd}
@@ -37,6 +37,10 @@ zero-each f (suc n) e = let o = and-true (allZero f n) (eqb (f n) 0) e in below-
 pub some-above : (f : ℕ → ℕ) (n t : ℕ) → t < n → (f t ≡ 0 → ⊥) → allZero f n ≡ false
 some-above f n t l some =
     ⊎-elim (λ e. absurd (some (zero-each f n e t l))) (λ e. e) (bool-cases (allZero f n))
+
+pub zeros-alike : (f g : ℕ → ℕ) (n : ℕ) → ((t : ℕ) → t < n → f t ≡ g t) → allZero f n ≡ allZero g n
+zeros-alike f g zero h = refl
+zeros-alike f g (suc n) h = rw (zeros-alike f g n (λ t l. h t (omega arith)), h n (omega arith)) refl
 
 module _ (layout : Layout) (s : List ℕ) where
   abbrev L : ℕ

@@ -10,9 +10,8 @@ use lib.Dec.{eqb}
 use lib.ListN.{length, getD, set, length-set}
 use lib.Seq.{getD-set-same, getD-set-other}
 use borrow.Author.Tests.{eqb-true, eqb-false}
-use Rattle.numbers.specs.Numbers.{All}
 use Rattle.numbers.proofs.Tests.{bool-cases, lt-or-le}
-use Rattle.schedule.specs.Walk.{Task, tasksFrom, sooner, pick}
+use Rattle.schedule.specs.Walk.{Task, sooner, pick}
 use Rattle.schedule.specs.Counted.{leftAt}
 use Rattle.schedule.proofs.Stretch.{workFor, left-past, pick-left, in-list}
 use Rattle.ticks.specs.Arrays.{jobsFrom, blank, picked, IsPick, Early}
@@ -35,14 +34,6 @@ picked-is k l d n = pick-same k blank l d 0 n
 pub length-jobs : (k : ℕ → Task) (l d : List ℕ) (i n : ℕ) → length (jobsFrom k l d i n) ≡ n
 length-jobs k l d i zero = refl
 length-jobs k l d i (suc n) = ap suc (length-jobs k l d (suc i) n)
-
-pub length-tasks : (k : ℕ → Task) (i n : ℕ) → length (tasksFrom k i n) ≡ n
-length-tasks k i zero = refl
-length-tasks k i (suc n) = ap suc (length-tasks k (suc i) n)
-
-pub all-tasks : (P : Task → Type 0) (k : ℕ → Task) (i n : ℕ) → ((j : ℕ) → j < i + n → P (k j)) → All P (tasksFrom k i n)
-all-tasks P k i zero h = tt
-all-tasks P k i (suc n) h = (h i (omega arith), all-tasks P k (suc i) n (λ j a. h j (omega arith)))
 
 -- ---- arrays that agree on a stretch of places hold the same jobs there
 pub jobs-same : (k : ℕ → Task) (l d l′ d′ : List ℕ) (i n : ℕ) →

@@ -2,27 +2,29 @@
 -- hold before each tick with a release.
 -- Assumes nothing.
 use Prim.Native.Nat.{ℕ, zero, suc, _+_, _-_, _%_, _≤_, _<_}
-use mathlib.Core.Path.{_≡_, refl, sym, ap, _∙_, subst, fun-ext}
-use mathlib.Core.Bool.{Bool, true, false, cond, _&&_, and-false}
+use mathlib.Core.Path.{_≡_, refl, sym, ap, _∙_, subst}
+use mathlib.Core.Bool.{true, false, _&&_, and-false}
 use mathlib.Core.List.{List, [], _∷_, _++_, map, append-assoc, append-nil}
 use mathlib.Core.Logic.{_⊎_, inl, inr, ⊎-elim}
 use native.Mathlib.Omega.{arith}
 use native.Mathlib.Nat.{eq-or-lt-of-le, add-zero, zero-add, sub-zero, sub-self, zero-mod, add-mod-right}
 use native.Mathlib.Numerals.{add-one}
-use lib.Dec.{ltb, leb, eqb}
+use lib.Dec.{ltb}
 use lib.ListN.{length, getD, set, getD-replicate}
 use lib.Seq.{getD-set-same, getD-set-other}
-use borrow.Author.Tests.{lt-ltb, le-ltb, le-leb, lt-leb, leb-true, ne-eqb, eqb-true}
+use borrow.Author.Tests.{lt-ltb, le-ltb}
 use Rattle.numbers.specs.Numbers.{over}
-use Rattle.numbers.proofs.Tests.{bool-cases, below-more, and-true}
-use Rattle.schedule.specs.Walk.{Task, tasksFrom, Job, fresh, released, release, before, late, misses, periodic}
+use Rattle.numbers.proofs.Tests.{below-more}
+use Rattle.schedule.specs.Walk.{Task, tasksFrom, Job, fresh, released, release, before, late, misses, offset}
 use Rattle.schedule.specs.Counted.{missed, kept, busyAt, idleAt, preemptedAt, lateTask, walkFrom}
+use Rattle.schedule.proofs.ByPlace.{length-tasks, all-tasks}
 use Rattle.schedule.proofs.Periodic.{multiples-apart}
+use Rattle.schedule.proofs.Offset.{offset-there, offset-before, offset-between, offset-released}
 use Rattle.schedule.proofs.Stretch.{Going, ticks, pending, goingAt, Quiet, stretch, Fits, counts-fit}
 use Rattle.schedule.proofs.Alike.{AllAlike, AlikeGoing, late-alike, release-alike, ticks-alike}
-use Rattle.ticks.specs.Arrays.{jobsFrom, blank, going, Inside, offset, Begun}
+use Rattle.ticks.specs.Arrays.{jobsFrom, blank, going, Inside, Begun}
 use Rattle.ticks.specs.declared.State.{State}
-use Rattle.ticks.proofs.Jobs.{jobs-same, length-tasks, all-tasks}
+use Rattle.ticks.proofs.Jobs.{jobs-same}
 
 -- ---- the next release
 -- d is the first tick from t on at which the task releases a job, a full one
@@ -221,7 +223,7 @@ module _ {k : ℕ → Task} {n t next : ℕ} {l d : List ℕ} (a : AfterReleases
   pub gap-quiet : (u : ℕ) → t < u → u < t + suc (next - suc t) → Quiet (tasksFrom k 0 n) u
   gap-quiet u x y =
       all-tasks (λ k. k .arrives u ≡ 0) k 0 n
-      (λ j z. a .coming j (omega arith) .quiet u x (omega (arith, gap-is, g .least j (omega arith))))
+      (λ j b z. a .coming j (omega arith) .quiet u x (omega (arith, gap-is, g .least j (omega arith))))
 
 pub held-next : {k : ℕ → Task} {n t next : ℕ} {s r : State} → AfterReleases k n t (s .left) (s .due) → Counted k n t s →
     Gap n t next (s .due) → going k n r ≡ ticks (next - t) (going k n s) → r .due ≡ s .due → Inside n r → Held k n next r
@@ -278,48 +280,22 @@ held-start {k} {n} {first} {s} few start b = record {
 
 -- ---- a task that releases a job every p ticks from a on
 module _ (a p c : ℕ) where
-  there : (t : ℕ) → a ≤ t → (t - a) % p ≡ 0 → offset a p c .arrives t ≡ c
-  there t h e = rw (le-leb a t h, e) refl
-
-  quiet-before : (t : ℕ) → t < a → offset a p c .arrives t ≡ 0
-  quiet-before t h = rw (lt-leb a t h) refl
-
-  quiet-between : (t : ℕ) → ((t - a) % p ≡ 0 → ⊥) → offset a p c .arrives t ≡ 0
-  quiet-between t h = rw (ne-eqb ((t - a) % p) 0 h) (none (leb a t))
-    where
-      none : (b : Bool) → cond (b && false) c 0 ≡ 0
-      none true = refl
-      none false = refl
-
   pub offset-start : Coming (offset a p c) 0 a
   offset-start = record {
     reached = omega arith;
-    quiet = λ u x y. quiet-before u y;
-    there = there a (omega arith) (ap (λ (x : ℕ). x % p) (sub-self a) ∙ zero-mod p);
+    quiet = λ u x y. offset-before a p c u y;
+    there = offset-there a p c a (omega arith) (ap (λ (x : ℕ). x % p) (sub-self a) ∙ zero-mod p);
   }
 
   module _ (pos : 0 < p) (some : 0 < c) where
-    released-at : (u : ℕ) → offset a p c .arrives u ≡ c → (a ≤ u) × ((u - a) % p ≡ 0)
-    released-at u e =
-        ⊎-elim
-        (λ x. let o = and-true (leb a u) (eqb ((u - a) % p) 0) x in (leb-true a u (o .0), eqb-true ((u - a) % p) 0 (o .1)))
-        (λ x. let z : c ≡ 0 = sym e ∙ ap (λ (b : Bool). cond b c 0) x in absurd (omega arith))
-        (bool-cases (leb a u && eqb ((u - a) % p) 0))
-
     pub offset-steady : Steady (offset a p c)
     offset-steady = record {
       some = some;
       next = λ u e.
-          let w = released-at u e in
+          let w = offset-released a p c u (rw e some) in
           let z : (u + p) - a ≡ (u - a) + p = omega (arith, w .0) in record {
             reached = omega arith;
-            quiet = λ v x y. quiet-between v (λ q. absurd (omega (arith, w .0, multiples-apart p (u - a) (v - a) (omega (arith, w .0)) (w .1) q)));
-            there = there (u + p) (omega (arith, w .0)) (ap (λ (x : ℕ). x % p) z ∙ add-mod-right (u - a) p ∙ w .1);
+            quiet = λ v x y. offset-between a p c v (λ q. absurd (omega (arith, w .0, multiples-apart p (u - a) (v - a) (omega (arith, w .0)) (w .1) q)));
+            there = offset-there a p c (u + p) (omega (arith, w .0)) (ap (λ (x : ℕ). x % p) z ∙ add-mod-right (u - a) p ∙ w .1);
           };
     }
-
--- From tick 0 on it is a task of the set.
-pub offset-none : (p c : ℕ) → offset 0 p c ≡ periodic p c
-offset-none p c =
-    ap (λ (f : ℕ → ℕ). record { period = p; time = c; arrives = f })
-    (fun-ext (λ t. rw (le-leb 0 t (omega arith), sub-zero) refl))

@@ -1,12 +1,12 @@
 -- The walk's state as arrays hold it, and what the walk's functions take and give. Not part of what a reader must
 -- believe: the call's contract speaks of the walk's own definitions.
-use Prim.Native.Nat.{ℕ, zero, suc, _+_, _-_, _%_, _≤_, _<_, min}
+use Prim.Native.Nat.{ℕ, zero, suc, _+_, _≤_, _<_, min}
 use mathlib.Core.Path.{_≡_}
-use mathlib.Core.Bool.{cond, _&&_}
+use mathlib.Core.Bool.{cond}
 use mathlib.Core.List.{List, [], _∷_}
-use lib.Dec.{ltb, leb, eqb}
+use lib.Dec.{ltb}
 use lib.ListN.{length, getD, set, replicate}
-use Rattle.schedule.specs.Walk.{Task, Job, pick, tasksFrom}
+use Rattle.schedule.specs.Walk.{Task, offset, Job, pick, tasksFrom}
 use Rattle.schedule.specs.Counted.{leftAt, kept, missed, walk}
 use Rattle.schedule.proofs.Stretch.{Going, ticks}
 use Rattle.layout.specs.Words.{longestPeriod}
@@ -106,10 +106,6 @@ pub record RunReady (p c a : List ℕ) (n end : ℕ) : Type 0 where
   pub time : (i : ℕ) → i < n → 0 < getD c i 0
   pub first : (i : ℕ) → i < n → getD a i 0 ≤ longestPeriod
   pub ends : end ≤ 200000000
-
--- A task that releases a job of c ticks at tick a, and then one every p ticks.
-abbrev pub offset : ℕ → ℕ → ℕ → Task
-offset a p c = record { period = p; time = c; arrives = λ t. cond (leb a t && eqb ((t - a) % p) 0) c 0 }
 
 -- The task at a place.
 abbrev pub taskAt : List ℕ → List ℕ → List ℕ → ℕ → Task
