@@ -1,30 +1,34 @@
 -- From the functions below it to the call: what the checks give is what the loop asks for, and what the loop says is
 -- the call's answer.
 -- Assumes nothing.
-use Prim.Native.Nat.{ℕ, zero, suc, _+_, _≤_, _<_}
+use Prim.Native.Nat.{ℕ, _+_, _*_, _≤_, _<_}
 use mathlib.Core.Path.{_≡_, refl, sym, ap, _∙_}
+use mathlib.Core.Bool.{Bool, true, false, cond}
 use mathlib.Core.List.{List}
 use native.Mathlib.Omega.{arith}
-use lib.ListN.{getD, replicate, getD-replicate}
-use Rattle.schedule.specs.Walk.{Task, periodic, tasksFrom}
+use lib.ListN.{getD}
+use Rattle.schedule.specs.Walk.{Task, offset, tasksFrom}
 use Rattle.schedule.specs.Counted.{walk}
+use Rattle.schedule.proofs.ByPlace.{same-tasks}
 use Rattle.selection.specs.Plan.{IsPlan}
-use Rattle.layout.specs.Words.{period}
+use Rattle.layout.specs.Words.{mostRates, word, rateCount, taskCount, taskSize, periodPlace, period, first}
 use Rattle.layout.specs.declared.Layout.the-variants.{Ordinary}
-use Rattle.taskset.specs.Quantities.{hyperLimit, jobTime, hyperPeriod, problem, walkTasks}
+use Rattle.taskset.specs.Quantities.{hyperLimit, allZero, jobTime, hyperPeriod, problem, walkTasks, lastTick}
 use Rattle.taskset.specs.Refusals.{number, second, IsBadPlan, Check, _▹_, wordChecks, hyperCheck, planCheck, walkChecks}
-use Rattle.taskset.specs.Calls.{SetAfter, outcomeValues, WalkAnswers}
+use Rattle.taskset.specs.Calls.{SetAfter, outcomeValues, walkOf, WalkAnswers}
 use Rattle.taskset.specs.declared.Refusal.{Refusal}
 use Rattle.taskset.specs.declared.Refusal.the-variants.{BadPlan}
 use Rattle.taskset.specs.declared.Checked.the-variants.{Good, Refused as NotGood}
 use Rattle.taskset.specs.declared.WalkAnswer.{WalkAnswer}
 use Rattle.taskset.specs.declared.WalkAnswer.the-variants.{Kept, Missed, Refused as NotWalked}
 use Rattle.taskset.proofs.Checks.{accepts-next, refuses-next, refuses-before, passed}
+use Rattle.layout.proofs.Layouts.{head-few, extra-few, task-words}
+use Rattle.layout.proofs.Whole.{in-list, first-in}
 use Rattle.taskset.proofs.Sets.{IsSet, job-time-positive}
+use Rattle.taskset.proofs.Released.{zeros-alike}
 use Rattle.taskset.proofs.DemandThree.{plan-of, walk-set, walk-owes}
 use Rattle.ticks.specs.Arrays.{RunReady, taskAt, Says}
-use Rattle.ticks.proofs.Releases.{offset-none}
-use Rattle.walk.specs.Answers.{Walked, SetGiven, SoundPlan, Holds, timeAt}
+use Rattle.walk.specs.Answers.{Walked, SetGiven, SoundPlan, Holds, columnAt, HasColumn, timeAt}
 
 pub walked : (s P : List ℕ) (a : WalkAnswer) → WalkAnswers s P a → Walked s P a
 walked s P a h = record { answers = h; owes = walk-owes s P a h }
@@ -49,10 +53,6 @@ module _ (s P : List ℕ) where
     pub plan-sound : ((k : ℕ) → IsBadPlan m n P k → ⊥) → SetAfter (walkChecks s P) Ordinary s (Good m n l)
     plan-sound pass = (accepts-next before (planCheck Ordinary s P) (good .0) (λ k h. pass k (rw (good .1, good .2) h)), good .1, good .2, good .3)
 
-same-tasks : (k l : ℕ → Task) (i n : ℕ) → ((j : ℕ) → i ≤ j → j < i + n → k j ≡ l j) → tasksFrom k i n ≡ tasksFrom l i n
-same-tasks k l i zero h = refl
-same-tasks k l i (suc n) h = rw (h i (omega arith) (omega arith), same-tasks k l (suc i) n (λ j a b. h j (omega arith) (omega arith))) refl
-
 -- A set and a plan that have passed the checks.
 module _ (s P : List ℕ) (m n l : ℕ) (ready : SetAfter (walkChecks s P) Ordinary s (Good m n l)) where
   set : IsSet Ordinary s
@@ -74,40 +74,72 @@ module _ (s P : List ℕ) (m n l : ℕ) (ready : SetAfter (walkChecks s P) Ordin
     below = λ t h. omega (arith, ready .1, plan .below t (omega (arith, ready .2)));
   }
 
-  module _ (p c : List ℕ) (periods : Holds (period Ordinary s) n p) (times : Holds (timeAt s P) n c) where
-    -- All tasks are released at tick 0.
-    abbrev first : List ℕ
-    first = replicate 32 0
+  pub few-rates : m ≤ mostRates
+  few-rates = omega (arith, ready .1, set .whole .rates-range .1)
 
-    at-once : (i : ℕ) → i < n → getD first i 0 ≡ 0
-    at-once i h = getD-replicate {A = ℕ} 32 i 0 0 (omega (arith, set-given .few))
+  -- Word k of each task stands in the list, a task's size apart, from that of the first task on.
+  module _ (k : ℕ) (inside : k < taskSize Ordinary m) (at step : ℕ) (start : at ≡ periodPlace Ordinary m 0 + k) (apart : step ≡ taskSize Ordinary m) where
+    place-is : (t : ℕ) → at + t * step ≡ periodPlace Ordinary (rateCount Ordinary s) t + k
+    place-is t = rw (start, apart, ready .1) (omega arith)
 
-    pub run-ready : RunReady p c first n l
-    run-ready = record {
+    pub has-column : HasColumn s at step n
+    has-column = record {
       few = set-given .few;
-      periods = periods .size;
-      times = times .size;
-      firsts = refl;
-      period = λ i h. rw (periods .at i h) (set .whole .period-range i (omega (arith, ready .2)));
-      time = λ i h.
-          rw (times .at i h)
-          (job-time-positive Ordinary s set i (getD P i 0) (omega (arith, ready .2)) (plan .above i (omega (arith, ready .2))) (plan .below i (omega (arith, ready .2))));
-      first = λ i h. omega (arith, at-once i h);
-      ends = omega (arith, hyper-fits);
+      inside = λ t h. omega (arith, place-is t, in-list Ordinary s (set .whole) t k (omega (arith, ready .2)) (rw (ready .1) at inside));
+      room = rw (start, apart) (omega (arith, head-few Ordinary, extra-few Ordinary, few-rates, set-given .few, task-words Ordinary m n few-rates (set-given .few)));
     }
 
-    walk-is : walk (tasksFrom (taskAt p c first) 0 n) l ≡ walk (walkTasks Ordinary s P) (hyperPeriod Ordinary s)
-    walk-is =
-        let same = same-tasks (taskAt p c first) (λ t. periodic (period Ordinary s t) (jobTime Ordinary s t (getD P t 0))) 0 n
-        (λ j a b. rw (periods .at j (omega arith), times .at j (omega arith), at-once j (omega arith))
-        (offset-none (period Ordinary s j) (jobTime Ordinary s j (getD P j 0)))) in
-        ap (λ (ks : List Task). walk ks l) (same ∙ ap (tasksFrom (λ t. periodic (period Ordinary s t) (jobTime Ordinary s t (getD P t 0))) 0) (ready .2)) ∙
-        ap (walk (walkTasks Ordinary s P)) (ready .3)
+    pub column-holds : (f : ℕ → ℕ) → ((t : ℕ) → word s (periodPlace Ordinary (rateCount Ordinary s) t + k) ≡ f t) → (r : List ℕ)
+        → Holds (columnAt s at step) n r → Holds f n r
+    column-holds f is r h = record { size = h .size; at = λ t l. h .at t l ∙ ap (word s) (place-is t) ∙ is t }
 
-    says-answers : (a : WalkAnswer) → Says p c first n l a → WalkAnswers s P a
-    says-answers (Kept b i q) h = (ready .0, sym (ap outcomeValues (sym walk-is ∙ h)))
-    says-answers (Missed t k) h = (ready .0, sym (ap outcomeValues (sym walk-is ∙ h)))
-    says-answers (NotWalked r) h = absurd h
+  -- The last tick by the array of first releases.
+  module _ (a : List ℕ) (firsts : Holds (first Ordinary s) n a) (end : ℕ) (last : end ≡ cond (allZero (λ t. getD a t 0) n) l (2 * l)) where
+    last-is : end ≡ lastTick Ordinary s
+    last-is =
+        last ∙ ap (λ (b : Bool). cond b l (2 * l))
+        (zeros-alike (λ t. getD a t 0) (first Ordinary s) n (firsts .at) ∙ ap (allZero (first Ordinary s)) (ready .2)) ∙
+        ap (λ (x : ℕ). cond (allZero (first Ordinary s) (taskCount Ordinary s)) x (2 * x)) (ready .3)
 
-    pub says-walked : (a : WalkAnswer) → Says p c first n l a → Walked s P a
-    says-walked a h = walked s P a (says-answers a h)
+    last-fits : end ≤ 2 * hyperLimit
+    last-fits = omega (arith, last, at-most (allZero (λ t. getD a t 0) n), hyper-fits)
+      where
+        at-most : (b : Bool) → cond b l (2 * l) ≤ 2 * l
+        at-most true = omega arith
+        at-most false = omega arith
+
+    module _ (p c : List ℕ) (periods : Holds (period Ordinary s) n p) (times : Holds (timeAt s P) n c) where
+      pub run-ready : RunReady p c a n end
+      run-ready = record {
+        few = set-given .few;
+        periods = periods .size;
+        times = times .size;
+        firsts = firsts .size;
+        period = λ i h. rw (periods .at i h) (set .whole .period-range i (omega (arith, ready .2)));
+        time = λ i h.
+            rw (times .at i h)
+            (job-time-positive Ordinary s set i (getD P i 0) (omega (arith, ready .2)) (plan .above i (omega (arith, ready .2))) (plan .below i (omega (arith, ready .2))));
+        first = λ i h.
+            omega (
+              arith,
+              firsts .at i h,
+              first-in Ordinary s (set .whole) i (omega (arith, ready .2)),
+              set .whole .period-range i (omega (arith, ready .2)) .1,
+            );
+        ends = omega (arith, last-fits);
+      }
+
+      walk-is : walk (tasksFrom (taskAt p c a) 0 n) end ≡ walkOf s P
+      walk-is =
+          let place : ℕ → Task = λ t. offset (first Ordinary s t) (period Ordinary s t) (jobTime Ordinary s t (getD P t 0)) in
+          let same = same-tasks (taskAt p c a) place 0 n
+          (λ j b d. rw (periods .at j (omega arith), times .at j (omega arith), firsts .at j (omega arith)) refl) in
+          ap (λ (ks : List Task). walk ks end) (same ∙ ap (tasksFrom place 0) (ready .2)) ∙ ap (walk (walkTasks Ordinary s P)) last-is
+
+      says-answers : (x : WalkAnswer) → Says p c a n end x → WalkAnswers s P x
+      says-answers (Kept b i q) h = (ready .0, sym (ap outcomeValues (sym walk-is ∙ h)))
+      says-answers (Missed t k) h = (ready .0, sym (ap outcomeValues (sym walk-is ∙ h)))
+      says-answers (NotWalked r) h = absurd h
+
+      pub says-walked : (x : WalkAnswer) → Says p c a n end x → Walked s P x
+      says-walked x h = walked s P x (says-answers x h)

@@ -1,9 +1,9 @@
 -- What the walk's functions answer, case by case, and the call's contract.
-use Prim.Native.Nat.{ℕ, _≤_, _<_}
+use Prim.Native.Nat.{ℕ, _+_, _*_, _^_, _≤_, _<_}
 use mathlib.Core.Path.{_≡_}
 use mathlib.Core.List.{List}
 use lib.ListN.{length, getD}
-use Rattle.layout.specs.Words.{mostTasks, rateCount, taskCount}
+use Rattle.layout.specs.Words.{mostTasks, word, rateCount, taskCount}
 use Rattle.layout.specs.declared.Layout.the-variants.{Ordinary}
 use Rattle.taskset.specs.Quantities.{jobTime}
 use Rattle.taskset.specs.Refusals.{IsBadPlan}
@@ -42,6 +42,15 @@ pub record SoundPlan (m n : ℕ) (P : List ℕ) : Type 0 where
 pub record Holds (f : ℕ → ℕ) (n : ℕ) (r : List ℕ) : Type 0 where
   pub size : length r ≡ 32
   pub at : (t : ℕ) → t < n → getD r t 0 ≡ f t
+
+-- Every step-th word of a list, from place `at` on: n of them are in it.
+abbrev pub columnAt : List ℕ → ℕ → ℕ → ℕ → ℕ
+columnAt s at step t = word s (at + t * step)
+
+pub record HasColumn (s : List ℕ) (at step n : ℕ) : Type 0 where
+  pub few : n ≤ mostTasks
+  pub inside : (t : ℕ) → t < n → at + t * step < length s
+  pub room : at + n * step < 2 ^ 32
 
 -- The job time of the task at t under plan P.
 abbrev pub timeAt : List ℕ → List ℕ → ℕ → ℕ

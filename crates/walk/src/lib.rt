@@ -1,12 +1,17 @@
-// The walk: a set and a plan, from tick 0 to the hyper-period under the rule of the earliest deadline. Its answer is the
-// definition's walk, which goes tick by tick, with what that says of the endless walk. Which plan is selected, and texts,
-// are left to others.
-ghost use Rattle.layout.specs.Words.{period};
+// The walk: a set and a plan, from tick 0 to the hyper-period, or from first releases to twice that, under the rule of
+// the earliest deadline. Its answer is the definition's walk, which goes tick by tick, with what that says of the endless
+// walk. Which plan is selected, and texts, are left to others.
+ghost use mathlib.Core.Path.{_≡_};
+ghost use mathlib.Core.Bool.{cond};
+ghost use Prim.Native.Nat.{_*_, _≤_};
+ghost use lib.ListN.{getD};
+ghost use Rattle.layout.specs.Words.{mostTasks};
 ghost use Rattle.layout.specs.declared.Layout.the-variants.{Ordinary};
+ghost use Rattle.taskset.specs.Quantities.{hyperLimit, allZero};
 ghost use Rattle.taskset.specs.Refusals.{walkChecks};
 ghost use Rattle.taskset.specs.Calls.{SetAfter};
 ghost use Rattle.taskset.specs.declared.Checked.the-variants.{Good};
-ghost use Rattle.walk.specs.Answers.{PlanAnswers, Holds, SetGiven, SoundPlan, timeAt, Walked};
+ghost use Rattle.walk.specs.Answers.{PlanAnswers, Holds, columnAt, HasColumn, SetGiven, SoundPlan, timeAt, Walked};
 use layout::Layout;
 use taskset::Checked;
 use taskset::Refusal;
@@ -39,18 +44,35 @@ fn check_plan(plan: &[u32], m: usize, n: usize) -> PlanCheck
     PlanCheck::Sound
 }
 
-// The periods of a set's n tasks.
-fn periods(set: &[u32], m: usize, n: usize) -> [u32; 32]
-    requires { ⌜ SetGiven m n (now set) ⌝ }
-    ensures { λ r. ⌜ Holds (period Ordinary (now (set .entry))) n r ⌝ }
+// A word of each of n tasks: every step-th word of a list, from place `at` on.
+fn column(set: &[u32], at: usize, step: usize, n: usize) -> [u32; 32]
+    requires { ⌜ HasColumn (now set) at step n ⌝ }
+    ensures { λ r. ⌜ Holds (columnAt (now (set .entry)) at step) n r ⌝ }
 {
-    let mut p = [0u32; 32];
+    let mut column = [0u32; 32];
+    let mut q = at;
     let mut t: usize = 0;
     while t < n {
-        p[t] = checks::period_of(set, Layout::Ordinary, m, t);
+        column[t] = set[q];
+        q += step;
         t += 1;
     }
-    p
+    column
+}
+
+// The walk's last tick: the hyper-period where n first releases are all 0, else twice that.
+fn last_tick(first: &[u32; 32], n: usize, hyper: u32) -> u32
+    requires { ⌜ (n ≤ mostTasks) × (hyper ≤ hyperLimit) ⌝ }
+    ensures { λ r. ⌜ r ≡ cond (allZero (λ t. getD (now (first .entry)) t 0) n) hyper (2 * hyper) ⌝ }
+{
+    let mut t: usize = 0;
+    while t < n {
+        if 0 < first[t] {
+            return 2 * hyper;
+        }
+        t += 1;
+    }
+    hyper
 }
 
 // The job times of a set's n tasks under a plan.
@@ -94,18 +116,30 @@ pub fn ready(set: &[u32], plan: &[u32]) -> Checked
     }
 }
 
-// What the walk from 0 to the hyper-period says, of a set and a plan that have passed the checks.
+// What the walk says, of a set and a plan that have passed the checks.
 pub fn walk_checked(set: &[u32], plan: &[u32], rates: usize, tasks: usize, hyper: u64) -> WalkAnswer
     requires { ⌜ SetAfter (walkChecks (now set) (now plan)) Ordinary (now set) (Good rates tasks hyper) ⌝ }
     ensures { λ r. ⌜ Walked (now (set .entry)) (now (plan .entry)) r ⌝ }
 {
-    let p = periods(set, rates, tasks);
+    let step = layout::task_size(Layout::Ordinary, rates);
+    let p = column(
+        set,
+        layout::period_place(Layout::Ordinary, rates, 0),
+        step,
+        tasks,
+    );
     let c = times(set, plan, rates, tasks);
-    let first = [0u32; 32];
-    ticks::run(&p, &c, &first, tasks, hyper as u32)
+    let first = column(
+        set,
+        layout::first_place(Layout::Ordinary, rates, 0),
+        step,
+        tasks,
+    );
+    let end = last_tick(&first, tasks, hyper as u32);
+    ticks::run(&p, &c, &first, tasks, end)
 }
 
-// The walk of a set under a plan: refusal 2, 3, 4 or 8, or what the walk from 0 to the hyper-period says.
+// The walk of a set under a plan: refusal 2, 3, 4 or 8, or what the walk to its last tick says.
 pub fn walk(set: &[u32], plan: &[u32]) -> WalkAnswer
     ensures { λ r. ⌜ Walked (now (set .entry)) (now (plan .entry)) r ⌝ }
 {
