@@ -6,14 +6,13 @@ use mathlib.Core.List.{List, [], _∷_, _++_}
 use native.Mathlib.Omega.{arith}
 use lib.ListN.{length, replicate, length-replicate}
 use lib.Seq.{take-all}
-use Rattle.schedule.specs.Counted.{walk}
 use Rattle.selection.specs.Plan.{Fitting}
 use Rattle.layout.specs.Words.{headKinds, extraKinds, taskCount}
 use Rattle.layout.specs.declared.Layout.the-variants.{Ordinary}
-use Rattle.taskset.specs.Quantities.{hyperPeriod, problem, walkTasks, workNeeded}
+use Rattle.taskset.specs.Quantities.{problem, workNeeded}
 use Rattle.taskset.specs.Refusals.{Accepts, Refuses, _▹_, wordChecks, idleCheck, idleChecks, hyperCheck, workCheck}
 use Rattle.taskset.specs.Refusals.{roomCheck, noneCheck, readyChecks, plannerChecks}
-use Rattle.taskset.specs.Calls.{walkValues, outcomeValues, Selected, PlannerGives}
+use Rattle.taskset.specs.Calls.{walkValues, outcomeValues, walkOf, Selected, PlannerGives}
 use Rattle.taskset.specs.declared.PlannerAnswer.the-variants.{Planned}
 use Rattle.taskset.specs.declared.WalkAnswer.the-variants.{Kept}
 use Rattle.taskset.proofs.Checks.{accepts-next, passed}
@@ -34,7 +33,7 @@ use Rattle.answer.specs.Answer.{workLent, planLent, setLent, PrintsPlan,
 module _ (s P out lent words words′ : List ℕ) (unit load hyper energy busy idle preempted : ℕ)
     (gives : PlannerGives s lent words P words′ (Planned unit load hyper energy))
     (work : workNeeded s ≤ workLent) (room : taskCount Ordinary s ≤ planLent) (size : length P ≡ taskCount Ordinary s)
-    (walked : walkValues (Kept busy idle preempted) ≡ outcomeValues (walk (walkTasks Ordinary s P) (hyperPeriod Ordinary s)))
+    (walked : walkValues (Kept busy idle preempted) ≡ outcomeValues (walkOf s P))
     (lines : out ≡ planLine unit load hyper energy ++ (rateLines 1 P ++ walkLine busy idle preempted)) where
   accepts : Accepts (plannerChecks s planLent workLent)
   accepts =

@@ -9,20 +9,20 @@ use native.Mathlib.Omega.{arith}
 use lib.ListN.{length, take, length-append}
 use lib.Seq.{take-take, length-take-le, take-all}
 use Rattle.numbers.proofs.Tests.{lt-or-le}
-use Rattle.schedule.specs.Counted.{IsKept, kept, walk}
+use Rattle.schedule.specs.Counted.{IsKept, kept}
 use Rattle.selection.specs.Plan.{Fitting, IsPlan}
 use Rattle.layout.specs.Words.{mostTasks, taskCount}
-use Rattle.taskset.specs.Quantities.{hyperPeriod, problem, walkTasks}
+use Rattle.taskset.specs.Quantities.{problem}
 use Rattle.taskset.specs.Refusals.{number, second, Accepts, Refuses, roomCheck, noneCheck, readyChecks, plannerChecks}
-use Rattle.taskset.specs.Calls.{Selected, Copied}
-use Rattle.taskset.specs.DemandThree.{PlanPromise, NoneKeeps}
+use Rattle.taskset.specs.Calls.{Selected, Copied, walkOf}
+use Rattle.taskset.specs.DemandThree.{PlanPromise}
 use Rattle.taskset.specs.declared.CopyAnswer.{CopyAnswer}
 use Rattle.taskset.specs.declared.CopyAnswer.the-variants.{Wrote, Refused as NotCopied}
 use Rattle.taskset.proofs.Checks.{accepts-but-last, accepts-next, refuses-unique, passed, not-both}
 use Rattle.taskset.proofs.Sets.{IsSet}
 use Rattle.layout.specs.declared.Layout.the-variants.{Ordinary}
 use Rattle.taskset.proofs.Unique.{planner-single, selected-unique, short-single, single-next, refusal-unique}
-use Rattle.taskset.proofs.DemandThree.{plan-given, walk-decides, refusal-owes, ready-set, ready-covered, ready-not-7}
+use Rattle.taskset.proofs.DemandThree.{plan-given, walk-kept, refusal-owes, ready-set, ready-covered, ready-not-7}
 use Rattle.taskset.proofs.Copied.{SameCopied, count-is, copied-one}
 use Rattle.text.specs.Text.{Script, WellFormed, FirstBad, words}
 use Rattle.text.proofs.Sizes.{text-length}
@@ -54,9 +54,9 @@ module _ (s : List ℕ) (accepts : Accepts (plannerChecks s planLent workLent)) 
     pub promise : PlanPromise s P unit energy
     promise = plan-given s is-set (ready-covered s planLent workLent ready) P unit load hyper energy selected
 
-    -- After a plan the walk is kept: there is no other line.
-    pub walk-kept : IsKept (walk (walkTasks Ordinary s P) (hyperPeriod Ordinary s))
-    walk-kept = walk-decides s is-set P .1 (promise .keeps .for-ever)
+    -- After a plan the walk is kept, from whatever first releases: there is no other line.
+    pub plan-kept : IsKept (walkOf s P)
+    plan-kept = walk-kept s is-set P (selected .planned .chosen .ok .fits)
 
 -- ---- what an output owes
 pub owes : (t out : List ℕ) (p : Prints t out) → Owes p
@@ -90,8 +90,8 @@ plans-same s P Q o₁ o₂ u l h e b i p v m k f c j q x y =
     let same = selected-unique s P Q _ _ (x .selected) (y .selected) in
     let values = same .1 in
     let plan = same .0 in
-    let one : walk (walkTasks Ordinary s P) (hyperPeriod Ordinary s) ≡ walk (walkTasks Ordinary s Q) (hyperPeriod Ordinary s) =
-    ap (λ (R : List ℕ). walk (walkTasks Ordinary s R) (hyperPeriod Ordinary s)) plan in
+    let one : walkOf s P ≡ walkOf s Q =
+    ap (λ (R : List ℕ). walkOf s R) plan in
     let counts = kept-same b i p c j q (sym (x .walked) ∙ one ∙ y .walked) in
     x .lines ∙ cc (values, plan, counts .0, counts .1, counts .2) ∙ sym (y .lines)
 

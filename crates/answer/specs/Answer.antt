@@ -6,11 +6,9 @@ use mathlib.Core.List.{List, [], _∷_, _++_}
 use mathlib.Core.Logic.{_↔_}
 use lib.ListN.{length, take}
 use Rattle.layout.specs.Words.{mostTasks, mostWords}
-use Rattle.layout.specs.declared.Layout.the-variants.{Ordinary}
-use Rattle.schedule.specs.Counted.{walk, kept}
-use Rattle.taskset.specs.Quantities.{hyperPeriod, walkTasks}
+use Rattle.schedule.specs.Counted.{kept}
 use Rattle.taskset.specs.Refusals.{number, second, Check, Accepts, Refuses, roomCheck, readyChecks, plannerChecks}
-use Rattle.taskset.specs.Calls.{Selected, Copied}
+use Rattle.taskset.specs.Calls.{Selected, Copied, walkOf}
 use Rattle.taskset.specs.DemandThree.{PlanPromise, NoneKeeps}
 use Rattle.taskset.specs.declared.CopyAnswer.{CopyAnswer}
 use Rattle.taskset.specs.declared.CopyAnswer.the-variants.{Wrote, Refused as NotCopied}
@@ -30,12 +28,12 @@ abbrev pub setLent : ℕ
 setLent = mostWords
 
 -- THE LINES OF A PLAN. For the set s: no check of the planner's holds; P is the plan that document 01 selects, with its
--- unit, load, L and energy; the walk of P is kept with its counts; and out is their lines: the plan's, one a task from
--- task number 1 on, the walk's.
+-- unit, load, L and energy; the walk of P, from the set's first releases, is kept with its counts; and out is their lines:
+-- the plan's, one a task from task number 1 on, the walk's.
 pub record PrintsPlan (s P out : List ℕ) (unit load hyper energy busy idle preempted : ℕ) : Type 0 where
   pub accepts : Accepts (plannerChecks s planLent workLent)
   pub selected : Selected s P (unit ∷ load ∷ hyper ∷ energy ∷ [])
-  pub walked : walk (walkTasks Ordinary s P) (hyperPeriod Ordinary s) ≡ kept busy idle preempted
+  pub walked : walkOf s P ≡ kept busy idle preempted
   pub lines : out ≡ planLine unit load hyper energy ++ (rateLines 1 P ++ walkLine busy idle preempted)
 
 -- The reader takes t, and t is the text of the script s.

@@ -15,7 +15,8 @@ use Rattle.taskset.specs.declared.Checked.the-variants.{Refused as NotGood}
 use Rattle.taskset.specs.declared.WalkAnswer.the-variants.{Kept, Missed, Refused as NotWalked}
 use Rattle.taskset.proofs.Checks.{accepts-next, refuses-next, refuses-before, not-both}
 use Rattle.taskset.proofs.Unique.{number-range}
-use Rattle.taskset.proofs.DemandThree.{keeps-iff-fits, walk-set}
+use Rattle.taskset.proofs.Released.{last-fits}
+use Rattle.taskset.proofs.DemandThree.{walk-set}
 use Rattle.walk.specs.Answers.{Walked}
 use Rattle.capi.specs.Entry.{resultBytes, resultAt, resultSize, walkEntryChecks, WalkEntry}
 use Rattle.capi.proofs.Bytes.{result-value}
@@ -28,6 +29,9 @@ module _ (s P d : List ℕ) where
   refused : (r : Refusal) (x : ℕ) → x ≡ code r → Refuses (walkEntryChecks s P (length d)) (number r) (second r) → WalkEntry s P d d x
   refused r x e h = record {
     gives = inr (r, h, e, tt, refl);
+    keeps-kept = λ z. absurd (code-positive r (sym e ∙ z));
+    missed-not = λ z. absurd (code-positive r (sym e ∙ z));
+    counted = λ z. absurd (code-positive r (sym e ∙ z));
     kept-iff-keeps = λ z. absurd (code-positive r (sym e ∙ z));
     busy-is-load = λ z. absurd (code-positive r (sym e ∙ z));
   }
@@ -53,14 +57,17 @@ module _ (s P d : List ℕ) where
     pub entry-kept : (b i p : ℕ) → Walked s P (Kept b i p) → d′ ≡ resultBytes (1 ∷ b ∷ i ∷ p ∷ []) ++ drop 32 d → WalkEntry s P d d′ 0
     entry-kept b i p w e =
         let set = walk-set s P (w .answers .0) in
-        let load = keeps-iff-fits s set P .0 (w .owes .0) .fits in
-        let hyper = set .hyper-range .1 in
+        let few = last-fits Ordinary s set in
         let one : resultAt d′ 0 ≡ 1 = ap (λ (x : List ℕ). resultAt x 0) e ∙ result-value (1 ∷ b ∷ i ∷ p ∷ []) (drop 32 d) 0 (omega arith) (omega arith) in
-        let busy : resultAt d′ 1 ≡ b = ap (λ (x : List ℕ). resultAt x 1) e ∙ result-value (1 ∷ b ∷ i ∷ p ∷ []) (drop 32 d) 1 (omega arith) (omega (arith, w .owes .1)) in
+        let busy : resultAt d′ 1 ≡ b = ap (λ (x : List ℕ). resultAt x 1) e ∙ result-value (1 ∷ b ∷ i ∷ p ∷ []) (drop 32 d) 1 (omega arith) (omega (arith, w .owes .counted)) in
+        let idle : resultAt d′ 2 ≡ i = ap (λ (x : List ℕ). resultAt x 2) e ∙ result-value (1 ∷ b ∷ i ∷ p ∷ []) (drop 32 d) 2 (omega arith) (omega (arith, w .owes .counted)) in
         record {
           gives = inl (Kept b i p, accepts (w .answers .0), w .answers, refl, e);
-          kept-iff-keeps = λ z. ((λ h. w .owes .0), (λ k. one));
-          busy-is-load = λ z h. busy ∙ w .owes .1;
+          keeps-kept = λ z k. one;
+          missed-not = λ z h. absurd (omega arith);
+          counted = λ z h. omega (arith, w .owes .counted);
+          kept-iff-keeps = λ z zero. ((λ h. w .owes .together zero .0), (λ k. one));
+          busy-is-load = λ z zero h. busy ∙ w .owes .together zero .1;
         }
 
     pub entry-missed : (t k : ℕ) → Walked s P (Missed t k) → d′ ≡ resultBytes (0 ∷ t ∷ k ∷ 0 ∷ []) ++ drop 32 d → WalkEntry s P d d′ 0
@@ -68,6 +75,9 @@ module _ (s P d : List ℕ) where
         let none : resultAt d′ 0 ≡ 0 = ap (λ (x : List ℕ). resultAt x 0) e ∙ result-value (0 ∷ t ∷ k ∷ 0 ∷ []) (drop 32 d) 0 (omega arith) (omega arith) in
         record {
           gives = inl (Missed t k, accepts (w .answers .0), w .answers, refl, e);
-          kept-iff-keeps = λ z. ((λ h. absurd (omega arith)), (λ q. absurd (w .owes (q .for-ever))));
-          busy-is-load = λ z h. absurd (omega arith);
+          keeps-kept = λ z k. absurd (w .owes .from-these k);
+          missed-not = λ z h. w .owes;
+          counted = λ z h. absurd (omega arith);
+          kept-iff-keeps = λ z zero. ((λ h. absurd (omega arith)), (λ q. absurd (w .owes .from-0 (q .for-ever))));
+          busy-is-load = λ z zero h. absurd (omega arith);
         }

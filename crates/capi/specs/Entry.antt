@@ -4,13 +4,14 @@ use mathlib.Core.Path.{_≡_, refl}
 use mathlib.Core.List.{List, [], _∷_, _++_}
 use mathlib.Core.Logic.{_⊎_, _↔_}
 use lib.ListN.{length, getD, take, drop}
+use Rattle.schedule.specs.Walk.{KeepsForEver}
 use Rattle.selection.specs.Plan.{Fitting, planLoad}
 use Rattle.layout.specs.Words.{rateCount, taskCount}
 use Rattle.layout.specs.declared.Layout.the-variants.{Ordinary}
-use Rattle.taskset.specs.Quantities.{hyperPeriod, problem}
+use Rattle.taskset.specs.Quantities.{hyperPeriod, problem, walkTasks, lastTick}
 use Rattle.taskset.specs.Refusals.{number, second, Check, Accepts, Refuses, _▹_, roomCheck, noneCheck, readyChecks, walkChecks}
 use Rattle.taskset.specs.Calls.{code, plannerValues, walkValues, PlannerGives, WalkAnswers}
-use Rattle.taskset.specs.DemandThree.{Keeps, margin, PlanPromise, NoneKeeps}
+use Rattle.taskset.specs.DemandThree.{Keeps, margin, PlanPromise, NoneKeeps, Together, MissedOwes}
 use Rattle.taskset.specs.declared.Refusal.{Refusal}
 use Rattle.taskset.specs.declared.CopyAnswer.{CopyAnswer}
 use Rattle.taskset.specs.declared.CopyAnswer.the-variants.{Wrote, Refused as NotCopied}
@@ -61,12 +62,17 @@ walkEntryChecks s P size = walkChecks s P ▹ roomCheck resultSize size
 abbrev pub WalkEntryGives : (s P results results′ : List ℕ) → ℕ → Type 0
 WalkEntryGives s P results = EntryGives (walkEntryChecks s P (length results)) (WalkAnswers s P) walkValues (Unit {0}) results
 
--- The entry's contract: the above; and again over the bytes, where 0 is returned: the first value is 1 if and only if
--- the plan keeps every deadline for ever, and then the second is its load.
+-- The entry's contract: the above; and again over the bytes, where 0 is returned. From the first releases of the list: a
+-- plan that keeps every deadline for ever has a first value of 1; with 0 it does not, nor with all released together; and
+-- with 1 the second and the third value add up to the last tick. With every first release 0: the first value is 1 if and
+-- only if the plan keeps every deadline for ever, and then the second is its load.
 pub record WalkEntry (s P results results′ : List ℕ) (returned : ℕ) : Type 0 where
   pub gives : WalkEntryGives s P results results′ returned
-  pub kept-iff-keeps : returned ≡ 0 → (resultAt results′ 0 ≡ 1) ↔ Keeps s P
-  pub busy-is-load : returned ≡ 0 → resultAt results′ 0 ≡ 1 → resultAt results′ 1 ≡ planLoad (problem s) P
+  pub keeps-kept : returned ≡ 0 → KeepsForEver (walkTasks Ordinary s P) → resultAt results′ 0 ≡ 1
+  pub missed-not : returned ≡ 0 → resultAt results′ 0 ≡ 0 → MissedOwes s P
+  pub counted : returned ≡ 0 → resultAt results′ 0 ≡ 1 → resultAt results′ 1 + resultAt results′ 2 ≡ lastTick Ordinary s
+  pub kept-iff-keeps : returned ≡ 0 → Together s → (resultAt results′ 0 ≡ 1) ↔ Keeps s P
+  pub busy-is-load : returned ≡ 0 → Together s → resultAt results′ 0 ≡ 1 → resultAt results′ 1 ≡ planLoad (problem s) P
 
 -- THE PLANNER FROM C. Its own checks but 7, then the result bytes, then 7. The lengths are those of the plan list, the
 -- working list and the result bytes.

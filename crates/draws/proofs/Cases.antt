@@ -19,18 +19,18 @@ pub record Cases : Type 0 where
   -- Entries count from 0, and go on from 0 at 8.
   pub entries : drawnPeriod 0 ∷ drawnPeriod 7 ∷ drawnPeriod 8 ∷ drawnPeriod 15470 ∷ [] ≡ 10 ∷ 400 ∷ 10 ∷ 200 ∷ []
   -- Whole sets.
-  pub set-0-1 : generated 0 1 ≡ 100 ∷ 0 ∷ 5 ∷ 100 ∷ 200 ∷ 300 ∷ 400 ∷ 500 ∷ 1 ∷ 200 ∷ 257 ∷ 7 ∷ 28 ∷ 63 ∷ 112 ∷ 175 ∷ []
+  pub set-0-1 : generated 0 1 ≡ 100 ∷ 0 ∷ 5 ∷ 100 ∷ 200 ∷ 300 ∷ 400 ∷ 500 ∷ 1 ∷ 200 ∷ 257 ∷ 0 ∷ 7 ∷ 28 ∷ 63 ∷ 112 ∷ 175 ∷ []
   pub set-7-2 : generated 7 2
-      ≡ 100 ∷ 0 ∷ 5 ∷ 100 ∷ 200 ∷ 300 ∷ 400 ∷ 500 ∷ 2 ∷ 10 ∷ 867 ∷ 2 ∷ 8 ∷ 18 ∷ 32 ∷ 50 ∷ 200 ∷ 234 ∷ 7 ∷ 28 ∷ 63 ∷ 112 ∷ 175 ∷ []
-  pub set-highest-seed : generated 4294967295 1 ≡ 100 ∷ 0 ∷ 5 ∷ 100 ∷ 200 ∷ 300 ∷ 400 ∷ 500 ∷ 1 ∷ 100 ∷ 312 ∷ 8 ∷ 32 ∷ 72 ∷ 128 ∷ 200 ∷ []
+      ≡ 100 ∷ 0 ∷ 5 ∷ 100 ∷ 200 ∷ 300 ∷ 400 ∷ 500 ∷ 2 ∷ 10 ∷ 867 ∷ 0 ∷ 2 ∷ 8 ∷ 18 ∷ 32 ∷ 50 ∷ 200 ∷ 234 ∷ 0 ∷ 7 ∷ 28 ∷ 63 ∷ 112 ∷ 175 ∷ []
+  pub set-highest-seed : generated 4294967295 1 ≡ 100 ∷ 0 ∷ 5 ∷ 100 ∷ 200 ∷ 300 ∷ 400 ∷ 500 ∷ 1 ∷ 100 ∷ 312 ∷ 0 ∷ 8 ∷ 32 ∷ 72 ∷ 128 ∷ 200 ∷ []
   -- Task counts of 0 and 33 are refused, also where the list is short, with place 0.
   pub no-task : Refuses (generatorChecks 7 0 0) 2 0
   pub tasks-33 : Refuses (generatorChecks 7 33 0) 2 0
-  -- One task needs 16 words, 32 need 233.
-  pub one-short : Refuses (generatorChecks 7 1 15) 6 16
-  pub one-enough : Accepts (generatorChecks 7 1 16)
-  pub most-short : Refuses (generatorChecks 7 32 232) 6 233
-  pub most-enough : Accepts (generatorChecks 7 32 233)
+  -- One task needs 17 words, 32 need 265.
+  pub one-short : Refuses (generatorChecks 7 1 16) 6 17
+  pub one-enough : Accepts (generatorChecks 7 1 17)
+  pub most-short : Refuses (generatorChecks 7 32 264) 6 265
+  pub most-enough : Accepts (generatorChecks 7 32 265)
 
 pub cases : Cases
 unfolding next stateAfter draw frontWords generated headKinds extraKinds

@@ -41,7 +41,7 @@ abbrev pub drawnEnergy : ℕ → ℕ → ℕ
 drawnEnergy x j = (2 + x % 9) * j * j
 
 -- THE LIST. "The set has slack 100 and five rates, 100 × j for rate j." What a list has beside the words that note 1
--- names, in its head or between a task's cycles and its energies, is 0.
+-- names, in its head or between a task's cycles and its energies, is 0: note 4's H, and note 6's A "from the generator".
 abbrev pub fiveRates : ℕ
 fiveRates = 5
 

@@ -64,7 +64,7 @@ fn period(x: u32) -> u32
 }
 
 // Zeros, count of them, to the list from a place on: for the words of a layout that the rule of the draws does not name.
-// In its head that is the idle energy; between a task's cycles and its energies there is none, and count is 0 there.
+// In its head that is the idle energy; between a task's cycles and its energies its first release.
 fn put_zeros(list: &mut [u32], at: usize, count: usize)
     requires { ⌜ at + count ≤ length (now list) ⌝ }
     ensures { λ r. ⌜ now (list .exit) ≡ written at (replicate count 0) (now (list .entry)) ⌝ }

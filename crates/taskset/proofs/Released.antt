@@ -22,7 +22,7 @@ use Rattle.schedule.proofs.Offset.{offset-shares, offset-none}
 use Rattle.selection.specs.Plan.{planLoad}
 use Rattle.layout.specs.Words.{taskCount, period, first}
 use Rattle.layout.specs.declared.Layout.{Layout}
-use Rattle.taskset.specs.Quantities.{allZero, jobTime, hyperPeriod, taskLoad, problemOf, endlessTasks, tasksWith, walkTasks, lastTick}
+use Rattle.taskset.specs.Quantities.{hyperLimit, allZero, jobTime, hyperPeriod, taskLoad, problemOf, endlessTasks, tasksWith, walkTasks, lastTick}
 use Rattle.taskset.proofs.Sets.{IsSet}
 
 -- ---- all are 0
@@ -63,6 +63,17 @@ module _ (layout : Layout) (s : List ℕ) where
 
     pub load-keeps : planLoad (problemOf layout s) P ≤ L → KeepsForEver (tasksWith layout s a P)
     load-keeps fits = fits-keeps L (tasksWith layout s a P) (set .hyper-range .0) shares (omega (arith, load-is))
+
+  -- ---- the last tick
+  pub last-most : lastTick layout s ≤ 2 * L
+  last-most = at-most (allZero (first layout s) (taskCount layout s))
+    where
+      at-most : (b : Bool) → cond b L (2 * L) ≤ 2 * L
+      at-most true = omega arith
+      at-most false = omega arith
+
+  pub last-fits : IsSet layout s → lastTick layout s ≤ 2 * hyperLimit
+  last-fits set = omega (arith, last-most, set .hyper-range .1)
 
   -- ---- every one 0
   module _ (zero : (t : ℕ) → t < taskCount layout s → first layout s t ≡ 0) where

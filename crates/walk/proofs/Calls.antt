@@ -3,7 +3,7 @@
 -- Assumes nothing.
 use Prim.Native.Nat.{ℕ, _+_, _*_, _≤_, _<_}
 use mathlib.Core.Path.{_≡_, refl, sym, ap, _∙_}
-use mathlib.Core.Bool.{Bool, true, false, cond}
+use mathlib.Core.Bool.{Bool, cond}
 use mathlib.Core.List.{List}
 use native.Mathlib.Omega.{arith}
 use lib.ListN.{getD}
@@ -13,7 +13,7 @@ use Rattle.schedule.proofs.ByPlace.{same-tasks}
 use Rattle.selection.specs.Plan.{IsPlan}
 use Rattle.layout.specs.Words.{mostRates, word, rateCount, taskCount, taskSize, periodPlace, period, first}
 use Rattle.layout.specs.declared.Layout.the-variants.{Ordinary}
-use Rattle.taskset.specs.Quantities.{hyperLimit, allZero, jobTime, hyperPeriod, problem, walkTasks, lastTick}
+use Rattle.taskset.specs.Quantities.{hyperLimit, allZero, jobTime, problem, walkTasks, lastTick}
 use Rattle.taskset.specs.Refusals.{number, second, IsBadPlan, Check, _▹_, wordChecks, hyperCheck, planCheck, walkChecks}
 use Rattle.taskset.specs.Calls.{SetAfter, outcomeValues, walkOf, WalkAnswers}
 use Rattle.taskset.specs.declared.Refusal.{Refusal}
@@ -25,7 +25,7 @@ use Rattle.taskset.proofs.Checks.{accepts-next, refuses-next, refuses-before, p
 use Rattle.layout.proofs.Layouts.{head-few, extra-few, task-words}
 use Rattle.layout.proofs.Whole.{in-list, first-in}
 use Rattle.taskset.proofs.Sets.{IsSet, job-time-positive}
-use Rattle.taskset.proofs.Released.{zeros-alike}
+use Rattle.taskset.proofs.Released.{zeros-alike, last-fits}
 use Rattle.taskset.proofs.DemandThree.{plan-of, walk-set, walk-owes}
 use Rattle.ticks.specs.Arrays.{RunReady, taskAt, Says}
 use Rattle.walk.specs.Answers.{Walked, SetGiven, SoundPlan, Holds, columnAt, HasColumn, timeAt}
@@ -101,13 +101,6 @@ module _ (s P : List ℕ) (m n l : ℕ) (ready : SetAfter (walkChecks s P) Ordin
         (zeros-alike (λ t. getD a t 0) (first Ordinary s) n (firsts .at) ∙ ap (allZero (first Ordinary s)) (ready .2)) ∙
         ap (λ (x : ℕ). cond (allZero (first Ordinary s) (taskCount Ordinary s)) x (2 * x)) (ready .3)
 
-    last-fits : end ≤ 2 * hyperLimit
-    last-fits = omega (arith, last, at-most (allZero (λ t. getD a t 0) n), hyper-fits)
-      where
-        at-most : (b : Bool) → cond b l (2 * l) ≤ 2 * l
-        at-most true = omega arith
-        at-most false = omega arith
-
     module _ (p c : List ℕ) (periods : Holds (period Ordinary s) n p) (times : Holds (timeAt s P) n c) where
       pub run-ready : RunReady p c a n end
       run-ready = record {
@@ -126,7 +119,7 @@ module _ (s P : List ℕ) (m n l : ℕ) (ready : SetAfter (walkChecks s P) Ordin
               first-in Ordinary s (set .whole) i (omega (arith, ready .2)),
               set .whole .period-range i (omega (arith, ready .2)) .1,
             );
-        ends = omega (arith, last-fits);
+        ends = omega (arith, last-is, last-fits Ordinary s set);
       }
 
       walk-is : walk (tasksFrom (taskAt p c a) 0 n) end ≡ walkOf s P

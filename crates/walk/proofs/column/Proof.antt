@@ -1,7 +1,7 @@
 -- A column of a list, task by task. The invariant: the array holds the words of the tasks before the one in hand, and q
 -- is the place of that one's.
 -- Assumes nothing.
-use Prim.Native.Nat.{ℕ, suc, _+_, _-_, _*_, _≤_, _<_, _^_}
+use Prim.Native.Nat.{ℕ, _+_, _-_, _*_, _≤_, _<_, _^_}
 use mathlib.Core.List.{List}
 use mathlib.Core.Path.{_≡_, refl, subst}
 use native.Mathlib.Nat.{suc-mul, mul-le-mul-right}

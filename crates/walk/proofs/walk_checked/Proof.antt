@@ -1,11 +1,11 @@
 -- The walk of a set and a plan that have passed the checks.
 -- Assumes nothing.
 use Prim.Native.Nat.{ℕ, _<_}
-use mathlib.Core.Path.{_≡_, refl, sym, ap, _∙_}
+use mathlib.Core.Path.{refl, sym, ap, _∙_}
 use mathlib.Core.List.{List}
 use native.Mathlib.Nat.{add-zero}
 use native.Mathlib.Omega.{arith}
-use Rattle.layout.specs.Words.{rateCount, taskSize, periodPlace, word, period, first}
+use Rattle.layout.specs.Words.{taskSize, word, period, first}
 use Rattle.layout.specs.declared.Layout.the-variants.{Ordinary}
 use Rattle.layout.proofs.Layouts.{first-in-extra}
 use Rattle.walk.specs.Answers.{Holds, HasColumn}
