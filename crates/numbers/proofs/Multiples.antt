@@ -1,13 +1,19 @@
 -- The running multiple: a common multiple that divides every other, and that never falls.
 -- Assumes nothing.
 use Prim.Native.Nat.{ℕ, zero, suc, _≤_, _<_, _∣_}
-use mathlib.Core.Path.{_≡_, refl}
+use mathlib.Core.Path.{_≡_, refl, ap₂}
 use mathlib.Core.Logic.{⊎-elim}
 use native.Mathlib.Nat.{dvd-trans, one-dvd, le-of-dvd, eq-or-lt-of-le, le-of-suc-le-suc, le-trans}
 use native.Mathlib.Omega.{arith}
 use Rattle.numbers.specs.Numbers.{lcm, running}
 use Rattle.numbers.proofs.Tests.{below-more}
 use Rattle.numbers.proofs.Divisors.{lcm-left, lcm-right, lcm-least, lcm-positive}
+
+-- It is known by the numbers that it is a multiple of.
+pub running-same : (p q : ℕ → ℕ) (n : ℕ) → ((t : ℕ) → t < n → p t ≡ q t) → running p n ≡ running q n
+unfolding running
+running-same p q zero e = refl
+running-same p q (suc n) e = ap₂ lcm (running-same p q n (λ t l. e t (omega arith))) (e n (omega arith))
 
 module _ (p : ℕ → ℕ) where
   pub running-none : running p 0 ≡ 1

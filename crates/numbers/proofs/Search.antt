@@ -16,6 +16,10 @@ lowest-unique {P} {j} {k} a b =
     (λ (l : k ≤ j). ⊎-elim (λ (e : k ≡ j). sym e) (λ (m : k < j). absurd (a .before k m (b .here))) (eq-or-lt-of-le l))
     (lt-or-le j k)
 
+-- Two properties that hold of the same numbers have the same lowest.
+pub lowest-same : {P Q : ℕ → Type 0} → ((k : ℕ) → P k → Q k) → ((k : ℕ) → Q k → P k) → (k : ℕ) → Lowest P k → Lowest Q k
+lowest-same to from k h = record { here = to k (h .here); before = λ j l x. h .before j l (from j x) }
+
 -- Where no number is the lowest at which P holds, it holds at none: nothing before it does, so that it would be the
 -- lowest.
 pub no-lowest : (P : ℕ → Type 0) → ((k : ℕ) → Lowest P k → ⊥) → (k : ℕ) → P k → ⊥
