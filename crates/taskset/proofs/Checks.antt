@@ -6,7 +6,7 @@ use mathlib.Core.Path.{_≡_, refl, sym, ap, subst, _∙_}
 use mathlib.Core.Bool.{Bool, true, false, cond, not, _&&_, true≢false}
 use mathlib.Core.Option.{Option, none, some}
 use mathlib.Core.List.{List, [], _∷_, _++_}
-use mathlib.Core.Logic.{_⊎_, inl, inr, ⊎-elim}
+use mathlib.Core.Logic.{_⊎_, _↔_, inl, inr, ⊎-elim}
 use native.Mathlib.Omega.{arith}
 use lib.Dec.{eqb}
 use borrow.Author.Tests.{eq-eqb, not-true}
@@ -123,6 +123,29 @@ refuses-last (d ∷ cs) c n k w r =
 pub not-both : (cs : List Check) (n k : ℕ) → Accepts cs → Refuses cs n k → ⊥
 not-both [] n k a r = r
 not-both (c ∷ cs) n k a r = ⊎-elim (λ h. a .0 k (h .1)) (λ h. not-both cs n k (a .1) (h .1)) r
+
+-- ---- checks that agree
+-- Two checks with one number, of which the one holds exactly when the other does, with the same second number.
+abbrev pub Agree : Check → Check → Type 0
+Agree c d = (c .number ≡ d .number) × ((k : ℕ) → c .cause k ↔ d .cause k)
+
+-- Check by check, in their order.
+infixr 4 _then_
+pub data AllAgree : List Check → List Check → Type 1 where
+  no-more : AllAgree [] []
+  _then_ : {c d : Check} {cs ds : List Check} → Agree c d → AllAgree cs ds → AllAgree (c ∷ cs) (d ∷ ds)
+
+agree-passes : (c d : Check) → Agree c d → Passes c → Passes d
+agree-passes c d a p k h = p k (a .1 k .1 h)
+
+pub agree-accepts : {cs ds : List Check} → AllAgree cs ds → Accepts cs → Accepts ds
+agree-accepts no-more x = tt
+agree-accepts (a then more) x = (agree-passes _ _ a (x .0), agree-accepts more (x .1))
+
+pub agree-refuses : {cs ds : List Check} → AllAgree cs ds → (n k : ℕ) → Refuses cs n k → Refuses ds n k
+agree-refuses no-more n k r = absurd r
+agree-refuses (a then more) n k r =
+    ⊎-elim (λ h. inl (h .0 ∙ a .0, a .1 k .0 (h .1))) (λ h. inr (agree-passes _ _ a (h .0), agree-refuses more n k (h .1))) r
 
 -- The second number of a cause is one number.
 abbrev pub Single : Check → Type 0

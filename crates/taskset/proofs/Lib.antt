@@ -12,4 +12,5 @@ pub mod Writing
 pub mod Stores
 pub mod Rows
 pub mod Unique
+pub mod Firsts
 pub mod Cases

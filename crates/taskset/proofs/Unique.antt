@@ -5,9 +5,10 @@ use Prim.Native.Nat.{ℕ, _≤_}
 use native.Mathlib.Bridge.{le-by-compare, IsLe}
 use mathlib.Core.Path.{_≡_, refl, sym, ap, _∙_}
 use mathlib.Core.Bool.{cond}
-use mathlib.Core.List.{List, [], _∷_}
+use mathlib.Core.List.{List, [], _∷_, _++_}
 use lib.Dec.{eqb}
-use lib.ListN.{length, take-append-drop}
+use lib.ListN.{length, take, drop, replicate, take-append-drop}
+use lib.Seq.{take-at, drop-at}
 use Rattle.selection.specs.Plan.{Fitting}
 use Rattle.selection.proofs.Unique.{planned-unique}
 use Rattle.layout.specs.Words.{slack, taskCount}
@@ -174,6 +175,47 @@ planner-unique s plan work p₁ w₁ p₂ w₂ (NotPlanned q) (NotPlanned r) x y
   plan = x .1 ∙ sym (y .1);
   work = x .2 ∙ sym (y .2);
 }
+
+-- The plan that an answer gives, in the plan list given back: its first N words; with a refusal, none.
+abbrev pub planGiven : List ℕ → List ℕ → PlannerAnswer → List ℕ
+planGiven s plan′ (Planned unit load hyper energy) = take (taskCount Ordinary s) plan′
+planGiven s plan′ (NotPlanned r) = []
+
+-- What is given for some lists is given for all of their lengths: with the same plan, and the rest as they were.
+record GivenFor (s plan work P : List ℕ) (a : PlannerAnswer) : Type 0 where
+  pub plan′ : List ℕ
+  pub work′ : List ℕ
+  pub gives : PlannerGives s plan work plan′ work′ a
+  pub same : planGiven s plan′ a ≡ P
+
+given-for : (s plan work plan′ work′ : List ℕ) (a : PlannerAnswer) → PlannerGives s plan work plan′ work′ a
+    → (plan₂ work₂ : List ℕ) → length plan ≡ length plan₂ → length work ≡ length work₂ → GivenFor s plan₂ work₂ (planGiven s plan′ a) a
+given-for s plan work plan′ work′ (Planned unit load hyper energy) g plan₂ work₂ e f =
+    let n : ℕ = taskCount Ordinary s in
+    let P : List ℕ = g .1 .0 in
+    let size : length P ≡ n = g .1 .1 .planned .chosen .ok .plan .size in
+    let front = take-at P (drop n plan₂) n size in
+    record {
+      plan′ = P ++ drop n plan₂;
+      work′ = replicate (workNeeded s) 0 ++ drop (workNeeded s) work₂;
+      gives = (rw (e, f) at (g .0), (P, g .1 .1, record { front = front; rest = drop-at P (drop n plan₂) n size }), refl);
+      same = front ∙ sym (g .1 .2 .front);
+    }
+given-for s plan work plan′ work′ (NotPlanned r) g plan₂ work₂ e f =
+    record { plan′ = plan₂; work′ = work₂; gives = (rw (e, f) at (g .0), refl, refl); same = refl }
+
+-- So the answer and the plan are known by the list and the two lengths.
+pub record SamePlan (s : List ℕ) (a b : PlannerAnswer) (plan₁ plan₂ : List ℕ) : Type 0 where
+  pub answer : a ≡ b
+  pub plan : planGiven s plan₁ a ≡ planGiven s plan₂ b
+
+pub planner-by-lengths : (s plan₁ work₁ plan₁′ work₁′ plan₂ work₂ plan₂′ work₂′ : List ℕ) (a b : PlannerAnswer)
+    → length plan₁ ≡ length plan₂ → length work₁ ≡ length work₂
+    → PlannerGives s plan₁ work₁ plan₁′ work₁′ a → PlannerGives s plan₂ work₂ plan₂′ work₂′ b → SamePlan s a b plan₁′ plan₂′
+planner-by-lengths s plan₁ work₁ p₁ w₁ plan₂ work₂ p₂ w₂ a b e f x y =
+    let z = given-for s plan₁ work₁ p₁ w₁ a x plan₂ work₂ e f in
+    let one = planner-unique s plan₂ work₂ (z .plan′) (z .work′) p₂ w₂ a b (z .gives) y in
+    record { answer = one .answer; plan = cc }
 
 -- ---- the walk
 pub walk-unique : (s P : List ℕ) (a b : WalkAnswer) → WalkAnswers s P a → WalkAnswers s P b → a ≡ b
