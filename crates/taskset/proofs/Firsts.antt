@@ -4,24 +4,24 @@
 use Prim.Native.Nat.{ℕ, suc, _+_, _-_, _*_, _/_, _≤_, _<_}
 use mathlib.Core.Path.{_≡_, refl, sym, ap, ap₂, subst, _∙_}
 use mathlib.Core.List.{List}
-use mathlib.Core.Logic.{_↔_}
 use native.Mathlib.Omega.{arith}
-use lib.ListN.{length, take, drop, getD}
+use lib.ListN.{length, getD, set, length-set}
+use lib.Seq.{getD-set-other}
 use Rattle.numbers.specs.Numbers.{running, total}
 use Rattle.numbers.proofs.Search.{lowest-same}
 use Rattle.numbers.proofs.Sums.{total-same}
 use Rattle.numbers.proofs.Multiples.{running-same}
-use Rattle.selection.specs.Plan.{IsPlan, Fitting, IsPlanned, planLoad, workWords}
+use Rattle.selection.specs.Plan.{IsPlan, Fitting, IsPlanned, workWords}
 use Rattle.selection.proofs.Same.{Same, load-same, fitting-same, planned-same}
 use Rattle.layout.specs.Words.{extraSize, headSize, word, slack, slackPlace, idle, idlePlace, rateCount, taskCount}
 use Rattle.layout.specs.Words.{ratePlace, taskCountPlace, taskSize, periodPlace, energyPlace, rate, period, cycles, energy}
-use Rattle.layout.specs.Words.{taskKind, kindAt}
+use Rattle.layout.specs.Words.{firstPlace, taskKind, kindAt}
 use Rattle.layout.specs.declared.Kind.the-variants.{First}
 use Rattle.layout.specs.declared.Layout.the-variants.{Ordinary}
-use Rattle.layout.proofs.Layouts.{slack-in-head, slack-kind, idle-in-head, idle-kind}
-use Rattle.layout.proofs.Places.{kind-head, kind-rates, kind-rate, kind-tasks, kind-task, kind-period, kind-cycles, kind-energy}
-use Rattle.layout.proofs.Whole.{IsWhole, whole-of}
-use Rattle.taskset.specs.Quantities.{jobTicks, jobTime, hyperPeriod, taskLoad, taskEnergy, taskNet, problem, jobsEnergy}
+use Rattle.layout.proofs.Layouts.{slack-in-head, slack-kind, idle-in-head, idle-kind, first-in-extra, first-kind}
+use Rattle.layout.proofs.Places.{kind-head, kind-rates, kind-rate, kind-tasks, kind-task, kind-period, kind-cycles, kind-extra, kind-energy}
+use Rattle.layout.proofs.Whole.{whole-of}
+use Rattle.taskset.specs.Quantities.{jobTicks, jobTime, hyperPeriod, taskEnergy, problem}
 use Rattle.taskset.specs.Quantities.{reportedEnergy, workNeeded}
 use Rattle.taskset.specs.Refusals.{number, second, RateFault, IsNotAbove, EnergyFault, IsBelowIdle, PassesLimit, IsTooLong}
 use Rattle.taskset.specs.Refusals.{IsShort, NoneOk, Passes, check, wordCheck, plannerChecks}
@@ -89,6 +89,17 @@ module _ (s s′ : List ℕ) (d : DifferInFirsts s s′) where
     cycle-counts = λ t l. task-word t 1 l (omega arith) (λ f. clash (cc (kind-cycles Ordinary)));
     energies = λ t r l b h. task-word t (1 + extraSize Ordinary + r) l (omega arith) (λ f. clash (cc (kind-energy Ordinary r b)));
   }
+
+-- Any first release may be changed, to any word: the two lists differ in first releases alone.
+pub changed-first : (s : List ℕ) (t v : ℕ) → t < taskCount Ordinary s
+    → DifferInFirsts s (set s (firstPlace Ordinary (rateCount Ordinary s) t) v)
+changed-first s t v l =
+    let kind = kind-task Ordinary s t 2 l (omega (arith, first-in-extra Ordinary)) in
+    let is : taskKind Ordinary 2 ≡ First = kind-extra Ordinary 0 (first-in-extra Ordinary) ∙ first-kind Ordinary in
+    record {
+      size = sym (length-set s _ v);
+      same = λ q other. sym (getD-set-other s _ q v 0 (λ here. other (ap (kindAt Ordinary s) here ∙ kind ∙ is)));
+    }
 
 -- ---- what they come to
 module _ (s s′ : List ℕ) (a : Alike s s′) where
