@@ -5,7 +5,8 @@ use mathlib.Core.List.{List, [], _∷_, _++_}
 use lib.ListN.{length, take, drop, replicate}
 use Rattle.schedule.specs.Counted.{Outcome, missed, kept, walk}
 use Rattle.selection.specs.Plan.{planLoad, IsPlanned}
-use Rattle.layout.specs.Words.{word, slack, rateCount, taskCount, kindAt}
+use Rattle.layout.specs.Words.{slack, rateCount, taskCount}
+use Rattle.layout.specs.Words.{word, kindAt}
 use Rattle.layout.specs.declared.Kind.the-variants.{First}
 use Rattle.layout.specs.declared.Layout.{Layout}
 use Rattle.layout.specs.declared.Layout.the-variants.{Ordinary}
