@@ -86,19 +86,19 @@ lowest-late = refl
 pub full-load : walk (periodic 2 1 ∷ periodic 4 2 ∷ []) 4 ≡ kept 4 0 1
 full-load = refl
 
--- First releases, to 2 × L. Periods 2 and 2, job times 1 and 2, first releases 0 and 1: 'kept' though the load of 3 is
--- above L = 2, as an "unfinished job whose deadline lies past it is no miss".
+-- First releases, to 2 × L. Periods 2 and 4, job times 1 and 2, first releases 1 and 1: task 1 preempts task 2 in ticks
+-- 3 and 7. In tick 5 it does not: task 2's job ended in tick 4, though tick 5 releases the next.
+pub asked-before-releases : walk (offset 1 2 1 ∷ offset 1 4 2 ∷ []) 8 ≡ kept 7 1 2
+asked-before-releases = refl
+
+-- Periods 2 and 2, job times 1 and 2, first releases 0 and 1: 'kept' though the load of 3 is above L = 2, as an
+-- "unfinished job whose deadline lies past it is no miss".
 pub kept-over-load : walk (offset 0 2 1 ∷ offset 1 2 2 ∷ []) 4 ≡ kept 4 0 0
 kept-over-load = refl
 
 -- One period on it misses: task 2's second job, of tick 3, is due at 5.
 pub missed-later : walk (offset 0 2 1 ∷ offset 1 2 2 ∷ []) 6 ≡ missed 5 2
 missed-later = refl
-
--- Periods 2 and 4, job times 1 and 2, first releases 1 and 1: task 1 preempts task 2 in ticks 3 and 7. In tick 5 it does
--- not: task 2's job ended in tick 4, though tick 5 releases the next.
-pub asked-before-releases : walk (offset 1 2 1 ∷ offset 1 4 2 ∷ []) 8 ≡ kept 7 1 2
-asked-before-releases = refl
 
 -- A job is due one period after its own release: task 2's of tick 2 at 6, as task 1's, and not at 4, so that it waits.
 pub due-from-release : walk (offset 0 6 3 ∷ offset 2 4 1 ∷ []) 24 ≡ kept 18 6 0

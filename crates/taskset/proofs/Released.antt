@@ -14,7 +14,7 @@ use borrow.Author.Tests.{eqb-true}
 use Rattle.numbers.specs.Numbers.{All}
 use Rattle.numbers.proofs.Tests.{bool-cases, and-true, below-more}
 use Rattle.numbers.proofs.Sums.{sum, total-over}
-use Rattle.schedule.specs.Walk.{Task, KeepsForEver, periodic, offset}
+use Rattle.schedule.specs.Walk.{KeepsForEver, periodic, offset}
 use Rattle.schedule.proofs.Demand.{Shares, load}
 use Rattle.schedule.proofs.Capacity.{fits-keeps}
 use Rattle.schedule.proofs.ByPlace.{all-tasks, same-tasks, sum-places}
@@ -48,29 +48,23 @@ module _ (layout : Layout) (s : List ℕ) where
 
   -- ---- whatever the first releases
   module _ (set : IsSet layout s) (a : ℕ → ℕ) (P : List ℕ) where
-    abbrev place : ℕ → Task
-    place t = offset (a t) (period layout s t) (jobTime layout s t (getD P t 0))
-
     shares : All (Shares L) (tasksWith layout s a P)
     shares =
-        all-tasks (Shares L) place 0 (taskCount layout s)
-        (λ t b c. offset-shares (a t) (period layout s t) (jobTime layout s t (getD P t 0)) L
+        all-tasks (Shares L) _ 0 (taskCount layout s)
+        (λ t b c. offset-shares (a t) (period layout s t) _ L
         (set .whole .period-range t (omega arith) .0) (mod-eq-zero-of-dvd (period layout s t) (set .divides t (omega arith))))
 
     load-is : sum (load L) (tasksWith layout s a P) ≡ planLoad (problemOf layout s) P
     load-is =
-        sum-places (load L) place 0 (taskCount layout s) ∙ sym (total-over (taskLoad layout s) (taskCount layout s) P)
+        sum-places (load L) _ 0 (taskCount layout s) ∙ sym (total-over (taskLoad layout s) (taskCount layout s) P)
 
     pub load-keeps : planLoad (problemOf layout s) P ≤ L → KeepsForEver (tasksWith layout s a P)
     load-keeps fits = fits-keeps L (tasksWith layout s a P) (set .hyper-range .0) shares (omega (arith, load-is))
 
   -- ---- the last tick
   pub last-most : lastTick layout s ≤ 2 * L
-  last-most = at-most (allZero (first layout s) (taskCount layout s))
-    where
-      at-most : (b : Bool) → cond b L (2 * L) ≤ 2 * L
-      at-most true = omega arith
-      at-most false = omega arith
+  last-most =
+      ⊎-elim (λ e. rw e (omega arith)) (λ e. rw e (omega arith)) (bool-cases (allZero (first layout s) (taskCount layout s)))
 
   pub last-fits : IsSet layout s → lastTick layout s ≤ 2 * hyperLimit
   last-fits set = omega (arith, last-most, set .hyper-range .1)
