@@ -72,7 +72,7 @@ module _ (layout : Layout) (s : List ℕ) where
   -- ---- every one 0
   module _ (zero : (t : ℕ) → t < taskCount layout s → first layout s t ≡ 0) where
     pub together-last : lastTick layout s ≡ L
-    together-last = ap (λ (b : Bool). cond b L (2 * L)) (all-zero (first layout s) (taskCount layout s) zero)
+    together-last = rw (all-zero (first layout s) (taskCount layout s) zero) refl
 
     pub together-tasks : (P : List ℕ) → walkTasks layout s P ≡ endlessTasks layout s P
     together-tasks P =
