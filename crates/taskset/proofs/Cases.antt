@@ -48,6 +48,10 @@ use Rattle.taskset.proofs.Margin.{allowance, margin-reached}
 unfoldable pub S : ℕ → List ℕ
 S G = G ∷ 0 ∷ 3 ∷ 2 ∷ 4 ∷ 8 ∷ 2 ∷ 10 ∷ 12 ∷ 0 ∷ 4 ∷ 9 ∷ 20 ∷ 15 ∷ 20 ∷ 0 ∷ 7 ∷ 15 ∷ 30 ∷ []
 
+-- S with slack 100, its tasks first released at a and b.
+unfoldable pub S-from : ℕ → ℕ → List ℕ
+S-from a b = 100 ∷ 0 ∷ 3 ∷ 2 ∷ 4 ∷ 8 ∷ 2 ∷ 10 ∷ 12 ∷ a ∷ 4 ∷ 9 ∷ 20 ∷ 15 ∷ 20 ∷ b ∷ 7 ∷ 15 ∷ 30 ∷ []
+
 -- "Highest rate 2, one task of period 30", of c cycles.
 one-task : ℕ → List ℕ
 one-task c = 100 ∷ 0 ∷ 2 ∷ 1 ∷ 2 ∷ 1 ∷ 30 ∷ c ∷ 0 ∷ 5 ∷ 6 ∷ []
@@ -339,6 +343,10 @@ pub record Cases : Type 0 where
   first-1 : SetAfter (idleChecks Ordinary (with-firsts 2 4 1 3) ▹ hyperCheck Ordinary (with-firsts 2 4 1 3)) Ordinary (with-firsts 2 4 1 3) (Good 2 2 4)
   first-2 : Declined (with-firsts 2 4 2 3) (BadWord 8)
   first-4 : Declined (with-firsts 2 4 1 4) (BadWord 13)
+  -- "The planner still answers for a common release": with S's second task from 7 on, its plan; the walk of it to 60.
+  pub planned-from : (plan work : List ℕ) → length plan ≡ 2 → length work ≡ 243
+      → PlannerGives (S-from 0 7) plan work (2 ∷ 1 ∷ []) (replicate 243 0) (Planned 1 29 30 41)
+  pub walk-from : WalkAnswers (S-from 0 7) (2 ∷ 1 ∷ []) (Kept 55 5 2)
   -- "it goes to 2 × L. If some A is above 0, 'kept' means just that stretch": periods 2 and 2, first releases 0 and 1, are
   -- kept with a load of 3, above L = 2, and the plan does not keep every deadline for ever, from there or together.
   walk-over-load : WalkAnswers (with-firsts 2 2 0 1) (1 ∷ 1 ∷ []) (Kept 4 0 0)
@@ -368,7 +376,7 @@ pub record Cases : Type 0 where
   empty-plan : WalkAnswers (S 100) [] (NotWalked (BadPlan 0))
 
 pub cases : Cases
-unfolding S one-task one-period two-periods chip-set even-tasks with-rates slow-or-fast idle-tasks two-energies twice with-firsts checkedOf coveredOf shapeOf coverOf afterShape isBad isFall isOver isBelow hasBelow headKinds extraKinds kindIn kindAt headKind taskKind allows isUnfit planVerdict seek total gcdIn gcd lcm running fastest exponent usedExponent usedFrom leastEnergy cell best leastOf firstOf via spend trace choose IsLe
+unfolding S S-from one-task one-period two-periods chip-set even-tasks with-rates slow-or-fast idle-tasks two-energies twice with-firsts checkedOf coveredOf shapeOf coverOf afterShape isBad isFall isOver isBelow hasBelow headKinds extraKinds kindIn kindAt headKind taskKind allows isUnfit planVerdict seek total gcdIn gcd lcm running fastest exponent usedExponent usedFrom leastEnergy cell best leastOf firstOf via spend trace choose IsLe
 cases =
     let by-33-64 : Given (two-energies 0 33 64) (2 ∷ []) 32 5 10 64
     = planned (two-energies 0 33 64) 2 1 10 refl (2 ∷ []) 5 32 5 64
@@ -461,6 +469,8 @@ cases =
       unit-32 = planned (two-energies 0 33 33) 2 1 10 refl (2 ∷ []) 5 32 5 33
           (le-by-compare _ _ tt) (le-by-compare _ _ tt) refl refl refl refl refl refl;
       allowances = (refl, refl, refl);
+      planned-from = planned (S-from 0 7) 3 2 30 refl (2 ∷ 1 ∷ []) 0 1 29 41 (le-by-compare _ _ tt) (le-by-compare _ _ tt) refl refl refl refl refl refl;
+      walk-from = (walks (S-from 0 7) 3 2 30 refl (2 ∷ 1 ∷ []) refl, refl);
       first-1 = answered (with-firsts 2 4 1 3) (Good 2 2 4) refl;
       first-2 = set-refused (with-firsts 2 4 2 3) (BadWord 8) refl;
       first-4 = set-refused (with-firsts 2 4 1 4) (BadWord 13) refl;
