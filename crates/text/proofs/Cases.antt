@@ -1,5 +1,5 @@
 -- The cases of the bracketed text, worked in the documents or beside them, proved of the definitions: document 01's
--- example, a text for each chip, idle lines, both sides of refusal 9, and where texts depart.
+-- example, a text for each chip, idle lines, first releases, both sides of refusal 9, and where texts depart.
 -- Assumes nothing.
 use Prim.Native.Nat.{ℕ, _-_, _^_, _≤_, _<_}
 use mathlib.Core.Path.{_≡_, refl, ap, _∙_, subst}
@@ -27,7 +27,7 @@ use Rattle.taskset.specs.declared.Shape.the-variants.{Whole}
 use Rattle.taskset.proofs.Checks.{accepts-next}
 use Rattle.taskset.proofs.Verdict.{isBad, isFall, shapeOf, shape-answers}
 use Rattle.taskset.proofs.Cases.{chip-set, slow-or-fast}
-use Rattle.text.specs.Text.{Clock, rates, chip, Script, bytes, digits, decimal, scriptText, TaskLineOk, ScriptOk, IsTextOf}
+use Rattle.text.specs.Text.{TaskLine, Clock, rates, chip, Script, bytes, digits, decimal, scriptText, TaskLineOk, ScriptOk, IsTextOf}
 use Rattle.text.specs.Text.{WellFormed, FirstBad, ratesOf, headWords, words, scriptOf}
 use Rattle.text.specs.Calls.{WorksOut, HasOver, readerChecks, writerChecks}
 use Rattle.text.proofs.Reading.{literal, more, number, many, readText}
@@ -36,7 +36,7 @@ use Rattle.text.proofs.Copies.{is-read, is-refused, NoneOver, takes}
 
 -- Document 01's input of the program is the text of "the set list S", and says the words of S.
 abbrev S : List ℕ
-S = 100 ∷ 0 ∷ 3 ∷ 2 ∷ 4 ∷ 8 ∷ 2 ∷ 10 ∷ 12 ∷ 4 ∷ 9 ∷ 20 ∷ 15 ∷ 20 ∷ 7 ∷ 15 ∷ 30 ∷ []
+S = 100 ∷ 0 ∷ 3 ∷ 2 ∷ 4 ∷ 8 ∷ 2 ∷ 10 ∷ 12 ∷ 0 ∷ 4 ∷ 9 ∷ 20 ∷ 15 ∷ 20 ∷ 0 ∷ 7 ∷ 15 ∷ 30 ∷ []
 
 unfoldable pub example : List ℕ
 example = bytes "(slack 100)\n(rates 2 4 8)\n(task (period 10) (cycles 12) (energy 4 9 20))\n(task (period 15) (cycles 20) (energy 7 15 30))\n"
@@ -86,19 +86,22 @@ xscale = bytes "(slack 100)\n(chip xscale)\n(task (period 10) (cycles 1500000))\
 
 abbrev pub xscaleWords : List ℕ
 xscaleWords =
-    100 ∷ 40 ∷ 5 ∷ 150000 ∷ 400000 ∷ 600000 ∷ 800000 ∷ 1000000 ∷ 2 ∷ 10 ∷ 1500000 ∷ 800 ∷ 680 ∷ 1200 ∷ 1800 ∷ 3200 ∷ 20 ∷ 3000000 ∷
-    1600 ∷ 1360 ∷ 2000 ∷ 3600 ∷ 4800 ∷ []
+    100 ∷ 40 ∷ 5 ∷ 150000 ∷ 400000 ∷ 600000 ∷ 800000 ∷ 1000000 ∷ 2 ∷ 10 ∷ 1500000 ∷ 0 ∷ 800 ∷ 680 ∷ 1200 ∷ 1800 ∷ 3200 ∷ 20 ∷ 3000000 ∷
+    0 ∷ 1600 ∷ 1360 ∷ 2000 ∷ 3600 ∷ 4800 ∷ []
 
 unfoldable pub ppc405lp : List ℕ
 ppc405lp = bytes "(slack 500)\n(chip ppc405lp)\n(task (period 40) (cycles 1000000))\n(task (period 20) (cycles 500000))\n"
 
--- A script of two tasks under a chip, without an idle line.
+-- A task's line under a chip, and a script of two, without an idle line.
+abbrev chipLine : ℕ → ℕ → TaskLine
+chipLine p c = record { period = p; cycles = c; energies = []; first = none }
+
 abbrev pub underChip : ℕ → Chip → ℕ → ℕ → ℕ → ℕ → Script
 underChip g c p₁ c₁ p₂ c₂ = record {
   slack = g;
   idle = none;
   clock = chip c;
-  tasks = record { period = p₁; cycles = c₁; energies = [] } ∷ record { period = p₂; cycles = c₂; energies = [] } ∷ [];
+  tasks = chipLine p₁ c₁ ∷ chipLine p₂ c₂ ∷ [];
 }
 
 pub record Chips : Type 0 where
@@ -118,8 +121,11 @@ chips = record {
 
 -- Idle energies: "Chips bring H of their own unless the line is given", also where it says 0. Of a line of rates, a line
 -- that says 0 says what none says. Its range is not judged: a number over 1,000 is read.
+abbrev oneTaskFrom : Option ℕ → Option ℕ → Clock → List ℕ → Script
+oneTaskFrom a o k es = record { slack = 5; idle = o; clock = k; tasks = record { period = 7; cycles = 9; energies = es; first = a } ∷ [] }
+
 abbrev oneTask : Option ℕ → Clock → List ℕ → Script
-oneTask o k es = record { slack = 5; idle = o; clock = k; tasks = record { period = 7; cycles = 9; energies = es } ∷ [] }
+oneTask = oneTaskFrom none
 
 pub record Idles : Type 0 where
   pub given-0 : IsTextOf (oneTask (some 0) (chip Xscale) []) (bytes "(slack 5)\n(idle 0)\n(chip xscale)\n(task (period 7) (cycles 9))\n")
@@ -145,6 +151,47 @@ idles = record {
   rates-0-words = refl;
 }
 
+-- First releases: "Each task may end with `(from A)`", also under a chip, and A is "0 if absent", as where it says 0. It
+-- is not judged: a number that is not below the period is read. The writer writes it "only if above 0", also of a chip's
+-- list.
+abbrev twoRates : Option ℕ → Script
+twoRates a = oneTaskFrom a none (rates (1 ∷ 2 ∷ [])) (3 ∷ 4 ∷ [])
+
+abbrev twoRatesWords : ℕ → List ℕ
+twoRatesWords a = 5 ∷ 0 ∷ 2 ∷ 1 ∷ 2 ∷ 1 ∷ 7 ∷ 9 ∷ a ∷ 3 ∷ 4 ∷ []
+
+abbrev xscaleFrom : ℕ → Script
+xscaleFrom a = oneTaskFrom (some a) none (chip Xscale) []
+
+pub record Firsts : Type 0 where
+  pub given : IsTextOf (twoRates (some 7)) (bytes "(slack 5)\n(rates 1 2)\n(task (period 7) (cycles 9) (energy 3 4) (from 7))\n")
+  pub given-words : words (twoRates (some 7)) ≡ twoRatesWords 7
+  pub given-0 : IsTextOf (twoRates (some 0)) (bytes "(slack 5)\n(rates 1 2)\n(task (period 7) (cycles 9) (energy 3 4) (from 0))\n")
+  pub given-0-words : words (twoRates (some 0)) ≡ twoRatesWords 0
+  pub absent-words : words (twoRates none) ≡ twoRatesWords 0
+  pub under-chip : IsTextOf (xscaleFrom 6) (bytes "(slack 5)\n(chip xscale)\n(task (period 7) (cycles 9) (from 6))\n")
+  pub under-chip-words : words (xscaleFrom 6) ≡
+      5 ∷ 40 ∷ 5 ∷ 150000 ∷ 400000 ∷ 600000 ∷ 800000 ∷ 1000000 ∷ 1 ∷ 7 ∷ 9 ∷ 6 ∷ 80 ∷ 170 ∷ 400 ∷ 900 ∷ 1600 ∷ []
+  pub written : IsTextOf (scriptOf (twoRatesWords 6)) (bytes "(slack 5)\n(rates 1 2)\n(task (period 7) (cycles 9) (energy 3 4) (from 6))\n")
+  pub not-written : IsTextOf (scriptOf (twoRatesWords 0)) (bytes "(slack 5)\n(rates 1 2)\n(task (period 7) (cycles 9) (energy 3 4))\n")
+  pub chip-written : IsTextOf (scriptOf (words (xscaleFrom 6)))
+      (bytes "(slack 5)\n(idle 40)\n(rates 150000 400000 600000 800000 1000000)\n(task (period 7) (cycles 9) (energy 80 170 400 900 1600) (from 6))\n")
+
+pub firsts : Firsts
+unfolding readText number more literal many words scriptOf headKinds extraKinds chipRates chipEnergies megahertz milliwatts idleFigures
+firsts = record {
+  given = is-read (twoRates (some 7)) _ 73 refl .0;
+  given-words = refl;
+  given-0 = is-read (twoRates (some 0)) _ 73 refl .0;
+  given-0-words = refl;
+  absent-words = refl;
+  under-chip = is-read (xscaleFrom 6) _ 62 refl .0;
+  under-chip-words = refl;
+  written = is-read (scriptOf (twoRatesWords 6)) _ 73 refl .0;
+  not-written = is-read (scriptOf (twoRatesWords 0)) _ 64 refl .0;
+  chip-written = is-read (scriptOf (words (xscaleFrom 6))) _ 131 refl .0;
+}
+
 -- Refusal 9, either side of its edge. On the xscale 625,000,000 cycles take 625 ticks at 1,000 MHz and 1,600 mW, which is
 -- 1,000,000 exactly; on the ppc405lp 443,156,000 take 1,666 ticks at 266 MHz and 600 mW, 999,600, and at 333 MHz less. A
 -- cycle more is a tick more. The second task's number is given, whatever is lent; and a byte behind the last line comes
@@ -163,24 +210,24 @@ abbrev ppcEnough : Script
 ppcEnough = underChip 9 Ppc405lp 7 443156000 7 443156000
 
 abbrev unjudged : Script
-unjudged = record { slack = 0; idle = none; clock = chip Xscale; tasks = record { period = 0; cycles = 4294967295; energies = [] } ∷ [] }
+unjudged = record { slack = 0; idle = none; clock = chip Xscale; tasks = chipLine 0 4294967295 ∷ [] }
 
 abbrev inText : Script
 inText = record {
   slack = 9;
   idle = none;
   clock = rates (1 ∷ 2 ∷ []);
-  tasks = record { period = 7; cycles = 9; energies = 1000001 ∷ 1 ∷ [] } ∷ [];
+  tasks = record { period = 7; cycles = 9; energies = 1000001 ∷ 1 ∷ []; first = none } ∷ [];
 }
 
 pub record Overs : Type 0 where
   pub over : (lent : ℕ) → Refuses (readerChecks (scriptText tooMuch) lent) 9 2
-  pub at-most : (lent : ℕ) → 23 ≤ lent → Accepts (readerChecks (scriptText enough) lent)
+  pub at-most : (lent : ℕ) → 25 ≤ lent → Accepts (readerChecks (scriptText enough) lent)
   pub ppc405lp-over : (lent : ℕ) → Refuses (readerChecks (scriptText ppcMuch) lent) 9 2
-  pub ppc405lp-at-most : (lent : ℕ) → 20 ≤ lent → Accepts (readerChecks (scriptText ppcEnough) lent)
+  pub ppc405lp-at-most : (lent : ℕ) → 22 ≤ lent → Accepts (readerChecks (scriptText ppcEnough) lent)
   pub left-over : (lent : ℕ) → Refuses (readerChecks (scriptText tooMuch ++ (10 ∷ [])) lent) 1 98
   pub unranged : (lent : ℕ) → Refuses (readerChecks (scriptText unjudged) lent) 9 1
-  pub given : (lent : ℕ) → 10 ≤ lent → Accepts (readerChecks (scriptText inText) lent)
+  pub given : (lent : ℕ) → 11 ≤ lent → Accepts (readerChecks (scriptText inText) lent)
 
 -- Tasks with an energy over the largest.
 much-2 : HasOver tooMuch 2
@@ -267,8 +314,8 @@ in-text-unjudged w = absurd w
 -- These scripts have texts.
 two-ok : (c : Chip) (a b : ℕ) → a < 2 ^ 32 → b < 2 ^ 32 → ScriptOk (underChip 9 c 7 a 7 b)
 two-ok c a b h l =
-    let line : (k : ℕ) → k < 2 ^ 32 → TaskLineOk 0 (record { period = 7; cycles = k; energies = [] }) = λ k l.
-    record { period = omega arith; cycles = l; energies = record { least = omega arith; most = omega arith; each = tt } } in
+    let line : (k : ℕ) → k < 2 ^ 32 → TaskLineOk 0 (chipLine 7 k) = λ k l.
+    record { period = omega arith; cycles = l; energies = record { least = omega arith; most = omega arith; each = tt }; first = tt } in
     record {
       slack = omega arith;
       idle = tt;
@@ -295,7 +342,7 @@ is-unjudged =
       tasks = record {
         least = omega arith;
         most = omega arith;
-        each = (record { period = omega arith; cycles = omega arith; energies = record { least = omega arith; most = omega arith; each = tt } }, tt);
+        each = (record { period = omega arith; cycles = omega arith; energies = record { least = omega arith; most = omega arith; each = tt }; first = tt }, tt);
       };
     })
 
@@ -314,6 +361,7 @@ is-in-text =
             period = omega arith;
             cycles = omega arith;
             energies = record { least = omega arith; most = omega arith; each = (omega arith, (omega arith, tt)) };
+            first = tt;
           },
           tt,
         );
@@ -322,9 +370,9 @@ is-in-text =
 
 -- How many words they have.
 record Lengths : Type 0 where
-  xscale : length (words enough) ≡ 23
-  ppc405lp : length (words ppcEnough) ≡ 20
-  in-text : length (words inText) ≡ 10
+  xscale : length (words enough) ≡ 25
+  ppc405lp : length (words ppcEnough) ≡ 22
+  in-text : length (words inText) ≡ 11
 
 lengths : Lengths
 unfolding words chipRates chipEnergies megahertz headKinds extraKinds
@@ -392,9 +440,11 @@ alike n = bytes "(slack 1)\n(rates 1 2)\n" ++ joined (λ (k : ℕ). bytes "(task
 -- "A ninth rate, a 33rd task or a digit that passes the largest number is refusal 1 at that byte." "Empty text: refusal
 -- 1, offset 0." After the largest number only a bracket may follow, after a first digit 0 no other, and a text that
 -- ends before its first task ends early. With chips: an unknown name departs at the first letter that no name has there,
--- an energy form under a chip at the space in front of it, a missing one under rates at the bracket in its place, and
+-- an energy form under a chip at its first letter, since a first release may stand there, a missing one under rates at the bracket in its place, and
 -- where a chip and a line of rates both stand, the second at the first byte that no text has. An idle line that stands
--- twice, or not behind the slack's, departs at its first letter, and one without a number where the number should be.
+-- twice, or not behind the slack's, departs at its first letter, and one without a number where the number should be. A
+-- first release departs at its first letter where it stands in front of the energies, and at its space where it stands
+-- twice.
 pub record Departures : Type 0 where
   ninth-rate : FirstBad WellFormed (bytes "(slack 1)\n(rates 1 2 3 4 5 6 7 8 9)\n") 32
   task-33 : FirstBad WellFormed (alike 33) 1366
@@ -407,7 +457,7 @@ pub record Departures : Type 0 where
   other-name : FirstBad WellFormed (bytes "(slack 1)\n(chip arm)\n") 16
   name-cut : FirstBad WellFormed (bytes "(slack 1)\n(chip ppc405") 22
   energies-under-chip : FirstBad WellFormed
-      (bytes "(slack 1)\n(chip xscale)\n(task (period 1) (cycles 1) (energy 1 1 1 1 1))\n") 51
+      (bytes "(slack 1)\n(chip xscale)\n(task (period 1) (cycles 1) (energy 1 1 1 1 1))\n") 53
   no-energies : FirstBad WellFormed (bytes "(slack 1)\n(rates 1 2)\n(task (period 1) (cycles 1))\n") 49
   chip-then-rates : FirstBad WellFormed (bytes "(slack 1)\n(chip xscale)\n(rates 1 2)\n") 25
   rates-then-chip : FirstBad WellFormed (bytes "(slack 1)\n(rates 1 2)\n(chip xscale)\n") 23
@@ -418,6 +468,10 @@ pub record Departures : Type 0 where
   idle-before-slack : FirstBad WellFormed (bytes "(idle 2)\n(slack 1)\n(rates 1 2)\n") 1
   idle-empty : FirstBad WellFormed (bytes "(slack 1)\n(idle)\n(rates 1 2)\n") 15
   idle-largest-passed : FirstBad WellFormed (bytes "(slack 1)\n(idle 4294967296)\n") 25
+  from-before-energies : FirstBad WellFormed (bytes "(slack 1)\n(rates 1 2)\n(task (period 1) (cycles 1) (from 0) (energy 1 1))\n") 51
+  from-twice : FirstBad WellFormed (bytes "(slack 1)\n(rates 1 2)\n(task (period 1) (cycles 1) (energy 1 1) (from 0) (from 0))\n") 71
+  from-empty : FirstBad WellFormed (bytes "(slack 1)\n(rates 1 2)\n(task (period 1) (cycles 1) (energy 1 1) (from))\n") 68
+  from-leading-zero : FirstBad WellFormed (bytes "(slack 1)\n(rates 1 2)\n(task (period 1) (cycles 1) (energy 1 1) (from 01))\n") 70
 
 pub departures : Departures
 unfolding alike readText number more literal many
@@ -432,7 +486,7 @@ departures = record {
   unknown-name = is-refused _ 17 refl;
   other-name = is-refused _ 16 refl;
   name-cut = is-refused _ 22 refl;
-  energies-under-chip = is-refused _ 51 refl;
+  energies-under-chip = is-refused _ 53 refl;
   no-energies = is-refused _ 49 refl;
   chip-then-rates = is-refused _ 25 refl;
   rates-then-chip = is-refused _ 23 refl;
@@ -443,4 +497,8 @@ departures = record {
   idle-before-slack = is-refused _ 1 refl;
   idle-empty = is-refused _ 15 refl;
   idle-largest-passed = is-refused _ 25 refl;
+  from-before-energies = is-refused _ 51 refl;
+  from-twice = is-refused _ 71 refl;
+  from-empty = is-refused _ 68 refl;
+  from-leading-zero = is-refused _ 70 refl;
 }

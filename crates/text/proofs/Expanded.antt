@@ -10,13 +10,14 @@ use native.Mathlib.Nat.{add-zero}
 use native.Mathlib.Omega.{arith}
 use lib.ListN.{length, getD}
 use lib.Seq.{getD-append-add}
+use borrow.Author.Tests.{lt-ltb}
 use Rattle.numbers.specs.Numbers.{All, joined}
 use Rattle.numbers.proofs.Lists.{each-at, all-at, joined-at}
 use Rattle.numbers.proofs.Search.{no-lowest}
 use Rattle.numbers.proofs.Tests.{lt-or-le, true-between}
 use Rattle.layout.specs.Words.{headKinds, extraKinds, headSize, extraSize, headKind, kindIn, allows, longestPeriod}
 use Rattle.layout.specs.Words.{mostIdle, mostEnergy, word, idle, rateCount, taskCount}
-use Rattle.layout.specs.Words.{taskSize, periodPlace, rate, period, cycles, energy}
+use Rattle.layout.specs.Words.{taskSize, periodPlace, rate, period, cycles, first, energy}
 use Rattle.layout.specs.declared.Layout.the-variants.{Ordinary}
 use Rattle.layout.proofs.Whole.{IsWhole}
 use Rattle.layout.proofs.Built.{built}
@@ -29,15 +30,20 @@ use Rattle.taskset.specs.Refusals.{Passes, Accepts, wordChecks, idleCheck}
 use Rattle.taskset.proofs.Idle.{Covered, covered-passes}
 use Rattle.taskset.proofs.Sets.{words-pass}
 use Rattle.text.specs.Text.{TaskLine, chip, Script, energyCount, TaskLineOk, ScriptOk, IsTextOf}
-use Rattle.text.specs.Text.{idleOf, headWords, extraWords, taskWords, words}
+use Rattle.text.specs.Text.{idleOf, headWords, firstOf, extraWords, taskWords, words}
 use Rattle.text.specs.Calls.{HasOver, overCheck}
 use Rattle.text.proofs.Sizes.{task-size, words-size}
 use Rattle.text.proofs.Copies.{NoneOver}
 
--- What a customer's own numbers are to be.
+-- What a customer's own numbers are to be: a first release, where one is given, is below the period.
+abbrev pub FirstIn : ℕ → Option ℕ → Type 0
+FirstIn period none = Unit {0}
+FirstIn period (some a) = a < period
+
 pub record LineIn (l : TaskLine) : Type 0 where
   pub period : (1 ≤ l .period) × (l .period ≤ longestPeriod)
   pub cycles : (1 ≤ l .cycles) × (l .cycles ≤ 4000000000)
+  pub first : FirstIn (l .period) (l .first)
 
 abbrev pub IdleIn : Option ℕ → Type 0
 IdleIn none = Unit {0}
@@ -49,7 +55,7 @@ chipScript c g o ts = record { slack = g; idle = o; clock = chip c; tasks = ts }
 
 -- The line of the task at place t.
 abbrev pub lineAt : List TaskLine → ℕ → TaskLine
-lineAt ts t = getD ts t (record { period = 0; cycles = 0; energies = [] })
+lineAt ts t = getD ts t (record { period = 0; cycles = 0; energies = []; first = none })
 
 head-length : (s : Script) → length (headWords s) ≡ headSize Ordinary
 unfolding headKinds
@@ -111,6 +117,10 @@ module _ (c : Chip) (g : ℕ) (o : Option ℕ) (ts : List TaskLine) (ok : Script
     cycles-is : cycles Ordinary (words s) t ≡ line t .cycles
     cycles-is = task-word 1 (omega arith)
 
+    first-is : first Ordinary (words s) t ≡ firstOf (line t .first)
+    unfolding extraKinds
+    first-is = task-word 2 (omega arith)
+
     energy-is : (r : ℕ) → 1 ≤ r → r ≤ m → energy Ordinary (words s) t r ≡ chipEnergy c (line t .cycles) r
     unfolding chipEnergies
     energy-is r a b =
@@ -163,8 +173,13 @@ idle-most : (c : Chip) (o : Option ℕ) → IdleIn o → idleOf o (chip c) ≤ m
 idle-most c none h = idle-range c .1
 idle-most c (some i) h = h
 
--- Where its slack, its idle line if there is one, its periods and its cycles are in their ranges, and no energy is over
--- the largest, a chip's list passes checks 2 and 3.
+-- A first release that the list has is below the period: none is 0, and a period is not.
+first-below : (period : ℕ) (o : Option ℕ) → 1 ≤ period → FirstIn period o → firstOf o < period
+first-below period none low h = low
+first-below period (some a) low h = h
+
+-- Where its slack, its idle line if there is one, its periods, its cycles and its first releases are in their ranges, and
+-- no energy is over the largest, a chip's list passes checks 2 and 3.
 module _ (c : Chip) (g : ℕ) (o : Option ℕ) (ts : List TaskLine) (ok : ScriptOk (chipScript c g o ts))
     (slack-in : (1 ≤ g) × (g ≤ 1000)) (idle-in : IdleIn o) (lines-in : All LineIn ts)
     (none : NoneOver (chipScript c g o ts)) where
@@ -185,8 +200,19 @@ module _ (c : Chip) (g : ℕ) (o : Option ℕ) (ts : List TaskLine) (ok : Script
 
   extra-in : (t k : ℕ) → t < taskCount Ordinary list → k < extraSize Ordinary
       → allows list (periodPlace Ordinary (rateCount Ordinary list) t + (2 + k)) (kindIn (extraKinds Ordinary) k) ≡ true
-  unfolding extraKinds
-  extra-in t k h l = absurd (omega arith)
+  unfolding extraKinds kindIn allows
+  extra-in t k h l =
+      let none : k ≡ 0 = omega arith in
+      let p : ℕ = periodPlace Ordinary (rateCount Ordinary list) t in
+      let own : p + (2 + 0) - 2 ≡ p = omega arith in
+      let x = line-in t (task t h) in
+      rw (none, own)
+      (lt-ltb (first Ordinary list t) (period Ordinary list t) (omega (
+        arith,
+        first-is c g o ts ok t (task t h),
+        period-is c g o ts ok t (task t h),
+        first-below (line c g o ts ok t .period) (line c g o ts ok t .first) (x .period .0) (x .first),
+      )))
 
   few : (r : ℕ) → r ≤ rateCount Ordinary list → r ≤ length (chipRates c)
   few r b = omega (arith, rates-is c g o ts ok)

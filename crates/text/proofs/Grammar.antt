@@ -14,11 +14,11 @@ use Rattle.numbers.specs.Numbers.{All, joined}
 use Rattle.chips.specs.declared.Chip.{Chip}
 use Rattle.chips.specs.declared.Chip.the-variants.{Xscale, Ppc405lp}
 use Rattle.text.specs.Text.{TaskLine, Clock, rates, chip, Script, bytes, decimal, spaced, energyText, taskText}
-use Rattle.text.specs.Text.{chipName, clockText, idleText, scriptText}
-use Rattle.text.specs.Text.{Word, Between, IdleOk, ClockOk, energyCount, TaskLineOk, ScriptOk, IsTextOf, WellFormed, FirstBad}
+use Rattle.text.specs.Text.{firstText, chipName, clockText, idleText, scriptText}
+use Rattle.text.specs.Text.{Word, Between, MaybeWord, ClockOk, energyCount, TaskLineOk, ScriptOk, IsTextOf, WellFormed, FirstBad}
 use Rattle.text.proofs.Reading.{Res, got, bad, later, seq, skip, upTo, field, numbers, starts, both}
-use Rattle.text.proofs.Reading.{mkTask, mkScript, readEnergies, readTask, readTasks, readName}
-use Rattle.text.proofs.Reading.{noIdleLine, readIdle, readHead, readChip, readClock, readScript, readText, readAt}
+use Rattle.text.proofs.Reading.{absent, optional, mkTask, mkScript, readEnergies, readFirst, readEnding, readTask, readTasks}
+use Rattle.text.proofs.Reading.{readName, readIdle, readHead, readChip, readClock, readScript, readText, readAt}
 use Rattle.text.proofs.Pieces.{Good, Piece, seq-piece, Form, Right, whole-exact, whole-right, first-bad-same}
 use Rattle.text.proofs.Literals.{literal-piece, Any}
 use Rattle.text.proofs.Branches.{map-piece, either-piece}
@@ -61,6 +61,55 @@ follows P = record { exact = λ a d r f. P .exact a d r tt; good = P .good; loca
 pub field-piece : (l : List ℕ) → Piece (λ v. l ++ decimal v) Word NoDigit (field l)
 field-piece l = skip-piece l (0, omega arith) number-piece
 
+-- a number's form that may be absent: a byte that does not begin what follows begins it
+abbrev Given : Option ℕ → Type 0
+Given none = ⊥
+Given (some v) = Word v
+
+abbrev Absent : Option ℕ → Type 0
+Absent none = Unit {0}
+Absent (some v) = ⊥
+
+optional-piece : (c : ℕ) (text : Option ℕ → List ℕ) → text none ≡ [] → {p : List ℕ → Res ℕ}
+    → Piece (λ v. text (some v)) Word Any p
+    → ((v : ℕ) (r : List ℕ) → starts c (text (some v) ++ r) ≡ true)
+    → Piece text MaybeWord (λ r. starts c r ≡ false) (optional c p)
+optional-piece c text empty P begins =
+    either-piece text MaybeWord c
+    (map-piece some text Given (follows P) (λ v. refl) (λ v d. d) given-part)
+    absent-piece from-given from-absent which given-begins absent-begins
+  where
+    given-part : (o : Option ℕ) → Given o → (v : ℕ) × Word v × (some v ≡ o)
+    given-part none d = absurd d
+    given-part (some v) d = (v, d, refl)
+
+    absent-exact : (o : Option ℕ) → Absent o → (r : List ℕ) → starts c r ≡ false → got none 0 ≡ got o (length (text o))
+    absent-exact none d r f = rw empty
+    absent-exact (some v) d r f = absurd d
+
+    absent-piece : Piece text Absent (λ r. starts c r ≡ false) absent
+    absent-piece = record { exact = absent-exact; good = λ t. (tt, omega arith, sym empty); local = λ t u lt same. refl }
+
+    from-given : (o : Option ℕ) → Given o → MaybeWord o
+    from-given none d = absurd d
+    from-given (some v) d = omega arith
+
+    from-absent : (o : Option ℕ) → Absent o → MaybeWord o
+    from-absent none d = tt
+    from-absent (some v) d = absurd d
+
+    which : (o : Option ℕ) → MaybeWord o → Given o ⊎ Absent o
+    which none d = inr tt
+    which (some v) d = inl (omega arith)
+
+    given-begins : (o : Option ℕ) → Given o → (r : List ℕ) → starts c (text o ++ r) ≡ true
+    given-begins none d r = absurd d
+    given-begins (some v) d r = begins v r
+
+    absent-begins : (o : Option ℕ) → Absent o → (r : List ℕ) → starts c r ≡ false → starts c (text o ++ r) ≡ false
+    absent-begins none d r f = rw empty f
+    absent-begins (some v) d r f = absurd d
+
 -- what may follow a list of numbers
 abbrev NoItem : List ℕ → Type 0
 NoItem r = NoDigit r × (starts 32 r ≡ false)
@@ -81,9 +130,17 @@ pub energy-form : (es : List ℕ) → 1 ≤ length es → energyText es ≡ byte
 energy-form [] h = absurd (omega arith)
 energy-form (e ∷ es) h = refl
 
+-- a first release, and none: a bracket follows
+first-piece : Piece firstText MaybeWord (λ r. starts 32 r ≡ false) readFirst
+first-piece = optional-piece 32 firstText refl (end-piece (bytes ")") (λ r. refl) (field-piece (bytes " (from "))) (λ v r. refl)
+
 module _ (m : ℕ) where
   some-task : (t : TaskLine) × TaskLineOk m t
-  some-task = let z = zeros m in (record { period = 0; cycles = 0; energies = z .0 }, record { period = omega arith; cycles = omega arith; energies = z .1 })
+  some-task =
+      let z = zeros m in (
+        record { period = 0; cycles = 0; energies = z .0; first = none },
+        record { period = omega arith; cycles = omega arith; energies = z .1; first = tt },
+      )
 
   energies-piece : Piece energyText (Between Word m m) Any (readEnergies m)
   energies-piece = of-count m
@@ -103,21 +160,35 @@ module _ (m : ℕ) where
           (skip-piece (bytes " (energy") (zeros (suc m))
           (end-piece (bytes ")") (λ r. (refl, refl)) (rw add-zero at (numbers-piece (suc m) 0))))
 
-  cycles-piece : Piece (λ (x : ℕ × List ℕ). bytes ") (cycles " ++
-      (decimal (x .0) ++ (bytes ")" ++ (energyText (x .1) ++ bytes ")\n"))))
-      (λ x. Word (x .0) × Between Word m m (x .1)) Any
-      (seq both (field (bytes ") (cycles ")) (λ _. skip (bytes ")") (upTo (readEnergies m) (bytes ")\n"))))
+  -- the end of a line, from behind its cycles on
+  abbrev endingText : List ℕ × Option ℕ → List ℕ
+  endingText x = energyText (x .0) ++ (firstText (x .1) ++ bytes ")\n")
+
+  abbrev EndingOk : List ℕ × Option ℕ → Type 0
+  EndingOk x = Between Word m m (x .0) × MaybeWord (x .1)
+
+  some-ending : (x : List ℕ × Option ℕ) × EndingOk x
+  some-ending = let z = zeros m in ((z .0, none), (z .1, tt))
+
+  ending-piece : Piece endingText EndingOk Any (readEnding m)
+  ending-piece =
+      seq-piece both endingText EndingOk energies-piece (λ _ _. end-piece (bytes ")\n") (λ r. refl) first-piece)
+      (λ a b. refl) (λ a b d e. (d, e)) (λ x d. (x .0, x .1, d .0, d .1, refl)) (λ _ _. (none, tt)) (λ a b r _ _ _. tt)
+
+  cycles-piece : Piece (λ (x : ℕ × (List ℕ × Option ℕ)). bytes ") (cycles " ++ (decimal (x .0) ++ (bytes ")" ++ endingText (x .1))))
+      (λ x. Word (x .0) × EndingOk (x .1)) Any
+      (seq both (field (bytes ") (cycles ")) (λ _. skip (bytes ")") (readEnding m)))
   cycles-piece =
       seq-piece both _ _ (field-piece (bytes ") (cycles "))
-      (λ _ _. skip-piece (bytes ")") (zeros m) (end-piece (bytes ")\n") (λ r. tt) energies-piece))
-      (λ a b. refl) (λ a b d e. (d, e)) (λ x d. (x .0, x .1, d .0, d .1, refl)) (λ _ _. zeros m) (λ a b r _ _ _. refl)
+      (λ _ _. skip-piece (bytes ")") some-ending ending-piece)
+      (λ a b. refl) (λ a b d e. (d, e)) (λ x d. (x .0, x .1, d .0, d .1, refl)) (λ _ _. some-ending) (λ a b r _ _ _. refl)
 
   pub task-piece : Piece taskText (TaskLineOk m) Any (readTask m)
   task-piece =
       seq-piece mkTask taskText (TaskLineOk m) (field-piece (bytes "(task (period ")) (λ _ _. cycles-piece)
-      (λ a b. refl) (λ a b d e. record { period = d; cycles = e .0; energies = e .1 })
-      (λ t d. (t .period, (t .cycles, t .energies), d .period, (d .cycles, d .energies), refl))
-      (λ _ _. let z = zeros m in ((0, z .0), (omega arith, z .1))) (λ a b r _ _ _. refl)
+      (λ a b. refl) (λ a b d e. record { period = d; cycles = e .0; energies = e .1 .0; first = e .1 .1 })
+      (λ t d. (t .period, (t .cycles, (t .energies, t .first)), d .period, (d .cycles, (d .energies, d .first)), refl))
+      (λ _ _. let z = some-ending in ((0, z .0), (omega arith, z .1))) (λ a b r _ _ _. refl)
 
   pub tasks-piece : Piece (joined taskText) (Between (TaskLineOk m) 1 32) (λ r. starts 40 r ≡ false) (readTasks m)
   tasks-piece = many-piece task-piece 40 (λ r. starts 40 r ≡ false) (λ xs d r f. tt) (λ a d r. refl) (λ r f. f) some-task 1 31
@@ -149,51 +220,8 @@ chip-piece =
 abbrev NoIdle : List ℕ → Type 0
 NoIdle r = starts 105 r ≡ false
 
-abbrev Given : Option ℕ → Type 0
-Given none = ⊥
-Given (some h) = Word h
-
-abbrev Absent : Option ℕ → Type 0
-Absent none = Unit {0}
-Absent (some h) = ⊥
-
-idle-piece : Piece idleText IdleOk NoIdle readIdle
-idle-piece =
-    either-piece idleText IdleOk 105
-    (map-piece some idleText Given (follows (end-piece (bytes ")\n(") (λ r. refl) (field-piece (bytes "idle "))))
-    (λ h. refl) (λ h d. d) given-part)
-    absent-piece from-given from-absent which given-begins absent-begins
-  where
-    given-part : (o : Option ℕ) → Given o → (h : ℕ) × Word h × (some h ≡ o)
-    given-part none d = absurd d
-    given-part (some h) d = (h, d, refl)
-
-    absent-exact : (o : Option ℕ) → Absent o → (r : List ℕ) → NoIdle r → got none 0 ≡ got o (length (idleText o))
-    absent-exact none d r f = refl
-    absent-exact (some h) d r f = absurd d
-
-    absent-piece : Piece idleText Absent NoIdle noIdleLine
-    absent-piece = record { exact = absent-exact; good = λ t. (tt, omega arith, refl); local = λ t u lt same. refl }
-
-    from-given : (o : Option ℕ) → Given o → IdleOk o
-    from-given none d = absurd d
-    from-given (some h) d = omega arith
-
-    from-absent : (o : Option ℕ) → Absent o → IdleOk o
-    from-absent none d = tt
-    from-absent (some h) d = absurd d
-
-    which : (o : Option ℕ) → IdleOk o → Given o ⊎ Absent o
-    which none d = inr tt
-    which (some h) d = inl (omega arith)
-
-    given-begins : (o : Option ℕ) → Given o → (r : List ℕ) → starts 105 (idleText o ++ r) ≡ true
-    given-begins none d r = absurd d
-    given-begins (some h) d r = refl
-
-    absent-begins : (o : Option ℕ) → Absent o → (r : List ℕ) → NoIdle r → starts 105 (idleText o ++ r) ≡ false
-    absent-begins none d r f = f
-    absent-begins (some h) d r f = absurd d
+idle-piece : Piece idleText MaybeWord NoIdle readIdle
+idle-piece = optional-piece 105 idleText refl (end-piece (bytes ")\n(") (λ r. refl) (field-piece (bytes "idle "))) (λ v r. refl)
 
 -- a line of rates, and a chip's line
 abbrev OfRates : Clock → Type 0
@@ -251,7 +279,7 @@ abbrev headText : ℕ × Option ℕ → List ℕ
 headText h = bytes "(slack " ++ (decimal (h .0) ++ (bytes ")\n(" ++ idleText (h .1)))
 
 abbrev HeadOk : ℕ × Option ℕ → Type 0
-HeadOk h = Word (h .0) × IdleOk (h .1)
+HeadOk h = Word (h .0) × MaybeWord (h .1)
 
 head-piece : Piece headText HeadOk NoIdle readHead
 head-piece =

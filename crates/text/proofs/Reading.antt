@@ -96,6 +96,13 @@ many p c zero zero t = nothing t
 many p c zero (suc k) t = either c (seq _∷_ p (λ _. many p c zero k)) nothing t
 many p c (suc m) k t = seq _∷_ p (λ _. many p c m k) t
 
+-- a piece that may be absent, and starts with the byte c where it is not
+abbrev pub absent : {A : Type 0} → List ℕ → Res (Option A)
+absent t = got none 0
+
+abbrev pub optional : {A : Type 0} → ℕ → (List ℕ → Res A) → List ℕ → Res (Option A)
+optional c p = either c (mapped some p) absent
+
 -- a fixed string and a number
 abbrev pub field : List ℕ → List ℕ → Res ℕ
 field l = skip l number
@@ -104,8 +111,8 @@ field l = skip l number
 abbrev pub numbers : ℕ → ℕ → List ℕ → Res (List ℕ)
 numbers = many (field (bytes " ")) 32
 
-abbrev pub mkTask : ℕ → ℕ × List ℕ → TaskLine
-mkTask p r = record { period = p; cycles = r .0; energies = r .1 }
+abbrev pub mkTask : ℕ → ℕ × (List ℕ × Option ℕ) → TaskLine
+mkTask p r = record { period = p; cycles = r .0; energies = r .1 .0; first = r .1 .1 }
 
 abbrev pub mkScript : ℕ × Option ℕ → Clock × List TaskLine → Script
 mkScript h r = record { slack = h .0; idle = h .1; clock = r .0; tasks = r .1 }
@@ -118,11 +125,19 @@ abbrev pub readEnergies : ℕ → List ℕ → Res (List ℕ)
 readEnergies zero = nothing
 readEnergies (suc m) = skip (bytes " (energy") (upTo (numbers (suc m) 0) (bytes ")"))
 
+-- the first release behind them: a space begins it, and a bracket what ends the line
+abbrev pub readFirst : List ℕ → Res (Option ℕ)
+readFirst = optional 32 (upTo (field (bytes " (from ")) (bytes ")"))
+
+-- a task's line from behind its cycles on
+abbrev pub readEnding : ℕ → List ℕ → Res (List ℕ × Option ℕ)
+readEnding m = seq both (readEnergies m) (λ _. upTo readFirst (bytes ")\n"))
+
 abbrev pub readTask : ℕ → List ℕ → Res TaskLine
 readTask m =
     seq mkTask (field (bytes "(task (period "))
     (λ _. seq both (field (bytes ") (cycles "))
-    (λ _. skip (bytes ")") (upTo (readEnergies m) (bytes ")\n"))))
+    (λ _. skip (bytes ")") (readEnding m)))
 
 abbrev pub readTasks : ℕ → List ℕ → Res (List TaskLine)
 readTasks m = many (readTask m) 40 1 31
@@ -135,14 +150,8 @@ abbrev pub readChip : List ℕ → Res Chip
 readChip = either 120 (readName Xscale) (readName Ppc405lp)
 
 -- the idle line from its name on, with the bracket that opens the line behind it, or none: an i begins it
-abbrev pub readIdleLine : List ℕ → Res (Option ℕ)
-readIdleLine = mapped some (upTo (field (bytes "idle ")) (bytes ")\n("))
-
-abbrev pub noIdleLine : List ℕ → Res (Option ℕ)
-noIdleLine t = got none 0
-
 abbrev pub readIdle : List ℕ → Res (Option ℕ)
-readIdle = either 105 readIdleLine noIdleLine
+readIdle = optional 105 (upTo (field (bytes "idle ")) (bytes ")\n("))
 
 -- the lines of the head
 abbrev pub readHead : List ℕ → Res (ℕ × Option ℕ)

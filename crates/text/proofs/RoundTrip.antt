@@ -11,11 +11,11 @@ use lib.Seq.{drop-cons}
 use Rattle.numbers.specs.Numbers.{each, joined}
 use Rattle.numbers.proofs.Lists.{each-length, each-all}
 use Rattle.layout.specs.Words.{headKinds, extraKinds, headSize, extraSize, word, slack, idle, rateCount, taskCountPlace}
-use Rattle.layout.specs.Words.{taskCount, taskSize, periodPlace, rate, energy}
-use Rattle.layout.proofs.Whole.{IsWhole, in-list, slack-in, idle-in}
+use Rattle.layout.specs.Words.{taskCount, taskSize, periodPlace, rate, first, energy}
+use Rattle.layout.proofs.Whole.{IsWhole, in-list, slack-in, idle-in, first-in}
 use Rattle.layout.specs.declared.Layout.the-variants.{Ordinary}
-use Rattle.text.specs.Text.{rates, Word, IdleOk, TaskLineOk, ScriptOk, idleOf, headWords, extraWords, taskWords, words}
-use Rattle.text.specs.Text.{listRates, lineOf, shownIdle, scriptOf}
+use Rattle.text.specs.Text.{rates, Word, MaybeWord, TaskLineOk, ScriptOk, idleOf, headWords, firstOf, extraWords, taskWords, words}
+use Rattle.text.specs.Text.{listRates, shown, lineOf, scriptOf}
 
 -- Words that stand in a row of a list, and what follows them.
 module _ (s : List ℕ) (f : ℕ → ℕ) (p : ℕ) (stands : (j : ℕ) → f j ≡ word s (p + j)) where
@@ -28,14 +28,18 @@ module _ (s : List ℕ) (f : ℕ → ℕ) (p : ℕ) (stands : (j : ℕ) → f j 
       ap (λ (l : List ℕ). f i ∷ l) (ap (λ (k : ℕ). each f (suc i) n ++ drop k s) there ∙ rest ∙ ap (λ (k : ℕ). drop k s) here) ∙
       ap (λ (x : ℕ). x ∷ drop (suc (p + i)) s) (stands i) ∙ sym (drop-cons s (p + i) 0 (omega arith))
 
--- H, shown where it is above 0, is the word that the list has; and a text can say a line whose word fits.
-shown-is : (h : ℕ) (fs : List ℕ) → idleOf (shownIdle h) (rates fs) ≡ h
-shown-is zero fs = refl
-shown-is (suc h) fs = refl
+-- H and A, shown where they are above 0, are the words that the list has; and a text can say what fits.
+idle-shown : (h : ℕ) (fs : List ℕ) → idleOf (shown h) (rates fs) ≡ h
+idle-shown zero fs = refl
+idle-shown (suc h) fs = refl
 
-idle-ok : (o : Option ℕ) (fs : List ℕ) → Word (idleOf o (rates fs)) → IdleOk o
-idle-ok none fs l = tt
-idle-ok (some h) fs l = omega arith
+first-shown : (a : ℕ) → firstOf (shown a) ≡ a
+first-shown zero = refl
+first-shown (suc a) = refl
+
+maybe-ok : (o : Option ℕ) → Word (firstOf o) → MaybeWord o
+maybe-ok none l = tt
+maybe-ok (some v) l = omega arith
 
 module _ (s : List ℕ) (w : IsWhole Ordinary s) where
   abbrev m : ℕ
@@ -55,11 +59,11 @@ module _ (s : List ℕ) (w : IsWhole Ordinary s) where
   -- Those of the head, and those between a task's cycles and its energies, are the words that stand there.
   head-words : headWords (scriptOf s) ≡ each (word s) 0 (headSize Ordinary)
   unfolding scriptOf headKinds
-  head-words = ap (λ (h : ℕ). slack s ∷ h ∷ []) (shown-is (idle s) (listRates s))
+  head-words = ap (λ (h : ℕ). slack s ∷ h ∷ []) (idle-shown (idle s) (listRates s))
 
   extra-words : (t : ℕ) → extraWords (lineOf s t) ≡ each (λ k. word s (place t + 2 + k)) 0 (extraSize Ordinary)
   unfolding extraKinds
-  extra-words t = refl
+  extra-words t = ap (λ (a : ℕ). a ∷ []) (first-shown (first Ordinary s t) ∙ ap (word s) (sym (add-zero (place t + 2))))
 
   -- A task's words, of a script that has a line of rates.
   abbrev lineWords : ℕ → List ℕ
@@ -142,6 +146,8 @@ module _ (s : List ℕ) (w : IsWhole Ordinary s) where
       most = omega (arith, each-length (energy Ordinary s t) 1 m);
       each = each-all (energy Ordinary s t) Word 1 m (λ j a b. omega (arith, w .energy-range t j h a (omega arith) .1));
     };
+    first = maybe-ok (shown (first Ordinary s t))
+        (omega (arith, first-shown (first Ordinary s t), first-in Ordinary s w t h, w .period-range t h .1));
   }
 
   pub script-of-list : ScriptOk (scriptOf s)
@@ -151,7 +157,7 @@ module _ (s : List ℕ) (w : IsWhole Ordinary s) where
       let t = each-length (lineOf s) 0 n in
       record {
         slack = omega (arith, slack-in Ordinary s w .1);
-        idle = idle-ok (shownIdle (idle s)) (listRates s) (omega (arith, shown-is (idle s) (listRates s), idle-in Ordinary s w));
+        idle = maybe-ok (shown (idle s)) (omega (arith, first-shown (idle s), idle-in Ordinary s w));
         clock = record {
           least = omega (arith, w .rates-range .0);
           most = omega (arith, w .rates-range .1);

@@ -1,4 +1,4 @@
--- How long a text can be: every well-formed text is under 5,000 bytes.
+-- How long a text can be: every well-formed text is under 6,000 bytes.
 -- Assumes nothing.
 use Prim.Native.Nat.{ℕ, zero, suc, _*_, _/_, _%_, _+_, _≤_, _<_}
 use mathlib.Core.Path.{_≡_, refl, sym, ap, _∙_}
@@ -18,9 +18,9 @@ use Rattle.layout.proofs.Layouts.{words-few}
 use Rattle.chips.specs.declared.Chip.the-variants.{Xscale, Ppc405lp}
 use Rattle.chips.proofs.Tables.{count-range, rates-length, energies-length as energies-length-of}
 use Rattle.text.specs.Text.{TaskLine, Clock, rates, chip, Script, digits, decimal, spaced, energyText}
-use Rattle.text.specs.Text.{taskText, clockText, idleText, scriptText}
+use Rattle.text.specs.Text.{firstText, taskText, clockText, idleText, scriptText}
 use Rattle.text.proofs.Grammar.{energy-form}
-use Rattle.text.specs.Text.{ratesOf, energiesOf, taskWords, words, Word, IdleOk, ClockOk, energyCount, TaskLineOk}
+use Rattle.text.specs.Text.{ratesOf, energiesOf, taskWords, words, Word, MaybeWord, ClockOk, energyCount, TaskLineOk}
 use Rattle.text.specs.Text.{ScriptOk, IsTextOf}
 
 -- ---- numbers
@@ -98,18 +98,20 @@ energies-length [] a l = omega arith
 energies-length (e ∷ es) a l =
     omega (arith, energy-length (e ∷ es) (omega arith), energy-length widestNumbers some-numbers, numbers-length (e ∷ es) a l)
 
+-- A form that may be absent is longest with the widest number: k is how many bytes it has beside its digits.
+optional-length : (text : Option ℕ → List ℕ) (k : ℕ) → text none ≡ [] → ((v : ℕ) → length (text (some v)) ≡ k + length (decimal v))
+    → (o : Option ℕ) → MaybeWord o → length (text o) ≤ length (text (some widestWord))
+optional-length text k empty size none d = rw empty (omega arith)
+optional-length text k empty size (some v) d = omega (arith, size v, size widestWord, word-widest v d)
+
 abbrev widestLine : TaskLine
-widestLine = record { period = widestWord; cycles = widestWord; energies = widestNumbers }
+widestLine = record { period = widestWord; cycles = widestWord; energies = widestNumbers; first = some widestWord }
 
 unfoldable widestLines : List TaskLine
 widestLines = replicate mostTasks widestLine
 
 abbrev widestScript : Script
 widestScript = record { slack = widestWord; idle = some widestWord; clock = rates widestNumbers; tasks = widestLines }
-
-idle-length : (o : Option ℕ) → IdleOk o → length (idleText o) ≤ length (idleText (some widestWord))
-idle-length none d = omega arith
-idle-length (some h) d = let w = word-widest h d in simp length-append (omega arith)
 
 -- A chip's line is no longer than the widest line of rates.
 clock-length : (k : Clock) → ClockOk k → length (clockText k) ≤ length (clockText (rates widestNumbers))
@@ -127,6 +129,7 @@ task-length m h t k =
     let p = word-widest (t .period) (k .period) in
     let c = word-widest (t .cycles) (k .cycles) in
     let e = energies-length (t .energies) (k .energies .each) (omega (arith, k .energies .most)) in
+    let a = simp length-append at (optional-length firstText 8 refl (λ v. simp length-append (omega arith)) (t .first) (k .first)) in
     simp length-append (omega arith)
 
 lines-length : (m : ℕ) → m ≤ mostRates → (ts : List TaskLine) → All (TaskLineOk m) ts → length ts ≤ mostTasks
@@ -137,17 +140,17 @@ lines-length m h = joined-length taskText (TaskLineOk m) widestLine (task-length
 script-length : (s : Script) → ScriptOk s → length (scriptText s) ≤ length (scriptText widestScript)
 script-length s k =
     let g = word-widest (s .slack) (k .slack) in
-    let i = simp length-append at (idle-length (s .idle) (k .idle)) in
+    let i = simp length-append at (optional-length idleText 8 refl (λ v. simp length-append (omega arith)) (s .idle) (k .idle)) in
     let r = clock-length (s .clock) (k .clock) in
     let t = lines-length (energyCount (s .clock)) (energies-few (s .clock) (k .clock)) (s .tasks) (k .tasks .each)
     (k .tasks .most) in
     simp length-append (omega arith)
 
-widest-length : length (scriptText widestScript) < 5000
+widest-length : length (scriptText widestScript) < 6000
 unfolding widestNumbers widestLines decimal digits IsLe
 widest-length = le-by-compare _ _ tt
 
-pub text-length : (s : Script) (t : List ℕ) → IsTextOf s t → length t < 5000
+pub text-length : (s : Script) (t : List ℕ) → IsTextOf s t → length t < 6000
 text-length s t h = omega (arith, ap length (h .text), script-length s (h .script), widest-length)
 
 -- ---- words

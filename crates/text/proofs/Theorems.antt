@@ -66,9 +66,9 @@ script-has-one-text s t u h k = sym (h .text) ∙ k .text
 pub text-has-one-script : (s r : Script) (t : List ℕ) → IsTextOf s t → IsTextOf r t → s ≡ r
 text-has-one-script = one-script
 
--- "every well-formed text is under 5,000"
-pub under-5000 : (t : List ℕ) → WellFormed t → length t < 5000
-under-5000 t h = text-length (h .0) t (h .1)
+-- "A well-formed text is now under 6,000 bytes."
+pub under-6000 : (t : List ℕ) → WellFormed t → length t < 6000
+under-6000 t h = text-length (h .0) t (h .1)
 
 -- ---- lists
 -- A list that passes check 2 has a text; reading that text gives its script back, whose words are the list.
@@ -114,7 +114,8 @@ pub over-by-cycles : (c : Chip) (g : ℕ) (o : Option ℕ) (ts : List TaskLine) 
 over-by-cycles c g o ts t is k h = over-iff c g o ts (is .script) k h
 
 -- A chip's text that the reader takes gives a list that passes checks 2 and 3, if its slack, its idle line where it has
--- one, its periods and its cycles are in their ranges: of what the tables bring nothing is refused.
+-- one, its periods, its cycles and its first releases where they are given are in their ranges: of what the tables bring
+-- nothing is refused.
 pub chip-passes : (c : Chip) (g : ℕ) (o : Option ℕ) (ts : List TaskLine) (t d d′ : List ℕ) (n : ℕ)
     → let s : Script = chipScript c g o ts in
     IsTextOf s t → ReaderGives t d d′ (Wrote n) → (1 ≤ g) × (g ≤ 1000) → IdleIn o → All LineIn ts → Accepts
