@@ -3,17 +3,19 @@
 use Prim.Native.Nat.{ℕ, zero, suc, _+_, _≤_}
 use mathlib.Core.Path.{_≡_, refl, sym, ap, _∙_}
 use mathlib.Core.List.{List, [], _∷_, _++_}
-use mathlib.Core.Option.{none}
+use mathlib.Core.Bool.{true, false}
+use mathlib.Core.Option.{none, some}
 use native.Mathlib.Nat.{add-zero}
 use native.Mathlib.Omega.{arith}
-use lib.ListN.{length, set}
+use lib.ListN.{length, drop, set}
 use Rattle.numbers.specs.Numbers.{joined}
 use Rattle.layout.specs.Words.{mostRates, headKinds, extraKinds, headSize, taskCountPlace, tasksPlace, taskSize}
 use Rattle.layout.specs.declared.Layout.the-variants.{Ordinary}
 use Rattle.chips.proofs.Tables.{count-range, rates-length, energies-length}
 use Rattle.text.specs.Text.{bytes, TaskLine, Clock, rates, chip, Script, ClockOk, energyCount, TaskLineOk, ratesOf}
 use Rattle.text.specs.Text.{idleOf, headWords, extraWords, taskWords, words}
-use Rattle.text.proofs.Reading.{got, skip, upTo, numbers, noIdleLine, readEnergies, readTask, readAt}
+use Rattle.text.proofs.Reading.{Res, got, mapRes, mapped, skip, upTo, starts, numbers, absent, optional, readEnergies, readTask, readAt}
+use Rattle.scanner.proofs.Places.{map-at, either-first, either-second}
 use Rattle.text.proofs.Grammar.{dom-of, task-piece}
 use Rattle.taskset.proofs.Writing.{written, written-then, length-written}
 use Rattle.forms.specs.Forms.{lineOf, clockOf, ratesIn, energiesIn, idleIn, Fits, wordsBy}
@@ -68,10 +70,17 @@ pub no-energies : (s : List ℕ) (at : ℕ) → readAt (readEnergies 0) s at ≡
 unfolding readAt
 no-energies s at = rw add-zero
 
--- Where no idle line stands, nothing is read.
-pub no-idle-line : (s : List ℕ) (at : ℕ) → readAt noIdleLine s at ≡ got none at
-unfolding readAt
-no-idle-line s at = rw add-zero
+-- A form that may be absent, where the byte that begins it does not stand there, and where it does.
+module _ (c : ℕ) (p : List ℕ → Res ℕ) (s : List ℕ) (at : ℕ) where
+  none-at : readAt (absent {A = ℕ}) s at ≡ got none at
+  unfolding readAt
+  none-at = rw add-zero
+
+  pub optional-none : starts c (drop at s) ≡ false → readAt (optional c p) s at ≡ got none at
+  optional-none e = either-second c (mapped some p) absent s at e ∙ none-at
+
+  pub optional-some : starts c (drop at s) ≡ true → readAt (optional c p) s at ≡ mapRes some (readAt p s at)
+  optional-some e = either-first c (mapped some p) absent s at e ∙ map-at some p s at
 
 -- A task that was read has as many energies as rates.
 pub task-words : (k : code.Clock) (s : List ℕ) (at i : ℕ) (t : TaskLine) → readAt (readTask (energiesIn k)) s at ≡ got t i

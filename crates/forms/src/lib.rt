@@ -8,7 +8,7 @@ ghost use Rattle.layout.specs.Words.{mostRates, mostTasks, mostWords, tasksPlac
 ghost use Rattle.layout.specs.declared.Layout.the-variants.{Ordinary};
 ghost use Rattle.text.specs.Text;
 ghost use Rattle.text.proofs.Reading;
-ghost use Rattle.text.proofs.Reading.{ext, mapped, readAt, starts};
+ghost use Rattle.text.proofs.Reading.{ext, mapRes, mapped, readAt, starts};
 ghost use Rattle.scanner.specs.Steps.{ofRead, noValue};
 ghost use Rattle.forms.specs.Forms.{spacedNumber, Gives, plain, ofIdle, ofHead, ofChip, ofClock, ofSet, clockOf, saidOf};
 ghost use Rattle.forms.specs.Forms.{ratesIn, energiesIn, idleIn, Fits, energiesBy, wordsBy};
@@ -103,6 +103,20 @@ fn numbers(s: &[u8], at: usize, out: &mut [u32], k: usize, low: usize, spare: us
     Read::Got(n as u32, i)
 }
 
+// A number between two fixed strings.
+fn enclosed(s: &[u8], at: usize, front: &[u8], end: &[u8]) -> Read
+    ensures { λ r. ⌜ ofRead r ≡ readAt (Reading.upTo (Reading.field (now (front .entry))) (now (end .entry))) (now (s .entry)) at ⌝ }
+{
+    let number = scanner::field(s, at, front);
+    let Read::Got(v, i) = number else {
+        return number;
+    };
+    match scanner::literal(s, i, end) {
+        Read::Got(_, j) => Read::Got(v, j),
+        Read::Bad(o) => Read::Bad(o),
+    }
+}
+
 // The idle line from its name on, with the bracket that opens the line behind it: an i begins it, and no other line that
 // may stand there.
 fn idle_line(s: &[u8], at: usize) -> IdleRead
@@ -111,12 +125,8 @@ fn idle_line(s: &[u8], at: usize) -> IdleRead
     if !scanner::is_letter(s, at, b'i') {
         return IdleRead::Got(Idle::Absent, at);
     }
-    let number = scanner::field(s, at, b"idle ");
-    let Read::Got(h, i) = number else {
-        return IdleRead::Bad(scanner::place_of(number));
-    };
-    match scanner::literal(s, i, b")\n(") {
-        Read::Got(_, j) => IdleRead::Got(Idle::Given(h), j),
+    match enclosed(s, at, b"idle ", b")\n(") {
+        Read::Got(h, i) => IdleRead::Got(Idle::Given(h), i),
         Read::Bad(o) => IdleRead::Bad(o),
     }
 }
@@ -283,7 +293,19 @@ fn energies(s: &[u8], at: usize, out: &mut [u32], k: usize, clock: Clock, cycles
     }
 }
 
-// A task's line, to the list from k on: the period and the cycles are the first words of a task in every layout.
+// The first release that ends a task's line, 0 if it is absent: a space begins its form, and a bracket what ends the line
+// without it.
+fn first_release(s: &[u8], at: usize) -> Read
+    ensures { λ r. ⌜ ofRead r ≡ mapRes Text.firstOf (readAt Reading.readFirst (now (s .entry)) at) ⌝ }
+{
+    let Class::Space = scanner::step(s, at) else {
+        return Read::Got(0, at);
+    };
+    enclosed(s, at, b" (from ", b")")
+}
+
+// A task's line, to the list from k on: the period, the cycles and the first release are the first words of a task in
+// every layout.
 fn task(s: &[u8], at: usize, out: &mut [u32], k: usize, clock: Clock) -> Read
     requires { ⌜ Fits clock × (k + taskSize Ordinary (ratesIn clock) ≤ length (now out)) ⌝ }
     ensures { λ r. ⌜ Gives noValue (wordsBy clock) k (now (out .entry)) (now (out .exit))
@@ -301,13 +323,18 @@ fn task(s: &[u8], at: usize, out: &mut [u32], k: usize, clock: Clock) -> Read
     let Read::Got(_, i) = closed else {
         return closed;
     };
-    let first = k + layout::before_energies(Layout::Ordinary);
-    let form = energies(s, i, out, first, clock, c);
+    let place = k + layout::before_energies(Layout::Ordinary);
+    let form = energies(s, i, out, place, clock, c);
     let Read::Got(_, i) = form else {
         return form;
     };
+    let release = first_release(s, i);
+    let Read::Got(a, i) = release else {
+        return release;
+    };
     out[k] = p;
     out[k + 1] = c;
+    out[k + 2] = a;
     scanner::literal(s, i, b")\n")
 }
 

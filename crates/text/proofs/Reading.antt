@@ -126,8 +126,11 @@ readEnergies zero = nothing
 readEnergies (suc m) = skip (bytes " (energy") (upTo (numbers (suc m) 0) (bytes ")"))
 
 -- the first release behind them: a space begins it, and a bracket what ends the line
+abbrev pub readFirstForm : List ℕ → Res ℕ
+readFirstForm = upTo (field (bytes " (from ")) (bytes ")")
+
 abbrev pub readFirst : List ℕ → Res (Option ℕ)
-readFirst = optional 32 (upTo (field (bytes " (from ")) (bytes ")"))
+readFirst = optional 32 readFirstForm
 
 -- a task's line from behind its cycles on
 abbrev pub readEnding : ℕ → List ℕ → Res (List ℕ × Option ℕ)
@@ -150,8 +153,11 @@ abbrev pub readChip : List ℕ → Res Chip
 readChip = either 120 (readName Xscale) (readName Ppc405lp)
 
 -- the idle line from its name on, with the bracket that opens the line behind it, or none: an i begins it
+abbrev pub readIdleLine : List ℕ → Res ℕ
+readIdleLine = upTo (field (bytes "idle ")) (bytes ")\n(")
+
 abbrev pub readIdle : List ℕ → Res (Option ℕ)
-readIdle = optional 105 (upTo (field (bytes "idle ")) (bytes ")\n("))
+readIdle = optional 105 readIdleLine
 
 -- the lines of the head
 abbrev pub readHead : List ℕ → Res (ℕ × Option ℕ)
