@@ -10,16 +10,16 @@ use lib.ListN.{length, getD, take, drop, length-append}
 use Rattle.numbers.specs.Numbers.{each, joined}
 use Rattle.numbers.proofs.Lists.{each-length, each-at}
 use Rattle.layout.specs.Words.{slackPlace, idlePlace, headSize, mostRates, mostTasks, word, idle, rateCount, taskCount}
-use Rattle.layout.specs.Words.{ratePlace, taskCountPlace, taskSize, energyPlace, rate, energy}
+use Rattle.layout.specs.Words.{ratePlace, taskCountPlace, taskSize, energyPlace, rate, first, energy}
 use Rattle.layout.specs.declared.Layout.the-variants.{Ordinary}
 use Rattle.layout.proofs.Layouts.{idle-in-head}
 use Rattle.layout.proofs.Whole.{in-list}
-use Rattle.text.specs.Text.{bytes, decimal, spaced, taskText, idleText, clockText, scriptText, listRates, lineOf, shownIdle, scriptOf}
+use Rattle.text.specs.Text.{bytes, decimal, spaced, firstText, taskText, idleText, clockText, scriptText, listRates, shown, lineOf, scriptOf}
 use Rattle.text.proofs.Grammar.{energy-form}
 use Rattle.text.proofs.Sizes.{text-length}
 use Rattle.text.proofs.RoundTrip.{script-of-list}
 use Rattle.checks.specs.Steps.{OfTask}
-use Rattle.writer.specs.Lines.{WithRates, WithTasks, slackText, idleLine, ratesText}
+use Rattle.writer.specs.Lines.{WithRates, WithTasks, optionalText, slackText, idleLine, ratesText}
 use Rattle.writer.proofs.Rows.{one-more, one-room, part}
 
 -- ---- the words of a list that passes check 2
@@ -56,21 +56,43 @@ module _ {w : List ℕ} {m t : ℕ} (has : OfTask Ordinary m t w) where
       part w (energy Ordinary w t) (energyPlace Ordinary (rateCount Ordinary w) t 0) (λ j. ap (word w) (omega arith)) 1 (rateCount Ordinary w)
       a e z (omega (arith, r)) (omega (arith, task-inside))
 
+-- ---- a form that stands only where its number is above 0
+module _ (front end : List ℕ) where
+  pub shown-none : (v : ℕ) → v ≡ 0 → optionalText front end (shown v) ≡ []
+  unfolding optionalText
+  shown-none v e = rw e
+
+  pub shown-some : (v : ℕ) → 0 < v → (front ++ decimal v) ++ end ≡ optionalText front end (shown v)
+  unfolding optionalText
+  shown-some zero above = absurd (omega arith)
+  shown-some (suc v) above = append-assoc front (decimal (suc v)) end
+
+-- The idle line is one, with what was taken from the list, and so is a first release.
+pub idle-same : (w : List ℕ) {h : ℕ} → h ≡ idle w → optionalText (bytes "(idle ") (bytes ")\n") (shown h) ≡ idleLine (scriptOf w .idle)
+unfolding scriptOf idleLine
+idle-same w is = ap (λ (k : ℕ). idleLine (shown k)) is
+
+first-same : (o : Option ℕ) → optionalText (bytes " (from ") (bytes ")") o ≡ firstText o
+unfolding optionalText
+first-same none = refl
+first-same (some a) = refl
+
 -- ---- the lines of such a list's tasks
 -- A line by its numbers, in the parts that the writer writes; and that it is the task's line, where its numbers were
 -- taken from the list: the list has rates, so each of its tasks has energies, and each line the energy form.
-abbrev pub lineText : (period cycles : ℕ) → (energies : List ℕ) → List ℕ
-lineText period cycles energies =
+abbrev pub lineText : (period cycles : ℕ) → (energies : List ℕ) → (first : ℕ) → List ℕ
+lineText period cycles energies first =
     bytes "(task (period " ++ (decimal period ++ (bytes ") (cycles " ++ (decimal cycles ++
-    (bytes ") (energy" ++ (joined spaced energies ++ bytes "))\n")))))
+    (bytes ") (energy" ++ (joined spaced energies ++
+    (bytes ")" ++ (optionalText (bytes " (from ") (bytes ")") (shown first) ++ bytes ")\n")))))))
 
 module _ {w : List ℕ} {m t : ℕ} (has : OfTask Ordinary m t w) where
   some-energy : 1 ≤ length (lineOf w t .energies)
   some-energy = omega (arith, each-length (energy Ordinary w t) 1 (rateCount Ordinary w), has .whole .rates-range .0)
 
-  pub line-same : {p c : ℕ} {e : List ℕ} → p ≡ lineOf w t .period → c ≡ lineOf w t .cycles → e ≡ lineOf w t .energies
-      → lineText p c e ≡ taskText (lineOf w t)
-  line-same x y z = rw (x, y, z, energy-form (lineOf w t .energies) some-energy) (simp append-assoc)
+  pub line-same : {p c a : ℕ} {e : List ℕ} → p ≡ lineOf w t .period → c ≡ lineOf w t .cycles → e ≡ lineOf w t .energies
+      → a ≡ first Ordinary w t → lineText p c e a ≡ taskText (lineOf w t)
+  line-same x y z f = rw (x, y, z, f, first-same, energy-form (lineOf w t .energies) some-energy) (simp append-assoc)
 
 module _ {w : List ℕ} {m n : ℕ} (has : WithTasks w m n) where
   pub tasks-count : length (scriptOf w .tasks) ≡ n
@@ -91,22 +113,10 @@ module _ {w : List ℕ} {m n : ℕ} (has : WithTasks w m n) where
     pub lines-room : length (joined taskText (take t (scriptOf w .tasks))) + length (taskText (lineOf w t)) ≤ length (joined taskText (scriptOf w .tasks))
     lines-room = rw line-is at (one-room taskText (scriptOf w .tasks) t (lineOf w t) (omega (arith, tasks-count)))
 
--- ---- the idle line
--- A list without idle energy has none; another has it, with what was taken from the list.
-pub idle-none : (h : ℕ) (w : List ℕ) → h ≡ idle w → h ≡ 0 → idleLine (scriptOf w .idle) ≡ []
-unfolding scriptOf idleLine
-idle-none h w is e = ap (λ (k : ℕ). idleLine (shownIdle k)) (sym is ∙ e)
-
-pub idle-some : (h : ℕ) (w : List ℕ) → h ≡ idle w → 0 < h
-    → bytes "(idle " ++ (decimal h ++ bytes ")\n") ≡ idleLine (scriptOf w .idle)
-unfolding scriptOf idleLine
-idle-some zero w is above = absurd (omega arith)
-idle-some (suc h) w is above = ap (λ (k : ℕ). idleLine (shownIdle k)) is
-
 -- ---- the whole text
 -- The bracket of the line behind the idle line, which a script's text has at its end, before it.
 turned : (o : Option ℕ) (u : List ℕ) → bytes "(" ++ (idleText o ++ u) ≡ idleLine o ++ (bytes "(" ++ u)
-unfolding idleLine
+unfolding idleLine optionalText
 turned none u = refl
 turned (some h) u = simp append-assoc
 
@@ -135,5 +145,5 @@ cut-length w =
       length-append slack idle,
     )
 
-pub text-short : {w : List ℕ} {m : ℕ} → WithRates w m → length (scriptText (scriptOf w)) < 5000
+pub text-short : {w : List ℕ} {m : ℕ} → WithRates w m → length (scriptText (scriptOf w)) < 6000
 text-short {w} has = text-length (scriptOf w) (scriptText (scriptOf w)) (record { script = script-of-list w (has .whole); text = refl })

@@ -20,14 +20,18 @@ pub record WithTasks (w : List ℕ) (m n : ℕ) : Type 0 where
   pub list : WithRates w m
   pub tasks : n ≡ taskCount Ordinary w
 
+-- A form that may be absent: two strings, and a number between them.
+unfoldable pub optionalText : List ℕ → List ℕ → Option ℕ → List ℕ
+optionalText front end none = []
+optionalText front end (some v) = front ++ (decimal v ++ end)
+
 -- The lines of a list's text before its tasks, each from its own bracket to its own end. (`scriptText` has the bracket
 -- of a line at the end of the string before it, as the reader takes it.)
 unfoldable pub slackText : ℕ → List ℕ
 slackText slack = bytes "(slack " ++ (decimal slack ++ bytes ")\n")
 
 unfoldable pub idleLine : Option ℕ → List ℕ
-idleLine none = []
-idleLine (some idle) = bytes "(idle " ++ (decimal idle ++ bytes ")\n")
+idleLine = optionalText (bytes "(idle ") (bytes ")\n")
 
 unfoldable pub ratesText : List ℕ → List ℕ
 ratesText rates = bytes "(rates" ++ (joined spaced rates ++ bytes ")\n")

@@ -7,18 +7,18 @@ ghost use Prim.Native.Nat.{_+_, _^_, _≤_, _<_};
 ghost use lib.ListN.{length};
 ghost use Rattle.numbers.specs.Numbers.{joined};
 ghost use Rattle.layout.specs.Words.{slackPlace, idlePlace};
-ghost use Rattle.text.specs.Text.{spaced, taskText, scriptText, listRates, lineOf, scriptOf};
+ghost use Rattle.text.specs.Text.{spaced, taskText, scriptText, listRates, shown, lineOf, scriptOf};
 ghost use Rattle.text.specs.Calls.{WriterGives};
 ghost use Rattle.printer.specs.Puts.{Put, Added};
 ghost use Rattle.layout.specs.declared.Layout.the-variants.{Ordinary};
 ghost use Rattle.checks.specs.Steps.{OfTask};
-ghost use Rattle.writer.specs.Lines.{WithRates, WithTasks, slackText, idleLine, ratesText};
+ghost use Rattle.writer.specs.Lines.{WithRates, WithTasks, optionalText, slackText, idleLine, ratesText};
 use layout::Layout;
 use taskset::CopyAnswer;
 use taskset::Refusal;
 use taskset::Shape;
 
-// The least idle energy that has a line of its own.
+// The least idle energy that has a line of its own, and the least first release that has a form.
 const LEAST_SHOWN: u64 = 1;
 
 // The words of a list that passes check 2: its rates, and of the task at place t its period, its cycles and its
@@ -83,6 +83,29 @@ fn count_numbers(at: usize, l: &[u32]) -> usize
     p
 }
 
+// A form that stands only where its number is above 0: two fixed strings, and the number between them.
+fn add_shown(buf: &mut [u8], at: usize, front: &[u8], v: u64, end: &[u8]) -> usize
+    requires { ⌜ at + length (optionalText (now front) (now end) (shown v)) ≤ length (now buf) ⌝ }
+    ensures { λ r. ⌜ Added at (optionalText (now (front .entry)) (now (end .entry)) (shown v)) (now (buf .entry)) (now (buf .exit)) r ⌝ }
+{
+    if LEAST_SHOWN <= v {
+        let a = printer::add_field(buf, at, front, v);
+        return printer::add_bytes(buf, a, end);
+    }
+    at
+}
+
+fn count_shown(at: usize, front: &[u8], v: u64, end: &[u8]) -> usize
+    requires { ⌜ at + length (optionalText (now front) (now end) (shown v)) < 2 ^ 64 ⌝ }
+    ensures { λ r. ⌜ r ≡ at + length (optionalText (now (front .entry)) (now (end .entry)) (shown v)) ⌝ }
+{
+    if LEAST_SHOWN <= v {
+        let a = printer::count_field(at, front, v);
+        return printer::count_bytes(a, end);
+    }
+    at
+}
+
 // The slack's line.
 fn put_slack(buf: &mut [u8], w: &[u32]) -> usize
     requires { ⌜ (slackPlace < length (now w)) × (length (slackText (scriptOf (now w) .slack)) ≤ length (now buf)) ⌝ }
@@ -108,11 +131,7 @@ fn put_idle(buf: &mut [u8], w: &[u32]) -> usize
     ensures { λ r. ⌜ Put (idleLine (scriptOf (now (w .entry)) .idle)) (now (buf .entry)) (now (buf .exit)) r ⌝ }
 {
     let idle = checks::idle_of(w) as u64;
-    if LEAST_SHOWN <= idle {
-        let a = printer::add_field(buf, 0, b"(idle ", idle);
-        return printer::add_bytes(buf, a, b")\n");
-    }
-    0
+    add_shown(buf, 0, b"(idle ", idle, b")\n")
 }
 
 fn count_idle(w: &[u32]) -> usize
@@ -120,11 +139,7 @@ fn count_idle(w: &[u32]) -> usize
     ensures { λ r. ⌜ r ≡ length (idleLine (scriptOf (now (w .entry)) .idle)) ⌝ }
 {
     let idle = checks::idle_of(w) as u64;
-    if LEAST_SHOWN <= idle {
-        let a = printer::count_field(0, b"(idle ", idle);
-        return printer::count_bytes(a, b")\n");
-    }
-    0
+    count_shown(0, b"(idle ", idle, b")\n")
 }
 
 // The rates' line.
@@ -155,12 +170,15 @@ fn put_task(buf: &mut [u8], w: &[u32], m: usize, t: usize) -> usize
 {
     let period = checks::period_of(w, Layout::Ordinary, m, t) as u64;
     let cycles = checks::cycles_of(w, Layout::Ordinary, m, t) as u64;
+    let first = checks::first_of(w, Layout::Ordinary, m, t) as u64;
     let energies = energies_of(w, m, t);
     let a = printer::add_field(buf, 0, b"(task (period ", period);
     let b = printer::add_field(buf, a, b") (cycles ", cycles);
     let c = printer::add_bytes(buf, b, b") (energy");
     let d = add_numbers(buf, c, energies);
-    printer::add_bytes(buf, d, b"))\n")
+    let e = printer::add_bytes(buf, d, b")");
+    let f = add_shown(buf, e, b" (from ", first, b")");
+    printer::add_bytes(buf, f, b")\n")
 }
 
 fn count_task(w: &[u32], m: usize, t: usize) -> usize
@@ -169,12 +187,15 @@ fn count_task(w: &[u32], m: usize, t: usize) -> usize
 {
     let period = checks::period_of(w, Layout::Ordinary, m, t) as u64;
     let cycles = checks::cycles_of(w, Layout::Ordinary, m, t) as u64;
+    let first = checks::first_of(w, Layout::Ordinary, m, t) as u64;
     let energies = energies_of(w, m, t);
     let a = printer::count_field(0, b"(task (period ", period);
     let b = printer::count_field(a, b") (cycles ", cycles);
     let c = printer::count_bytes(b, b") (energy");
     let d = count_numbers(c, energies);
-    printer::count_bytes(d, b"))\n")
+    let e = printer::count_bytes(d, b")");
+    let f = count_shown(e, b" (from ", first, b")");
+    printer::count_bytes(f, b")\n")
 }
 
 // The lines of the n tasks: the rest of the buffer is lent for each.

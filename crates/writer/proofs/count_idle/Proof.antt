@@ -1,31 +1,23 @@
--- The idle line, where there is idle energy: the bytes of each part behind those before it.
+-- The idle line, where there is idle energy.
 -- Assumes nothing.
-use Prim.Native.Nat.{_^_, _<_}
 use mathlib.Core.Path.{_≡_, ap}
-use mathlib.Core.List.{_++_}
 use native.Mathlib.Omega.{arith}
 use denote.Ref.{now}
-use lib.ListN.{length, length-append}
-use Rattle.text.specs.Text.{bytes, decimal, scriptOf}
-use Rattle.writer.specs.Lines.{idleLine}
-use Rattle.writer.proofs.Lists.{idle-none, idle-some}
+use lib.ListN.{length}
+use Rattle.text.specs.Text.{bytes, shown, scriptOf}
+use Rattle.writer.specs.Lines.{optionalText, idleLine}
+use Rattle.writer.proofs.Lists.{idle-same}
 use borrow.Author.Needs.{needs}
 use Rattle.writer.proofs.count_idle.Statement.{statement}
 use Rattle.writer.proofs.count_idle.Tie as tie
 
--- The line, by what was taken from the list, and that it fits.
+-- The line, by what was taken from the list.
 abbrev start : tie.After-idle-of → tie.Start
 start c = c .before .before
 
-above : (c : tie.Then1) → 0 < c .before .idle-of .result
-above c = omega arith
-
-same : (c : tie.Then1) → bytes "(idle " ++ (decimal (c .before .idle-of .result) ++ bytes ")\n")
-    ≡ idleLine (scriptOf (now (start (c .before) .args .w)) .idle)
-same c = idle-some _ _ (c .before .idle-of .ensures) (above c)
-
-fits : (c : tie.Then1) → length (bytes "(idle " ++ (decimal (c .before .idle-of .result) ++ bytes ")\n")) < 2 ^ 64
-fits c = omega (arith, ap length (same c), start (c .before) .pre .1)
+same : (c : tie.After-idle-of) → optionalText (bytes "(idle ") (bytes ")\n") (shown (c .idle-of .result))
+    ≡ idleLine (scriptOf (now (start c .args .w)) .idle)
+same c = idle-same _ (c .idle-of .ensures)
 
 idle-of-requires : tie.Need-idle-of-requires
 idle-of-requires c κs = search needs
@@ -33,25 +25,19 @@ idle-of-requires c κs = search needs
 cast-idle : tie.Need-cast-idle
 cast-idle c = search needs
 
-slice-aggregate-count-field : tie.Need-slice-aggregate-count-field
-slice-aggregate-count-field c = search needs
+slice-aggregate-count-shown : tie.Need-slice-aggregate-count-shown
+slice-aggregate-count-shown c = search needs
 
-count-field-requires : tie.Need-count-field-requires
-count-field-requires c κs = omega (arith, simp length-append at (fits (c .before)))
+slice-aggregate-count-shown-2 : tie.Need-slice-aggregate-count-shown-2
+slice-aggregate-count-shown-2 c = search needs
 
-slice-aggregate-count-bytes : tie.Need-slice-aggregate-count-bytes
-slice-aggregate-count-bytes c = search needs
-
-count-bytes-requires : tie.Need-count-bytes-requires
-count-bytes-requires c κs = omega (arith, simp length-append at (fits (c .before .before .before)))
+count-shown-requires : tie.Need-count-shown-requires
+count-shown-requires c κs =
+    let x = c .before .before in
+    omega (arith, ap length (same x), start x .pre .1)
 
 returns : tie.Need-returns
-returns c = omega (arith, simp length-append at (ap length (same (c .before .before .before .before))))
-
-no-line : tie.Need-returns-2
-no-line c =
-    let none = idle-none (c .before .idle-of .result) (now (start (c .before) .args .w)) (c .before .idle-of .ensures) (omega arith) in
-    omega (arith, ap length none)
+returns c = omega (arith, ap length (same (c .before .before .before)))
 
 pub count-idle-spec : {M : Type 1} → statement M
 count-idle-spec =
@@ -59,9 +45,7 @@ count-idle-spec =
     (tie.spec
     idle-of-requires
     cast-idle
-    slice-aggregate-count-field
-    count-field-requires
-    slice-aggregate-count-bytes
-    count-bytes-requires
-    returns
-    no-line)
+    slice-aggregate-count-shown
+    slice-aggregate-count-shown-2
+    count-shown-requires
+    returns)

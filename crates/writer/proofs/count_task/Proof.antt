@@ -14,14 +14,17 @@ use Rattle.writer.proofs.count_task.Tie as tie
 
 -- The line, by what was taken from the list, and that it fits.
 abbrev start : tie.After-energies-of → tie.Start
-start c = c .before .before .before .before
+start c = c .before .before .before .before .before
 
 abbrev line : tie.After-energies-of → List ℕ
-line c = lineText (c .before .before .period-of .result) (c .before .cycles-of .result) (now (c .energies-of .result))
+line c =
+    lineText (c .before .before .before .period-of .result) (c .before .before .cycles-of .result) (now (c .energies-of .result))
+    (c .before .first-of .result)
 
 same : (c : tie.After-energies-of) → line c ≡ taskText (lineOf (now (start c .args .w)) (start c .args .t))
 same c =
-    line-same (start c .pre .0) (c .before .before .period-of .ensures) (c .before .cycles-of .ensures) (c .energies-of .ensures)
+    line-same (start c .pre .0) (c .before .before .before .period-of .ensures) (c .before .before .cycles-of .ensures) (c .energies-of .ensures)
+    (c .before .first-of .ensures)
 
 fits : (c : tie.After-energies-of) → length (line c) < 2 ^ 64
 fits c = omega (arith, ap length (same c), start c .pre .1)
@@ -36,6 +39,9 @@ first two = two .before .before
 abbrev second : tie.After-count-bytes → tie.After-count-field2
 second three = three .before .before
 
+abbrev to-start : tie.After-count-bytes2 → tie.After-energies-of
+to-start five = taken (first (second (five .before .before .before)))
+
 period-of-requires : tie.Need-period-of-requires
 period-of-requires c κs = c .before .pre .0
 
@@ -48,8 +54,14 @@ cycles-of-requires c κs = c .before .before .pre .0
 cast-cycles : tie.Need-cast-cycles
 cast-cycles c = search needs
 
+first-of-requires : tie.Need-first-of-requires
+first-of-requires c κs = c .before .before .before .pre .0
+
+cast-first : tie.Need-cast-first
+cast-first c = search needs
+
 energies-of-requires : tie.Need-energies-of-requires
-energies-of-requires c κs = c .before .before .before .pre .0
+energies-of-requires c κs = c .before .before .before .before .pre .0
 
 slice-aggregate-count-field : tie.Need-slice-aggregate-count-field
 slice-aggregate-count-field c = search needs
@@ -78,9 +90,24 @@ slice-aggregate-count-bytes-2 c = search needs
 count-bytes-requires-2 : tie.Need-count-bytes-requires-2
 count-bytes-requires-2 c κs = omega (arith, simp length-append at (fits (taken (first (second (c .before .before))))))
 
+slice-aggregate-count-shown : tie.Need-slice-aggregate-count-shown
+slice-aggregate-count-shown c = search needs
+
+slice-aggregate-count-shown-2 : tie.Need-slice-aggregate-count-shown-2
+slice-aggregate-count-shown-2 c = search needs
+
+count-shown-requires : tie.Need-count-shown-requires
+count-shown-requires c κs = omega (arith, simp length-append at (fits (to-start (c .before .before))))
+
+slice-aggregate-count-bytes-3 : tie.Need-slice-aggregate-count-bytes-3
+slice-aggregate-count-bytes-3 c = search needs
+
+count-bytes-requires-3 : tie.Need-count-bytes-requires-3
+count-bytes-requires-3 c κs = omega (arith, simp length-append at (fits (to-start (c .before .before .before .before))))
+
 returns : tie.Need-returns
 returns c =
-    simp length-append (omega (arith, simp length-append at (ap length (same (taken (first (second (c .before .before .before))))))))
+    simp length-append (omega (arith, simp length-append at (ap length (same (to-start (c .before .before .before .before .before))))))
 
 pub count-task-spec : {M : Type 1} → statement M
 count-task-spec =
@@ -90,6 +117,8 @@ count-task-spec =
     cast-period
     cycles-of-requires
     cast-cycles
+    first-of-requires
+    cast-first
     energies-of-requires
     slice-aggregate-count-field
     count-field-requires
@@ -100,4 +129,9 @@ count-task-spec =
     count-numbers-requires
     slice-aggregate-count-bytes-2
     count-bytes-requires-2
+    slice-aggregate-count-shown
+    slice-aggregate-count-shown-2
+    count-shown-requires
+    slice-aggregate-count-bytes-3
+    count-bytes-requires-3
     returns)

@@ -14,7 +14,7 @@ use Rattle.writer.proofs.count_text.Tie as tie
 -- The forms together are short.
 room : (z : tie.Start) → let w = now (z .args .w) in
     length (slackText (scriptOf w .slack)) + length (idleLine (scriptOf w .idle)) + length (ratesText (listRates w)) +
-    length (joined taskText (scriptOf w .tasks)) < 5000
+    length (joined taskText (scriptOf w .tasks)) < 6000
 room z = omega (arith, cut-length (now (z .args .w)), text-short (z .pre .list))
 
 count-slack-requires : tie.Need-count-slack-requires
