@@ -54,7 +54,7 @@ module _ {s P : List ℕ} {unit load hyper energy : ℕ} (given : PlannedSet s P
 
   -- The two other answers of the walk do not occur.
   pub not-missed : (t k : ℕ) → Walked s P (Missed t k) → ⊥
-  not-missed t k w = w .owes (promise s (given .accepts) P unit load hyper energy (given .selected) .keeps .for-ever)
+  not-missed t k w = w .owes .from-0 (promise s (given .accepts) P unit load hyper energy (given .selected) .keeps .for-ever)
 
   accepted : Accepts (walkChecks s P)
   accepted =

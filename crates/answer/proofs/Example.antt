@@ -1,4 +1,5 @@
--- Document 01's example: for its input the program prints its four lines. And texts with a chip, and with an idle line.
+-- Document 01's example: for its input the program prints its four lines. And texts with a first release, with a chip,
+-- and with an idle line.
 -- Assumes nothing.
 use Prim.Native.Nat.{ℕ, _≤_}
 use mathlib.Core.Path.{_≡_, refl, sym, _∙_, subst}
@@ -16,16 +17,16 @@ use Rattle.taskset.specs.Calls.{walkValues, outcomeValues, walkOf, Selected, Pl
 use Rattle.taskset.specs.declared.PlannerAnswer.the-variants.{Planned}
 use Rattle.taskset.specs.declared.WalkAnswer.the-variants.{Kept}
 use Rattle.taskset.proofs.Checks.{accepts-next, passed}
-use Rattle.taskset.proofs.Cases.{S, chip-set, slow-or-fast, cases}
+use Rattle.taskset.proofs.Cases.{S, S-from, chip-set, slow-or-fast, cases}
 use Rattle.taskset.proofs.DemandThree.{outcome-kept}
 use Rattle.chips.specs.declared.Chip.the-variants.{Ppc405lp}
 use Rattle.text.specs.Text.{bytes, scriptText, IsTextOf, words, scriptOf}
 use Rattle.text.proofs.Copies.{takes}
 use Rattle.text.proofs.Sizes.{words-length}
-use Rattle.text.proofs.Cases.{example, example-text, example-words, idle-910, idle-899, idle-line-910, idle-line-899}
+use Rattle.text.proofs.Cases.{example, example-text, example-words, example-from, from-text, from-words, idle-910, idle-899, idle-line-910, idle-line-899}
 use Rattle.text.proofs.Cases.{ppc405lp, underChip, chips, ppc405lp-within, tooMuch, overs}
 use Rattle.lines.specs.Lines.{planLine, rateLines, walkLine}
-use Rattle.lines.proofs.Example.{printed, printed-lines, chip-printed, chip-lines, refused-9-2, idle-printed, idle-lines, refused-10-8}
+use Rattle.lines.proofs.Example.{printed, printed-lines, chip-printed, chip-lines, refused-9-2, idle-printed, idle-lines, refused-10-9, from-printed, from-lines}
 use Rattle.answer.specs.Answer.{workLent, planLent, setLent, PrintsPlan, Read, Prints, unread, refused, planned}
 
 -- A case of the planner, where just the words needed are lent; more of them change nothing. P is its plan, with the four
@@ -86,6 +87,21 @@ example-printed =
     (read-script (S 100) example example-text)
     (subst (λ (w : List ℕ). PrintsPlan w (2 ∷ 1 ∷ []) printed 1 29 30 41 29 1 1) (sym example-words) plan)
 
+-- The same with a first release: the plan is the same, and the walk is kept to twice the hyper-period.
+from-plan : PrintsPlan (S-from 0 7) (2 ∷ 1 ∷ []) from-printed 1 29 30 41 55 5 2
+unfolding S-from headKinds extraKinds
+from-plan =
+    prints (S-from 0 7) (2 ∷ 1 ∷ []) from-printed (replicate 2 0) (replicate 243 0) (replicate 243 0) 1 29 30 41 55 5 2
+    (cases .planned-from (replicate 2 0) (replicate 243 0) refl refl)
+    (omega arith) (omega arith) refl (cases .walk-from .1) from-lines
+
+pub from-example-printed : Prints example-from from-printed
+unfolding S-from headKinds extraKinds scriptOf
+from-example-printed =
+    planned (scriptOf (S-from 0 7)) (2 ∷ 1 ∷ []) 1 29 30 41 55 5 2
+    (read-script (S-from 0 7) example-from from-text)
+    (subst (λ (w : List ℕ). PrintsPlan w (2 ∷ 1 ∷ []) from-printed 1 29 30 41 55 5 2) (sym from-words) from-plan)
+
 -- A text with a chip prints its four lines too; and where an energy is over the largest, the one line of refusal 9.
 chip-plan : PrintsPlan chip-set (2 ∷ 2 ∷ []) chip-printed 128 20 40 1680 20 20 0
 unfolding chip-set headKinds extraKinds
@@ -124,17 +140,17 @@ idle-example-printed =
     (read-script (slow-or-fast 10 910) idle-910 (idle-line-910 .text))
     (subst (λ (w : List ℕ). PrintsPlan w (1 ∷ []) idle-printed 1 90 100 1010 90 10 0) (sym (idle-line-910 .words-are)) idle-plan)
 
-below : Refuses (plannerChecks (slow-or-fast 10 899) planLent workLent) 10 8
+below : Refuses (plannerChecks (slow-or-fast 10 899) planLent workLent) 10 9
 below =
     let plan : List ℕ = replicate planLent 0 in
     let work : List ℕ = replicate workLent 0 in
-    let refuses : Refuses (plannerChecks (slow-or-fast 10 899) (length plan) (length work)) 10 8 = cases .idle-above plan work .0 in
-    subst (λ (w : ℕ). Refuses (plannerChecks (slow-or-fast 10 899) planLent w) 10 8) (length-replicate {A = ℕ} workLent 0)
-    (subst (λ (p : ℕ). Refuses (plannerChecks (slow-or-fast 10 899) p (length work)) 10 8)
+    let refuses : Refuses (plannerChecks (slow-or-fast 10 899) (length plan) (length work)) 10 9 = cases .idle-above plan work .0 in
+    subst (λ (w : ℕ). Refuses (plannerChecks (slow-or-fast 10 899) planLent w) 10 9) (length-replicate {A = ℕ} workLent 0)
+    (subst (λ (p : ℕ). Refuses (plannerChecks (slow-or-fast 10 899) p (length work)) 10 9)
     (length-replicate {A = ℕ} planLent 0) refuses)
 
-pub below-printed : Prints idle-899 (bytes "(refused 10 8)\n")
+pub below-printed : Prints idle-899 (bytes "(refused 10 9)\n")
 below-printed =
-    refused (scriptOf (slow-or-fast 10 899)) 10 8 (read-script (slow-or-fast 10 899) idle-899 (idle-line-899 .text))
-    (subst (λ (w : List ℕ). Refuses (plannerChecks w planLent workLent) 10 8) (sym (idle-line-899 .words-are)) below)
-    (sym refused-10-8)
+    refused (scriptOf (slow-or-fast 10 899)) 10 9 (read-script (slow-or-fast 10 899) idle-899 (idle-line-899 .text))
+    (subst (λ (w : List ℕ). Refuses (plannerChecks w planLent workLent) 10 9) (sym (idle-line-899 .words-are)) below)
+    (sym refused-10-9)

@@ -55,8 +55,8 @@ module _ (s : List ℕ) (accepts : Accepts (plannerChecks s planLent workLent)) 
     promise = plan-given s is-set (ready-covered s planLent workLent ready) P unit load hyper energy selected
 
     -- After a plan the walk is kept, from whatever first releases: there is no other line.
-    pub plan-kept : IsKept (walkOf s P)
-    plan-kept = walk-kept s is-set P (selected .planned .chosen .ok .fits)
+    pub walk-is-kept : IsKept (walkOf s P)
+    walk-is-kept = walk-kept s is-set P (selected .planned .chosen .ok .fits)
 
 -- ---- what an output owes
 pub owes : (t out : List ℕ) (p : Prints t out) → Owes p
@@ -119,8 +119,8 @@ one-output t o₁ o₂ (planned s P u l h e b i p is x) (planned s′ Q v m k f 
     (subst (λ (z : Script). PrintsPlan (words z) Q o₂ v m k f c j q) (one-script s′ s t (is′ .text) (is .text)) y)
 
 -- ---- an input over 8,192 bytes
--- A first bad offset lies below 5,000.
-bad-early : (t : List ℕ) (o : ℕ) → FirstBad WellFormed t o → o < 5000
+-- A first bad offset lies below 6,000.
+bad-early : (t : List ℕ) (o : ℕ) → FirstBad WellFormed t o → o < 6000
 bad-early t o f =
     let w = f .before .1 in
     omega (arith, text-length (w .0) (take o t ++ f .before .0) (w .1), length-append (take o t) (f .before .0), length-take-le o t (f .within))

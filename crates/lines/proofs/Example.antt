@@ -34,9 +34,17 @@ pub idle-lines : idle-printed ≡ planLine 1 90 100 1010 ++ (rateLines 1 (1 ∷ 
 unfolding idle-printed planLine rateLine walkLine decimal digits
 idle-lines = refl
 
-pub refused-10-8 : refusedLine 10 8 ≡ bytes "(refused 10 8)\n"
+pub refused-10-9 : refusedLine 10 9 ≡ bytes "(refused 10 9)\n"
 unfolding refusedLine decimal digits
-refused-10-8 = refl
+refused-10-9 = refl
+
+-- The lines of document 01's example with a first release (note 6): the walk's count to 60, twice the hyper-period.
+unfoldable pub from-printed : List ℕ
+from-printed = bytes "(plan (unit 1) (load 29 30) (energy 41))\n(rate 1 2)\n(rate 2 1)\n(walk (busy 55) (idle 5) (preempted 2))\n"
+
+pub from-lines : from-printed ≡ planLine 1 29 30 41 ++ (rateLines 1 (2 ∷ 1 ∷ []) ++ walkLine 55 5 2)
+unfolding from-printed planLine rateLine walkLine decimal digits
+from-lines = refl
 
 -- "it prints only `(refused 7 0)`"
 pub refused-7-0 : refusedLine 7 0 ≡ bytes "(refused 7 0)\n"

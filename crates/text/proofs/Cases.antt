@@ -26,7 +26,7 @@ use Rattle.taskset.specs.Calls.{CountsAfter}
 use Rattle.taskset.specs.declared.Shape.the-variants.{Whole}
 use Rattle.taskset.proofs.Checks.{accepts-next}
 use Rattle.taskset.proofs.Verdict.{isBad, isFall, shapeOf, shape-answers}
-use Rattle.taskset.proofs.Cases.{chip-set, slow-or-fast}
+use Rattle.taskset.proofs.Cases.{S-from, chip-set, slow-or-fast}
 use Rattle.text.specs.Text.{TaskLine, Clock, rates, chip, Script, bytes, digits, decimal, scriptText, TaskLineOk, ScriptOk, IsTextOf}
 use Rattle.text.specs.Text.{WellFormed, FirstBad, ratesOf, headWords, words, scriptOf}
 use Rattle.text.specs.Calls.{WorksOut, HasOver, readerChecks, writerChecks}
@@ -48,6 +48,18 @@ example-text = is-read (scriptOf S) example (length example) refl .0
 pub example-words : words (scriptOf S) ≡ S
 unfolding words scriptOf headKinds extraKinds
 example-words = refl
+
+-- The same with a first release.
+unfoldable pub example-from : List ℕ
+example-from = bytes "(slack 100)\n(rates 2 4 8)\n(task (period 10) (cycles 12) (energy 4 9 20))\n(task (period 15) (cycles 20) (energy 7 15 30) (from 7))\n"
+
+pub from-text : IsTextOf (scriptOf (S-from 0 7)) example-from
+unfolding example-from S-from readText number more literal many scriptOf headKinds extraKinds
+from-text = is-read (scriptOf (S-from 0 7)) example-from (length example-from) refl .0
+
+pub from-words : words (scriptOf (S-from 0 7)) ≡ S-from 0 7
+unfolding words S-from scriptOf headKinds extraKinds
+from-words = refl
 
 -- A text with an idle line, where the energy at the slower rate is e.
 unfoldable pub idle-910 : List ℕ
