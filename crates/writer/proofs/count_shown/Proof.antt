@@ -1,6 +1,6 @@
 -- A form, where its number is above 0: the bytes of each part behind those before it.
 -- Assumes nothing.
-use Prim.Native.Nat.{_+_, _^_, _<_}
+use Prim.Native.Nat.{_+_, _<_}
 use mathlib.Core.Path.{_≡_, ap}
 use mathlib.Core.List.{_++_}
 use native.Mathlib.Omega.{arith}
