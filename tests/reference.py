@@ -2,8 +2,9 @@
 the load generator.
 
 It follows the words of the scope document, and of document 02 those of note 1 for
-the generator, of note 2 for chips, of note 4 for the idle energy H and of note 5 for
-the margin, and is meant to be read beside them. It is slow on purpose.
+the generator, of note 2 for chips, of note 4 for the idle energy H, of note 5 for
+the margin and of note 6 for first releases, and is meant to be read beside them. It is
+slow on purpose.
 A refusal is ('refused', number, second number).
 Tasks and rates are numbered from 1, places in lists and texts from 0.
 """
@@ -18,11 +19,11 @@ LONGEST = 10_000_000            # the hyper-period is at most this
 LARGEST = 4_294_967_295         # the largest number of a text
 WORKING_WORDS = 16_384          # of the program
 BYTES_READ = 8_192              # by the program
-MOST_WORDS = 4 + 8 + 32 * 10    # of a set with 8 rates and 32 tasks
+MOST_WORDS = 4 + 8 + 32 * 11    # of a set with 8 rates and 32 tasks
 RESULT_BYTES = 32               # of a C call
 ENUMERATED = 20_000             # up to this many plans, all are looked at
 
-Task = namedtuple('Task', 'period cycles energies')
+Task = namedtuple('Task', 'period cycles first energies')
 TaskSet = namedtuple('TaskSet', 'slack idle rates tasks')
 
 
@@ -43,8 +44,8 @@ def round_up(a, b):
 def ranges(words):
     """The range of each word of a set, in order.
 
-    M and N are read from the list only after their own range was asked for,
-    so whoever asks has judged them by then.
+    M, N and the periods are read from the list only after their own range was
+    asked for, so whoever asks has judged them by then.
     """
     yield 1, 1_000                      # the slack G
     yield 0, 1_000                      # the idle energy H, 'a word after the slack'
@@ -54,9 +55,11 @@ def ranges(words):
         yield 1, 1_000_000              # a rate
     yield 1, 32                         # the task count N
     N = words[3 + M]
-    for _ in range(N):
+    for task in range(N):
         yield 1, 10_000_000             # the period
         yield 1, 4_000_000_000          # the cycles
+        # 'the task record gains A after the cycles', 'A below the period'
+        yield 0, words[4 + M + task * (3 + M)] - 1
         for _ in range(M):
             yield 1, 1_000_000          # an energy
 
@@ -87,7 +90,7 @@ def check_3(words):
 def task_places(words):
     """The place at which each task begins, with its period."""
     M, N = words[2], words[3 + words[2]]
-    return [4 + M + task * (2 + M) for task in range(N)]
+    return [4 + M + task * (3 + M) for task in range(N)]
 
 
 def check_4(words):
@@ -106,16 +109,24 @@ def check_10(words):
     for place, task in zip(task_places(words), s.tasks):
         for number, (rate, energy) in enumerate(zip(s.rates, task.energies)):
             if energy < s.idle * job_time(task, rate):
-                return refused(10, place + 2 + number)
+                return refused(10, place + 3 + number)
     return None
 
 
 def decode(words):
     """The set that a list stands for; the list passes check 2."""
     M = words[2]
-    tasks = [Task(words[place], words[place + 1], list(words[place + 2:place + 2 + M]))
+    tasks = [Task(*words[place:place + 3], list(words[place + 3:place + 3 + M]))
              for place in task_places(words)]
     return TaskSet(words[0], words[1], list(words[3:3 + M]), tasks)
+
+
+def released_together(words):
+    """The list with every A 0; it passes check 2."""
+    words = list(words)
+    for place in task_places(words):
+        words[place + 2] = 0
+    return words
 
 
 def hyper_period(tasks):
@@ -302,6 +313,8 @@ def objection(words, answer, ticks):
     ticks would cost idle, and compared with the slack as they are reported. Up to
     so many ticks in all, whether a plan fits is seen by walking it.
     """
+    # 'The planner still answers for a common release'
+    words = released_together(words)
     s = decode(words)
     M, N, L = len(s.rates), len(s.tasks), hyper_period(s.tasks)
     if any(s.idle * round_up(task.cycles, rate) > energy for task in s.tasks
@@ -383,8 +396,10 @@ def least_energy(words, ticks):
 
     It goes through all plans, one after the other, and knows nothing of units and of
     the choice. Up to so many ticks in all each plan is walked: the walk says whether
-    it keeps its deadlines, and how many ticks are idle. Else the load says both.
+    it keeps its deadlines, and how many ticks are idle, all tasks being released
+    together. Else the load says both.
     """
+    words = released_together(words)
     s = decode(words)
     M, N, L = len(s.rates), len(s.tasks), hyper_period(s.tasks)
     by_walking = M ** N * L <= ticks
@@ -435,30 +450,43 @@ def check_walk(words, plan):
     return check_8(plan, M, N)
 
 
+def last_tick(tasks):
+    """'it goes to 2 x L'; 'If all are 0 it ends at L as before.'"""
+    L = hyper_period(tasks)
+    return 2 * L if any(task.first > 0 for task in tasks) else L
+
+
+def is_released(task, tick):
+    """'releases fall at A plus multiples of the period'"""
+    return tick >= task.first and (tick - task.first) % task.period == 0
+
+
 def walk(words, plan):
     answer = check_walk(words, plan)
     if answer:
         return answer
     s = decode(words)
-    N, L = len(s.tasks), hyper_period(s.tasks)
-    period = [task.period for task in s.tasks]
+    N, end = len(s.tasks), last_tick(s.tasks)
     time = [job_time(task, s.rates[rate - 1]) for task, rate in zip(s.tasks, plan)]
 
     jobs = [None] * N           # the latest job of each task
     before = None               # the job of the tick before
     busy = idle = preemptions = 0
-    for tick in range(L + 1):
-        due = [i for i in range(N) if tick % period[i] == 0]
+    for tick in range(end + 1):
+        due = [i for i in range(N) if is_released(s.tasks[i], tick)]
         for i in due:
             if jobs[i] is not None and jobs[i].left > 0:
                 return ('missed', tick, i + 1)
-        if tick == L:
-            break               # 'At L the check is made and nothing is released.'
+        if tick == end:
+            # 'At L the check is made and nothing is released', and so at 2 x L, where 'an
+            # unfinished job whose deadline lies past it is no miss'.
+            break
         for i in due:
-            jobs[i] = Job(time[i], tick + period[i])
+            jobs[i] = Job(time[i], tick + s.tasks[i].period)
         running = None
         for job in jobs:        # in task order: a tie goes to the lower number
-            if job.left > 0 and (running is None or job.deadline < running.deadline):
+            if job is not None and job.left > 0 and (
+                    running is None or job.deadline < running.deadline):
                 running = job
         if running is None:
             idle += 1
@@ -474,7 +502,8 @@ def walk(words, plan):
 
 
 def keeps_for_ever(words, plan, horizon):
-    """The endless walk, judged at the ticks from 0 to horizon."""
+    """The endless walk 'where each task's first release falls at its A', judged at the
+    ticks from 0 to horizon."""
     s = decode(words)
     N = len(s.tasks)
     time = [job_time(task, s.rates[rate - 1]) for task, rate in zip(s.tasks, plan)]
@@ -482,7 +511,7 @@ def keeps_for_ever(words, plan, horizon):
     deadline = [0] * N
     for tick in range(horizon + 1):
         for i in range(N):
-            if tick % s.tasks[i].period == 0:
+            if is_released(s.tasks[i], tick):
                 if left[i] != 0:
                     return False
                 left[i] = time[i]
@@ -516,7 +545,8 @@ def generated_task(draw):
     period = PERIODS[next(draw) % 8]
     cycles = 1 + next(draw) % 1_000
     factor = 2 + next(draw) % 9
-    return [period, cycles] + [factor * j * j for j in range(1, 6)]
+    # of A '0 .. from the generator'
+    return [period, cycles, 0] + [factor * j * j for j in range(1, 6)]
 
 
 def generate(seed, N, room):
@@ -594,10 +624,10 @@ def chip_rates(chip):
     return [MHz * 1_000 for MHz, _ in CHIPS[chip]]
 
 
-def chip_task(chip, period, cycles):
+def chip_task(chip, period, cycles, first):
     """The task of a line without energies: 'an energy is power in mW times the
     job time'. The numbers are those of the text, whatever their ranges."""
-    task = Task(period, cycles, [])
+    task = Task(period, cycles, first, [])
     for rate, (_, mW) in zip(chip_rates(chip), CHIPS[chip]):
         task.energies.append(mW * job_time(task, rate))
     return task
@@ -620,13 +650,22 @@ NUMBER = 'number'
 HEADS = tuple(product((False, True), (*range(2, 9), *CHIPS)))
 
 
+def items_of(line):
+    """A line's bytes, and NUMBER where a number stands. After a number there is always
+    a byte."""
+    flat = []
+    for item in line:
+        flat += [NUMBER] if item == NUMBER else list(item)
+    return flat
+
+
 @lru_cache(maxsize=None)
 def shape(head, N):
-    """A well-formed text with that head and N tasks: its bytes, and NUMBER where a
-    number stands. After a number there is always a byte."""
+    """A well-formed text with that head and N tasks: for each line the items that it may
+    have."""
     has_idle, clock = head
     # 'A line (idle H) may follow the slack line'
-    idle = [b'(idle ', NUMBER, b')\n'] if has_idle else []
+    idle = [[b'(idle ', NUMBER, b')\n']] if has_idle else []
     if clock in CHIPS:
         # 'A line (chip xscale) or (chip ppc405lp) replaces the rates line, and
         # task lines then omit the energy form.'
@@ -636,40 +675,57 @@ def shape(head, N):
         row = [b' ', NUMBER] * clock
         line = [b'(rates'] + row + [b')\n']
         energies = [b' (energy'] + row + [b')']
-    items = [b'(slack ', NUMBER, b')\n'] + idle + line
-    for _ in range(N):
-        items += [b'(task (period ', NUMBER, b') (cycles ', NUMBER, b')']
-        items += energies + [b')\n']
-    flat = []
-    for item in items:
-        flat += [NUMBER] if item == NUMBER else list(item)
-    return flat
+    task = [b'(task (period ', NUMBER, b') (cycles ', NUMBER, b')'] + energies
+    # 'Each task may end with (from A)'
+    first = [b' (from ', NUMBER, b')']
+    ends = [items_of(task + more + [b')\n']) for more in ([], first)]
+    return [[items_of(line)] for line in [[b'(slack ', NUMBER, b')\n'], *idle, line]] + [ends] * N
 
 
-# A state is (head, N, place, value). It says: the bytes so far begin some text with
-# that head and N tasks; the next byte belongs to that place of its shape; value is
-# the number begun there, or None. From every state some well-formed text can be
-# reached, so a beginning without a state begins no well-formed text.
+# A state is (head, N, line, which, place, value). It says: the bytes so far begin some
+# text with that head and N tasks; the next byte belongs to that line of its shape, which
+# is there as one of those that it may be, and to that place of it; value is the number
+# begun there, or None. From every state some well-formed text can be reached, so a
+# beginning without a state begins no well-formed text.
 
-FIRST_STATES = frozenset((head, N, 0, None) for head in HEADS for N in range(1, 33))
+def at_line(head, N, line):
+    """The states before the first byte of a line; behind the last one that of the end."""
+    lines = shape(head, N)
+    ways = len(lines[line]) if line < len(lines) else 1
+    return [(head, N, line, which, 0, None) for which in range(ways)]
+
+
+FIRST_STATES = frozenset(state for head in HEADS for N in range(1, 33)
+                         for state in at_line(head, N, 0))
+
+
+def is_end(state):
+    head, N, line, *_ = state
+    return line == len(shape(head, N))
 
 
 def next_states(state, byte):
-    head, N, place, value = state
-    items = shape(head, N)
-    if place == len(items):
-        return []               # the text of this shape has ended
+    head, N, line, which, place, value = state
+    if is_end(state):
+        return []
+    items = shape(head, N)[line][which]
+
+    def at(place, value=None):
+        if place == len(items):
+            return at_line(head, N, line + 1)
+        return [(head, N, line, which, place, value)]
+
     if items[place] != NUMBER:
-        return [(head, N, place + 1, None)] if byte == items[place] else []
+        return at(place + 1) if byte == items[place] else []
     after = []
     if b'0'[0] <= byte <= b'9'[0]:
         digit = byte - b'0'[0]
         if value is None:
-            after.append((head, N, place, digit))
+            after += at(place, digit)
         elif value != 0 and value * 10 + digit <= LARGEST:
-            after.append((head, N, place, value * 10 + digit))
+            after += at(place, value * 10 + digit)
     if value is not None and byte == items[place + 1]:
-        after.append((head, N, place + 2, None))
+        after += at(place + 2)
     return after
 
 
@@ -678,13 +734,15 @@ def all_after(states, byte):
     return frozenset(after for state in states for after in next_states(state, byte))
 
 
-def is_end(state):
-    head, N, place, _ = state
-    return place == len(shape(head, N))
-
-
 def numbers_of(line):
     return [int(digits) for digits in re.findall(rb'[0-9]+', line)]
+
+
+def task_of(line):
+    """Period, cycles, A and the energies of a task's line; of A '0 if absent'."""
+    period, cycles, *energies = numbers_of(line)
+    first = energies.pop() if b'(from ' in line else 0
+    return Task(period, cycles, first, energies)
 
 
 def read_text(data, room):
@@ -699,26 +757,25 @@ def read_text(data, room):
     if not ended:
         return refused(1, len(data))    # 'the text's length if it ends early'
 
-    [((has_idle, clock), _, _, _)] = ended      # a text has one shape
+    [((has_idle, clock), *_)] = ended   # a text has one shape
     lines = data.split(b'\n')[:-1]
     [slack] = numbers_of(lines.pop(0))
     # '0 if the line is absent', and of a chip its own
     [idle] = numbers_of(lines.pop(0)) if has_idle else [CHIP_IDLE.get(clock, 0)]
     line = lines.pop(0)         # of rates or of a chip
-    tasks = [numbers_of(task) for task in lines]
+    tasks = [task_of(task) for task in lines]
     if clock in CHIPS:
         # 'Reading gives the ordinary list, expanded'
         rates = chip_rates(clock)
-        tasks = [chip_task(clock, period, cycles) for period, cycles in tasks]
+        tasks = [chip_task(clock, *task[:3]) for task in tasks]
         answer = check_9(tasks)         # 'after 1, before 6'
         if answer:
             return answer
     else:
         rates = numbers_of(line)
-        tasks = [Task(period, cycles, energies) for period, cycles, *energies in tasks]
     words = [slack, idle, len(rates), *rates, len(tasks)]
     for task in tasks:
-        words += [task.period, task.cycles, *task.energies]
+        words += [task.period, task.cycles, task.first, *task.energies]
     if room < len(words):
         return refused(6, len(words))
     return ('read', words)
@@ -734,8 +791,10 @@ def write_text(words, room):
         lines.append('(idle %d)' % s.idle)
     lines.append('(rates %s)' % ' '.join(map(str, s.rates)))
     for task in s.tasks:
-        lines.append('(task (period %d) (cycles %d) (energy %s))'
-                     % (task.period, task.cycles, ' '.join(map(str, task.energies))))
+        # of A 'written only if above 0'
+        first = ' (from %d)' % task.first if task.first > 0 else ''
+        lines.append('(task (period %d) (cycles %d) (energy %s)%s)' % (
+            task.period, task.cycles, ' '.join(map(str, task.energies)), first))
     text = ''.join(line + '\n' for line in lines).encode('ascii')
     if room < len(text):
         return refused(6, len(text))

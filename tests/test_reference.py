@@ -25,7 +25,7 @@ PRINTED = (b'(plan (unit 1) (load 29 30) (energy 41))\n'
            b'(rate 1 2)\n'
            b'(rate 2 1)\n'
            b'(walk (busy 29) (idle 1) (preempted 1))\n')
-S = [100, 0, 3, 2, 4, 8, 2, 10, 12, 4, 9, 20, 15, 20, 7, 15, 30]
+S = [100, 0, 3, 2, 4, 8, 2, 10, 12, 0, 4, 9, 20, 15, 20, 0, 7, 15, 30]
 S_1000 = [1000] + S[1:]
 PLENTY = 10 ** 9
 
@@ -46,8 +46,8 @@ def both_ways(name, words, want, plan_len=32, work_len=PLENTY):
         same('%s (%s)' % (name, way), r.plan(words, plan_len, work_len, way), want)
 
 
-def one_task(slack, period, cycles, energies=(1, 1), rates=(1, 2), idle=0):
-    return [slack, idle, len(rates), *rates, 1, period, cycles, *energies]
+def one_task(slack, period, cycles, energies=(1, 1), rates=(1, 2), idle=0, first=0):
+    return [slack, idle, len(rates), *rates, 1, period, cycles, first, *energies]
 
 
 # ------------------------------------------------- 'Either side of an edge'
@@ -81,8 +81,8 @@ def edges():
     same('rates 4 4', r.check_set(one_task(100, 30, 60, rates=(4, 4))), refused(3, 4))
     same('empty text', r.read_text(b'', 0), refused(1, 0))
 
-    two = [100, 0, 2, 1, 2, 2, 9_999_999, 1, 1, 1, 10_000_000, 1, 1, 1]
-    same('periods 9,999,999 and 10,000,000', r.check_set(two), refused(4, 10))
+    two = [100, 0, 2, 1, 2, 2, 9_999_999, 1, 0, 1, 1, 10_000_000, 1, 0, 1, 1]
+    same('periods 9,999,999 and 10,000,000', r.check_set(two), refused(4, 11))
     same('the writer makes no check 4', r.write_text(two, 1000)[0], 'written')
     longest = one_task(100, 10_000_000, 1)
     same('period 10,000,000', r.check_set(longest), ('good', 2, 1, 10_000_000))
@@ -149,10 +149,10 @@ def errors():
          [33, 33])
 
     # Utilisation added as rounded fractions.
-    thirds = [100, 0, 2, 1, 2, 3] + [3, 2, 1, 1] * 3
+    thirds = [100, 0, 2, 1, 2, 3] + [3, 2, 0, 1, 1] * 3
     both_ways('three thirds', thirds, ('planned', 1, 3, 3, 3, [2, 2, 2]))
     same('three thirds, walk', r.walk(thirds, [2, 2, 2]), ('kept', 3, 0, 0))
-    mixed = [100, 0, 2, 1, 2, 3, 2, 2, 1, 1, 3, 2, 1, 1, 6, 2, 1, 1]
+    mixed = [100, 0, 2, 1, 2, 3, 2, 2, 0, 1, 1, 3, 2, 0, 1, 1, 6, 2, 0, 1, 1]
     both_ways('a half, a third and a sixth', mixed, ('planned', 1, 6, 6, 6, [2, 2, 2]))
     same('a half, a third and a sixth, walk', r.walk(mixed, [2, 2, 2])[:3], ('kept', 6, 0))
 
@@ -160,35 +160,35 @@ def errors():
     same('rate numbers before load', erring(S_1000, up, rates_first), (8, [2, 1]))
     same('load before rate numbers', r.plan(S_1000, 2, 27)[5], [1, 2])
     # Two equal tasks, of which one must run fast: the lower number for task 2.
-    twins = [100, 0, 2, 1, 2, 2] + [3, 2, 1, 3] * 2
+    twins = [100, 0, 2, 1, 2, 2] + [3, 2, 0, 1, 3] * 2
     both_ways('the lower rate number for task 2', twins, ('planned', 1, 3, 3, 4, [2, 1]))
 
     # A miss noticed only when the late job ends.
     same('a miss at once', r.walk(S, [1, 1]), ('missed', 15, 2))
     late = one_task(100, 3, 100)
     same('a miss at L', r.walk(late, [1]), ('missed', 3, 1))
-    several = [100, 0, 2, 1, 2, 3] + [4, 4, 1, 1] + [2, 2, 1, 1] + [2, 2, 1, 1]
+    several = [100, 0, 2, 1, 2, 3] + [4, 4, 0, 1, 1] + [2, 2, 0, 1, 1] + [2, 2, 0, 1, 1]
     same('task 3 misses first', r.walk(several, [1, 1, 1]), ('missed', 2, 3))
-    several = [100, 0, 2, 1, 2, 3] + [2, 4, 1, 1] + [2, 4, 1, 1] + [2, 4, 1, 1]
+    several = [100, 0, 2, 1, 2, 3] + [2, 4, 0, 1, 1] + [2, 4, 0, 1, 1] + [2, 4, 0, 1, 1]
     same('the lowest-numbered of several', r.walk(several, [1, 1, 1]), ('missed', 2, 1))
 
 
 # ------------------------------------------------------- 'The bracketed text'
 
 def the_text():
-    same('the example, read', r.read_text(EXAMPLE, 17), ('read', S))
-    same('the example, read into 16 words', r.read_text(EXAMPLE, 16), refused(6, 17))
+    same('the example, read', r.read_text(EXAMPLE, 19), ('read', S))
+    same('the example, read into 18 words', r.read_text(EXAMPLE, 18), refused(6, 19))
     same('the example, written', r.write_text(S, len(EXAMPLE)), ('written', EXAMPLE))
     same('the example, written into less', r.write_text(S, len(EXAMPLE) - 1),
          refused(6, len(EXAMPLE)))
     same('the example, printed', r.respond(EXAMPLE), PRINTED)
     most = [1000, 1000, 8] + [10 ** 6 - 7 + i for i in range(8)] + [32]
-    most += ([10 ** 7, 4 * 10 ** 9] + [10 ** 6] * 8) * 32
+    most += ([10 ** 7, 4 * 10 ** 9, 10 ** 7 - 1] + [10 ** 6] * 8) * 32
     same('the most words', len(most), r.MOST_WORDS)
-    text = r.write_text(most, 5000)[1]
+    text = r.write_text(most, 6000)[1]
     same('the most words, read back', r.read_text(text, r.MOST_WORDS), ('read', most))
     largest = re.sub(rb'[0-9]+', b'4294967295', text)
-    same('every well-formed text is under 5,000', len(largest) < 5000, True)
+    same('every well-formed text is under 6,000', len(largest) < 6000, True)
     same('the largest text, read', r.read_text(largest, r.MOST_WORDS)[0], 'read')
 
 
@@ -212,7 +212,7 @@ def offsets():
     for length in range(len(EXAMPLE)):
         want = refused(1, length)
         if EXAMPLE[:length].count(b'\n') == 3 and EXAMPLE[:length].endswith(b'\n'):
-            want = ('read', S[:6] + [1] + S[7:12])
+            want = ('read', S[:6] + [1] + S[7:13])
         same('cut after %d bytes' % length, r.read_text(EXAMPLE[:length], 1000), want)
 
     rates_8 = b'(slack 1)\n(rates 1 2 3 4 5 6 7 8'
@@ -249,11 +249,11 @@ def offsets():
     at('no last line end', EXAMPLE[:-1], len(EXAMPLE) - 1)
 
     text, _ = replaced(b'slack 100', b'slack 4294967295')
-    same('the largest number', r.read_text(text, 17), ('read', [4294967295] + S[1:]))
+    same('the largest number', r.read_text(text, 19), ('read', [4294967295] + S[1:]))
     text, _ = replaced(b'slack 100', b'slack 0')
-    same('ranges are not judged', r.read_text(text, 17), ('read', [0] + S[1:]))
+    same('ranges are not judged', r.read_text(text, 19), ('read', [0] + S[1:]))
     at('1 before 6', b'(slack', 6)
-    same('6 and not 1', r.read_text(EXAMPLE, 0), refused(6, 17))
+    same('6 and not 1', r.read_text(EXAMPLE, 0), refused(6, 19))
 
 
 def answers():
@@ -263,7 +263,7 @@ def answers():
     same('program, refusal 2', r.respond(replaced(b'100', b'0')[0]), b'(refused 2 0)\n')
     same('program, refusal 3', r.respond(replaced(b'4 8', b'4 4')[0]), b'(refused 3 5)\n')
     same('program, refusal 4',
-         r.respond(replaced(b'period 10', b'period 9999998')[0]), b'(refused 4 12)\n')
+         r.respond(replaced(b'period 10', b'period 9999998')[0]), b'(refused 4 13)\n')
     same('program, refusal 5', r.respond(replaced(b'100', b'1')[0]), b'(refused 5 24003)\n')
     same('program, refusal 7',
          r.respond(replaced(b'cycles 12', b'cycles 81')[0]), b'(refused 7 0)\n')
@@ -280,7 +280,7 @@ def answers():
     same('C plan', r.c_plan(S, 2, 243, 32), (0, [1, 29, 30, 41]))
     same('C plan, refusal 2', r.c_plan([], 0, 0, 0), code(2, 0))
     same('C plan, refusal 3', r.c_plan(S[:5] + [4] + S[6:], 0, 0, 0), code(3, 5))
-    same('C plan, refusal 4', r.c_plan(S[:7] + [9999998] + S[8:], 0, 0, 0), code(4, 12))
+    same('C plan, refusal 4', r.c_plan(S[:7] + [9999998] + S[8:], 0, 0, 0), code(4, 13))
     same('C plan, refusal 5', r.c_plan(S, 0, 242, 0), code(5, 243))
     same('C plan, refusal 6 for the plan', r.c_plan(S, 1, 243, 0), code(6, 2))
     same('C plan, refusal 6 for the results', r.c_plan(S, 2, 243, 31), code(6, 32))
@@ -304,34 +304,36 @@ def answers():
     same('M of 9', r.check_set([100, 0, 9]), refused(2, 2))
     same('N of 0', r.check_set(S[:6] + [0]), refused(2, 6))
     same('N of 33', r.check_set(S[:6] + [33] + S[7:]), refused(2, 6))
-    same('a word left over', r.check_set(S + [1]), refused(2, 17))
+    same('a word left over', r.check_set(S + [1]), refused(2, 19))
     for length in range(len(S)):
         same('%d words of S' % length, r.check_set(S[:length]), refused(2, length))
+    # S's first task has period 10.
     for place, top in ((0, 1000), (1, 1000), (3, 10 ** 6), (7, 10 ** 7), (8, 4 * 10 ** 9),
-                       (9, 10 ** 6)):
-        for word in (0, top + 1, 2 ** 32 - 1)[place == 1:]:     # the idle energy may be 0
+                       (9, 9), (10, 10 ** 6)):
+        # The idle energy and a first release may be 0.
+        for word in (0, top + 1, 2 ** 32 - 1)[place in (1, 9):]:
             words = S[:place] + [word] + S[place + 1:]
             same('%d at place %d' % (word, place), r.check_set(words), refused(2, place))
         words = S[:place] + [top] + S[place + 1:]
         same('%d at place %d' % (top, place), r.check_2(words), None)
-    same('2 before 3', r.check_set([100, 0, 2, 4, 4, 1, 30, 60, 1, 0]), refused(2, 9))
-    same('3 before 4', r.check_set([100, 0, 2, 4, 4, 2, 9999999, 1, 1, 1, 10000000, 1, 1, 1]),
+    same('2 before 3', r.check_set([100, 0, 2, 4, 4, 1, 30, 60, 0, 1, 0]), refused(2, 10))
+    same('3 before 4', r.check_set([100, 0, 2, 4, 4, 2, 9999999, 1, 0, 1, 1, 10000000, 1, 0, 1, 1]),
          refused(3, 4))
     same('the first falling rate', r.check_set(S[:3] + [8, 4, 2] + S[6:]), refused(3, 4))
 
 
 def preemptions():
     # Task 1's job ends as task 2's turn comes: no preemption.
-    words = [100, 0, 2, 1, 2, 2] + [4, 2, 1, 1] + [4, 2, 1, 1]
+    words = [100, 0, 2, 1, 2, 2] + [4, 2, 0, 1, 1] + [4, 2, 0, 1, 1]
     same('no preemption at an end', r.walk(words, [1, 1]), ('kept', 4, 0, 0))
     # A job that follows its own task's finished job, with no idle tick.
-    same('no preemption by the next job', r.walk([100, 0, 2, 1, 2, 2] + [2, 2, 1, 1]
-         + [4, 2, 1, 1], [2, 2]), ('kept', 3, 1, 0))
+    same('no preemption by the next job', r.walk([100, 0, 2, 1, 2, 2] + [2, 2, 0, 1, 1]
+         + [4, 2, 0, 1, 1], [2, 2]), ('kept', 3, 1, 0))
     # A long job broken by three short ones, and a tie at 12 for the lower number.
-    words = [100, 0, 2, 1, 2, 2] + [3, 1, 1, 1] + [12, 8, 1, 1]
+    words = [100, 0, 2, 1, 2, 2] + [3, 1, 0, 1, 1] + [12, 8, 0, 1, 1]
     same('three preemptions', r.walk(words, [1, 1]), ('kept', 12, 0, 3))
     # The long job first: a tie at 12 leaves it running.
-    words = [100, 0, 2, 1, 2, 2] + [12, 8, 1, 1] + [3, 1, 1, 1]
+    words = [100, 0, 2, 1, 2, 2] + [12, 8, 0, 1, 1] + [3, 1, 0, 1, 1]
     same('two preemptions', r.walk(words, [1, 1]), ('kept', 12, 0, 2))
 
 
@@ -344,18 +346,18 @@ TABLE = [10, 20, 25, 40, 50, 100, 200, 400]
 # 2868466484, 1649599747, 2670642822; 1476291629, 2748932008, 2180890343. Their draws:
 # 15470 is 6 mod 8, 18256 is 256 mod 1,000 and 53708 is 5 mod 9;
 # 43769 is 1, 25170 is 170 and 40750 is 7; 22526 is 6, 41945 is 945 and 33277 is 4.
-FROM_0 = [200, 257, 7, 28, 63, 112, 175,
-          20, 171, 9, 36, 81, 144, 225,
-          200, 946, 6, 24, 54, 96, 150]
+FROM_0 = [200, 257, 0, 7, 28, 63, 112, 175,
+          20, 171, 0, 9, 36, 81, 144, 225,
+          200, 946, 0, 6, 24, 54, 96, 150]
 # From 4294967295 the draws are 15445, 12311, 8835; 41343, 47029, 57284.
-FROM_TOP = [100, 312, 8, 32, 72, 128, 200,
-            400, 30, 10, 40, 90, 160, 250]
+FROM_TOP = [100, 312, 0, 8, 32, 72, 128, 200,
+            400, 30, 0, 10, 40, 90, 160, 250]
 # From 7 they are 15648, 59866, 40140: entry 0, and the least energies.
-FROM_7 = [10, 867, 2, 8, 18, 32, 50]
+FROM_7 = [10, 867, 0, 2, 8, 18, 32, 50]
 # From 174 they are 19890, 3999, 62834 and from 378 25071, 37000, 41894: the most
 # cycles and the fewest, and the last entry.
-FROM_174 = [25, 1000, 7, 28, 63, 112, 175]
-FROM_378 = [400, 1, 10, 40, 90, 160, 250]
+FROM_174 = [25, 1000, 0, 7, 28, 63, 112, 175]
+FROM_378 = [400, 1, 0, 10, 40, 90, 160, 250]
 WORKED = [(0, 3, FROM_0), (2 ** 32 - 1, 2, FROM_TOP), (7, 1, FROM_7), (174, 1, FROM_174),
           (378, 1, FROM_378)]
 
@@ -364,7 +366,7 @@ def generator_edges():
     for seed, N, tasks in WORKED:
         words = HEAD + [N] + tasks
         same('generator, seed %d' % seed, r.generate(seed, N, len(words)), ('generated', words))
-    for N, length in ((1, 16), (2, 23), (31, 226), (32, 233)):
+    for N, length in ((1, 17), (2, 25), (31, 257), (32, 265)):
         name = 'generator, %d tasks' % N
         words = r.generate(0, N, length)[1]
         same(name, (len(words), words[:9]), (length, HEAD + [N]))
@@ -372,20 +374,20 @@ def generator_edges():
         same(name + ', a word short', r.generate(0, N, length - 1), refused(6, length))
         same(name + ', none lent', r.generate(0, N, 0), refused(6, length))
     for N in (0, 33, 34, 256 + 1, 2 ** 31 + 1, 2 ** 32 - 1):
-        for room in (0, 15, 240, PLENTY):
+        for room in (0, 16, 272, PLENTY):
             same('generator, %d tasks, %d words' % (N, room), r.generate(7, N, room),
                  refused(2, 0))
 
     def code(number, second):
         return (number * 2 ** 32 + second, None)
 
-    same('C generator', r.c_generate(7, 1, 16, 32), (0, [16, 0, 0, 0]))
-    same('C generator, 32 tasks', r.c_generate(7, 32, 400, 40), (0, [233, 0, 0, 0]))
+    same('C generator', r.c_generate(7, 1, 17, 32), (0, [17, 0, 0, 0]))
+    same('C generator, 32 tasks', r.c_generate(7, 32, 400, 40), (0, [265, 0, 0, 0]))
     same('C generator, refusal 2', r.c_generate(7, 33, 400, 32), code(2, 0))
     same('C generator, 2 before 6', r.c_generate(7, 0, 0, 0), code(2, 0))
-    same('C generator, refusal 6 for the list', r.c_generate(7, 1, 15, 32), code(6, 16))
-    same('C generator, the list before the results', r.c_generate(7, 1, 15, 31), code(6, 16))
-    same('C generator, refusal 6 for the results', r.c_generate(7, 1, 16, 31), code(6, 32))
+    same('C generator, refusal 6 for the list', r.c_generate(7, 1, 16, 32), code(6, 17))
+    same('C generator, the list before the results', r.c_generate(7, 1, 16, 31), code(6, 17))
+    same('C generator, refusal 6 for the results', r.c_generate(7, 1, 17, 31), code(6, 32))
 
 
 # A generator in parts, and readings of the note that are wrong in one of them. Of
@@ -440,7 +442,7 @@ def in_parts(seed, N, **other):
             old, state = state, part['step'](state)
             taken.append(part['draw'](old, state))
         p, c, e = (taken[which] for which in part['order'])
-        words += [part['period'](p), part['cycles'](c)]
+        words += [part['period'](p), part['cycles'](c), 0]
         words += [part['energy'](e, j) for j in range(1, 6)]
     return words
 
@@ -467,9 +469,9 @@ def generated_sets():
         kind, M, tasks, L = r.check_set(words)
         same(name, (kind, M, tasks, 400 % L), ('good', 5, N, 0))
         same(name + ', in parts', words, HEAD + [N] + in_parts(seed, N))
-        periods.update(words[9::7])
-        cycles += words[10::7]
-        least.update(words[11::7])
+        periods.update(words[9::8])
+        cycles += words[10::8]
+        least.update(words[12::8])
         spans.add(L)
     same('every period was seen', sorted(periods), TABLE)
     same('both ends of the cycles were seen', (min(cycles), max(cycles)), (1, 1_000))
@@ -494,38 +496,39 @@ MOST_CYCLES = {'xscale': 625_000_000, 'ppc405lp': 443_156_000}
 # so 20, 8, 5, 4 and 3 ticks.
 TWO_ON_XSCALE = ('xscale', 100, [(10, 1_500_000), (20, 3_000_000)], [
     100, *XSCALE, 2,
-    10, 1_500_000, 800, 680, 1_200, 1_800, 3_200,
-    20, 3_000_000, 1_600, 1_360, 2_000, 3_600, 4_800])
+    10, 1_500_000, 0, 800, 680, 1_200, 1_800, 3_200,
+    20, 3_000_000, 0, 1_600, 1_360, 2_000, 3_600, 4_800])
 # ppc405lp. 1,000,000 cycles: 30.3, 10, 3.76 and 3.003, so 31, 10, 4 and 4 ticks; 19 x 31,
 # 72 x 10, 600 x 4 and 750 x 4. 500,000 cycles: 15.15, 5, 1.88 and 1.502, so 16, 5, 2 and 2.
 TWO_ON_PPC405LP = ('ppc405lp', 500, [(40, 1_000_000), (20, 500_000)], [
     500, *PPC405LP, 2,
-    40, 1_000_000, 589, 720, 2_400, 3_000,
-    20, 500_000, 304, 360, 1_200, 1_500])
+    40, 1_000_000, 0, 589, 720, 2_400, 3_000,
+    20, 500_000, 0, 304, 360, 1_200, 1_500])
 CHIP_WORKED = [
     TWO_ON_XSCALE,
     TWO_ON_PPC405LP,
     # One cycle takes one tick at each rate, and none takes none. No range is judged.
     ('xscale', 0, [(0, 1), (4_294_967_295, 0)],
-     [0, *XSCALE, 2, 0, 1, 80, 170, 400, 900, 1_600, 4_294_967_295, 0, 0, 0, 0, 0, 0]),
+     [0, *XSCALE, 2, 0, 1, 0, 80, 170, 400, 900, 1_600, 4_294_967_295, 0, 0, 0, 0, 0, 0, 0]),
     ('ppc405lp', 4_294_967_295, [(1, 0), (7, 1)],
-     [4_294_967_295, *PPC405LP, 2, 1, 0, 0, 0, 0, 0, 7, 1, 19, 72, 600, 750]),
+     [4_294_967_295, *PPC405LP, 2, 1, 0, 0, 0, 0, 0, 0, 7, 1, 0, 19, 72, 600, 750]),
     # Just a tick at the lowest rate, and one cycle more.
     ('xscale', 1, [(1, 150_000), (1, 150_001)],
-     [1, *XSCALE, 2, 1, 150_000, 80, 170, 400, 900, 1_600, 1, 150_001, 160, 170, 400, 900, 1_600]),
+     [1, *XSCALE, 2, 1, 150_000, 0, 80, 170, 400, 900, 1_600,
+      1, 150_001, 0, 160, 170, 400, 900, 1_600]),
     ('ppc405lp', 1, [(1, 33_000), (1, 33_001)],
-     [1, *PPC405LP, 2, 1, 33_000, 19, 72, 600, 750, 1, 33_001, 38, 72, 600, 750]),
+     [1, *PPC405LP, 2, 1, 33_000, 0, 19, 72, 600, 750, 1, 33_001, 0, 38, 72, 600, 750]),
     # The most cycles. xscale: 4,166.7, 1,562.5, 1,041.7, 781.25 and 625, so 4,167, 1,563, 1,042,
     # 782 and 625 ticks. ppc405lp: 13,428.97, 4,431.56, 1,666 and 1,330.8, so 13,429, 4,432,
     # 1,666 and 1,331 ticks.
     ('xscale', 9, [(700, 625_000_000)],
-     [9, *XSCALE, 1, 700, 625_000_000, 333_360, 265_710, 416_800, 703_800, 1_000_000]),
+     [9, *XSCALE, 1, 700, 625_000_000, 0, 333_360, 265_710, 416_800, 703_800, 1_000_000]),
     ('ppc405lp', 9, [(700, 443_156_000)],
-     [9, *PPC405LP, 1, 700, 443_156_000, 255_151, 319_104, 999_600, 998_250]),
+     [9, *PPC405LP, 1, 700, 443_156_000, 0, 255_151, 319_104, 999_600, 998_250]),
     # The fewest cycles of as many ticks at the highest rate; at the others one past a full tick:
     # 4,161, 1,561, 1,041 and 781 ticks.
     ('xscale', 9, [(700, 624_000_001)],
-     [9, *XSCALE, 1, 700, 624_000_001, 332_880, 265_370, 416_400, 702_900, 1_000_000]),
+     [9, *XSCALE, 1, 700, 624_000_001, 0, 332_880, 265_370, 416_400, 702_900, 1_000_000]),
     # A cycle more than the most: 626 x 1,600 = 1,001,600, and 1,667 x 600 = 1,000,200.
     ('xscale', 9, [(700, 625_000_001)], refused(9, 1)),
     ('ppc405lp', 9, [(700, 443_156_001)], refused(9, 1)),
@@ -573,10 +576,10 @@ CHIP_PRINTED = [
     (('ppc405lp', 0, [(1, 1)]), b'(refused 2 0)\n'),
     (('xscale', 100, [(1, 0)]), b'(refused 2 10)\n'),
     (('ppc405lp', 100, [(1, 0)]), b'(refused 2 9)\n'),
-    (('xscale', 100, [(1, 1), (10_000_001, 0)]), b'(refused 2 16)\n'),
-    (('ppc405lp', 100, [(1, 1), (1, 0)]), b'(refused 2 15)\n'),
-    (('xscale', 100, [(9_999_999, 1), (10_000_000, 1)]), b'(refused 4 16)\n'),
-    (('ppc405lp', 100, [(9_999_999, 1), (10_000_000, 1)]), b'(refused 4 14)\n'),
+    (('xscale', 100, [(1, 1), (10_000_001, 0)]), b'(refused 2 17)\n'),
+    (('ppc405lp', 100, [(1, 1), (1, 0)]), b'(refused 2 16)\n'),
+    (('xscale', 100, [(9_999_999, 1), (10_000_000, 1)]), b'(refused 4 17)\n'),
+    (('ppc405lp', 100, [(9_999_999, 1), (10_000_000, 1)]), b'(refused 4 15)\n'),
     (('xscale', 1, [(10, 1), (10, 1)]), b'(refused 5 24003)\n'),
 ]
 
@@ -610,17 +613,17 @@ def chip_edges():
             answer = r.read_text(chip_text(chip, 5, [(6, most)] * N), PLENTY)
             M = len(r.CHIPS[chip])
             same('%s, %d tasks' % (chip, N), (answer[0], len(answer[1])),
-                 ('read', 4 + M + N * (2 + M)))
+                 ('read', 4 + M + N * (3 + M)))
         for number in range(1, 33):
             tasks = [(6, most)] * (number - 1) + [(6, most + 1)] * (33 - number)
             same('%s, 9 at task %d' % (chip, number), r.read_text(chip_text(chip, 5, tasks), 0),
                  refused(9, number))
     # Energies that are given are not judged by 9, also not those of a chip.
-    words = [9, *XSCALE, 1, 700, 625_000_001, 333_360, 265_710, 416_800, 703_800, 1_001_600]
+    words = [9, *XSCALE, 1, 700, 625_000_001, 0, 333_360, 265_710, 416_800, 703_800, 1_001_600]
     text = ('(slack 9)\n(idle 40)\n(rates 150000 400000 600000 800000 1000000)\n(task (period 700) '
             '(cycles 625000001) (energy 333360 265710 416800 703800 1001600))\n').encode('ascii')
     same('energies that are given', r.read_text(text, PLENTY), ('read', words))
-    same('energies that are given, printed', r.respond(text), b'(refused 2 15)\n')
+    same('energies that are given, printed', r.respond(text), b'(refused 2 16)\n')
     # A chip's own H, and one that is given in its place, 0 too.
     for chip, slack, tasks, want in CHIP_WORKED:
         for idle in GIVEN:
@@ -635,7 +638,7 @@ def chip_edges():
     # 80 x 10 microjoules of a job at 150 MHz are 80 x 10 of waiting, and 19 of one tick at 33 MHz
     # are 19: the highest H under these chips, whatever the tasks. There is no plan with the first
     # rate for the second of these tasks, and yet it is looked at.
-    for chip, most, place in (('xscale', 80, 11), ('ppc405lp', 19, 10)):
+    for chip, most, place in (('xscale', 80, 12), ('ppc405lp', 19, 11)):
         for idle, want in ((most, None), (most + 1, refused(10, place)),
                            (1_000, refused(10, place)), (1_001, refused(2, 1))):
             tasks = [(10, 1_500_000), (4, 1_600_000)] if chip == 'xscale' else [(3, 33_000)]
@@ -698,7 +701,7 @@ CHIP_MISREAD = {
     'the last such task': ('which', lambda dear: dear[-1] + 1),
     'tasks from 0': ('which', lambda dear: dear[0]),
     'how many such tasks': ('which', lambda dear: len(dear)),
-    'the place of its period': ('which', lambda dear: 4 + 5 + 7 * dear[0]),
+    'the place of its period': ('which', lambda dear: 4 + 5 + 8 * dear[0]),
     'the other chip\'s H': ('idle', {'xscale': 12, 'ppc405lp': 40}),
     'no H of a chip\'s own': ('idle', {'xscale': 0, 'ppc405lp': 0}),
     'H of a second': ('idle', {'xscale': 40_000, 'ppc405lp': 12_000}),
@@ -720,7 +723,7 @@ def chip_in_parts(chip, slack, tasks, H=None, **other):
     for number, (period, cycles) in enumerate(tasks):
         energies = [part['energy'](mW, part['time'](cycles, rate), cycles, rate)
                     for rate, (_, mW) in zip(rates, part[chip])]
-        words += [period, cycles, *energies]
+        words += [period, cycles, 0, *energies]
         if part['over'](energies):
             dear.append(number)
     return refused(9, part['which'](dear)) if dear else words
@@ -784,16 +787,17 @@ def chip_offsets():
         at(label + ' before the slack', line + slack + bare, 1)
         at(label + ', then the slack', head + slack + bare, len(head) + 1)
         at(label + ', no task', head, len(head))
-        at(label + ' with energies', head + given, len(head) + 27)
-        at(label + ' with energies at task 2', head + bare + given, len(head + bare) + 27)
-        at(label + ' with energies at task 32', head + bare * 31 + given, len(head + bare * 31) + 27)
+        at(label + ' with energies', head + given, len(head) + 29)
+        at(label + ' with energies at task 2', head + bare + given, len(head + bare) + 29)
+        at(label + ' with energies at task 32', head + bare * 31 + given, len(head + bare * 31) + 29)
         same(label + ', 32 tasks', r.read_text(head + bare * 32, 1000)[0], 'read')
         at(label + ', a 33rd task', head + bare * 33, len(head + bare * 32))
         at(label + ', bytes left over', text + b' ', len(text))
         at(label + ', then rates at last', text + rates, len(text) + 1)
         goes_on('a task line of ' + label, text, b'(')
         goes_on('32 task lines of ' + label, head + bare * 32, b'')
-        goes_on('the cycles of ' + label, text[:-2], b')')
+        goes_on('the cycles of ' + label, text[:-2], b' )')
+        goes_on('a bracket behind the cycles of ' + label, text[:-2] + b' (', b'f')
     at('rates without energies', slack + rates + bare, len(slack + rates) + 27)
     at('rates without energies at task 2', slack + rates + given + bare,
        len(slack + rates + given) + 27)
@@ -812,6 +816,7 @@ def chip_offsets():
     goes_on('the word chip', slack + b'(chip', b' ')
     goes_on('the space of a chip', slack + b'(chip ', b'px')
     goes_on('the cycles of rates', slack + rates + given[:27], b' ')
+    goes_on('a bracket behind the cycles of rates', slack + rates + given[:29], b'e')
 
 
 def chips_at_random():
@@ -848,7 +853,7 @@ def chips_at_random():
         none = [place for place, (_, cycles) in enumerate(tasks) if cycles == 0]
         if none:
             M = len(r.CHIPS[chip])
-            place = 4 + M + (2 + M) * none[0] + 1
+            place = 4 + M + (3 + M) * none[0] + 1
             same(name + ', cycles of 0', r.check_set(want), refused(2, place))
             same(name + ', cycles of 0, printed', r.respond(text), b'(refused 2 %d)\n' % place)
             seen.add((chip, 2))
@@ -879,13 +884,13 @@ IDLE_WORKED = [
     # Without idle energy the fast rate costs less: 200 / 8 is 25, and 100 x 25 is at least 2,000.
     (one_task(100, 100, 90, (910, 200), (1, 9)), ('planned', 8, 10, 100, 200, [2])),
     # Waiting costs 990 for 90 ticks, which the slow rate's energy does not reach.
-    (one_task(100, 100, 90, (910, 200), (1, 9), idle=11), refused(10, 8)),
+    (one_task(100, 100, 90, (910, 200), (1, 9), idle=11), refused(10, 9)),
     # Just as much as waiting: nothing is left. Of 0 and 100 the k of every unit is 0, down to 1.
     (one_task(100, 100, 90, (900, 200), (1, 9), idle=10), ('planned', 1, 90, 100, 1_000, [1])),
-    (one_task(100, 100, 90, (899, 200), (1, 9), idle=10), refused(10, 8)),
+    (one_task(100, 100, 90, (899, 200), (1, 9), idle=10), refused(10, 9)),
     # Only the fastest rate has nothing left, and the first unit is 1 for it.
     (one_task(100, 100, 90, (910, 100), (1, 9), idle=10), ('planned', 1, 10, 100, 1_000, [2])),
-    (one_task(100, 100, 90, (910, 99), (1, 9), idle=10), refused(10, 9)),
+    (one_task(100, 100, 90, (910, 99), (1, 9), idle=10), refused(10, 10)),
     # Neither has, and the load decides; then 0 against 1, the load being less for the 1.
     (one_task(100, 100, 90, (900, 100), (1, 9), idle=10), ('planned', 1, 10, 100, 1_000, [2])),
     (one_task(100, 100, 90, (900, 101), (1, 9), idle=10), ('planned', 1, 90, 100, 1_000, [1])),
@@ -896,34 +901,34 @@ IDLE_WORKED = [
     # A load of L: no tick is idle. 420 and 215 less 7 x 60 and 7 x 30.
     (one_task(100, 30, 60, (420, 215), idle=7), ('planned', 1, 30, 30, 215, [2])),
     (one_task(100, 30, 61, (427, 217), idle=7), refused(7, 0)),
-    (one_task(100, 30, 61, (427, 216), idle=7), refused(10, 9)),
+    (one_task(100, 30, 61, (427, 216), idle=7), refused(10, 10)),
     # S with H of 1: waiting 6 ticks costs more than the 4 of its first energy.
-    ([100, 1] + S[2:], refused(10, 9)),
+    ([100, 1] + S[2:], refused(10, 10)),
     # S with H of 2 and with all energies more by that of their ticks, 6, 3, 2 and 10, 5, 3: the
     # plans are those of S, and the energies those of S and 2 x 30.
-    ([100, 2, 3, 2, 4, 8, 2, 10, 12, 16, 15, 24, 15, 20, 27, 25, 36],
+    ([100, 2, 3, 2, 4, 8, 2, 10, 12, 0, 16, 15, 24, 15, 20, 0, 27, 25, 36],
      ('planned', 1, 29, 30, 101, [2, 1])),
-    ([1000, 2, 3, 2, 4, 8, 2, 10, 12, 16, 15, 24, 15, 20, 27, 25, 36],
+    ([1000, 2, 3, 2, 4, 8, 2, 10, 12, 0, 16, 15, 24, 15, 20, 0, 27, 25, 36],
      ('planned', 8, 28, 30, 102, [1, 2])),
     # Two tasks of 4 and 2 ticks, with waiting at 20 and 10. Tasks come before rates.
-    ([100, 5, 2, 1, 2, 2, 20, 4, 20, 9, 20, 4, 19, 10], refused(10, 9)),
-    ([100, 5, 2, 1, 2, 2, 20, 4, 20, 10, 20, 4, 20, 9], refused(10, 13)),
-    ([100, 5, 2, 1, 2, 2, 20, 4, 20, 10, 20, 4, 19, 9], refused(10, 12)),
+    ([100, 5, 2, 1, 2, 2, 20, 4, 0, 20, 9, 20, 4, 0, 19, 10], refused(10, 10)),
+    ([100, 5, 2, 1, 2, 2, 20, 4, 0, 20, 10, 20, 4, 0, 20, 9], refused(10, 15)),
+    ([100, 5, 2, 1, 2, 2, 20, 4, 0, 20, 10, 20, 4, 0, 19, 9], refused(10, 14)),
     # No plan has the first rate: its 4 ticks are more than the period.
-    (one_task(100, 3, 4, (19, 10), idle=5), refused(10, 8)),
+    (one_task(100, 3, 4, (19, 10), idle=5), refused(10, 9)),
     (one_task(100, 3, 4, (20, 10), idle=5), ('planned', 1, 2, 3, 15, [2])),
     # 3 before 10, and 10 before 4.
     (one_task(100, 20, 4, (1, 1), (4, 4), idle=5), refused(3, 4)),
-    ([100, 5, 2, 1, 2, 2, 9_999_999, 4, 20, 10, 10_000_000, 4, 20, 9], refused(10, 13)),
-    ([100, 5, 2, 1, 2, 2, 9_999_999, 4, 20, 10, 10_000_000, 4, 20, 10], refused(4, 10)),
+    ([100, 5, 2, 1, 2, 2, 9_999_999, 4, 0, 20, 10, 10_000_000, 4, 0, 20, 9], refused(10, 15)),
+    ([100, 5, 2, 1, 2, 2, 9_999_999, 4, 0, 20, 10, 10_000_000, 4, 0, 20, 10], refused(4, 11)),
     # H at its most, an energy at its most: 1,000 ticks. Nothing is left, and all costs 1,000 x L.
     (one_task(100, 10_000_000, 1_000, (1_000_000, 1_000_000), (1, 1_000), idle=1_000),
      ('planned', 1, 1_000, 10_000_000, 10_000_000_000, [1])),
     (one_task(100, 10_000_000, 1_001, (1_000_000, 1_000_000), (1, 1_000), idle=1_000),
-     refused(10, 8)),
+     refused(10, 9)),
     (one_task(100, 10, 10, idle=1_001), refused(2, 1)),
     (one_task(100, 10, 10, (10, 5), idle=1), ('planned', 1, 5, 10, 10, [2])),
-    (one_task(100, 10, 10, (10, 4), idle=1), refused(10, 9)),
+    (one_task(100, 10, 10, (10, 4), idle=1), refused(10, 10)),
 ]
 IDLE_TEXT = (b'(slack 100)\n'
              b'(idle 10)\n'
@@ -950,8 +955,8 @@ def idle_edges():
             same('idle %r, read back' % (words,), r.read_text(text, PLENTY), ('read', words))
             same('idle %r, printed' % (words,), r.respond(text), b'(refused 10 %d)\n' % want[2])
 
-    same('1,010, read', r.read_text(IDLE_TEXT, 10), ('read', THOUSAND_TEN))
-    same('1,010, a word short', r.read_text(IDLE_TEXT, 9), refused(6, 10))
+    same('1,010, read', r.read_text(IDLE_TEXT, 11), ('read', THOUSAND_TEN))
+    same('1,010, a word short', r.read_text(IDLE_TEXT, 10), refused(6, 11))
     same('1,010, written', r.write_text(THOUSAND_TEN, len(IDLE_TEXT)), ('written', IDLE_TEXT))
     same('1,010, a byte short', r.write_text(THOUSAND_TEN, len(IDLE_TEXT) - 1),
          refused(6, len(IDLE_TEXT)))
@@ -961,28 +966,28 @@ def idle_edges():
     # '0 if the line is absent', and the line that says so; only the first is written.
     plain = THOUSAND_TEN[:1] + [0] + THOUSAND_TEN[2:]
     absent, zero = IDLE_TEXT.replace(b'(idle 10)\n', b''), IDLE_TEXT.replace(b'10)\n(r', b'0)\n(r')
-    same('no idle line', r.read_text(absent, 10), ('read', plain))
-    same('an idle line of 0', r.read_text(zero, 10), ('read', plain))
+    same('no idle line', r.read_text(absent, 11), ('read', plain))
+    same('an idle line of 0', r.read_text(zero, 11), ('read', plain))
     same('an idle energy of 0, written', r.write_text(plain, PLENTY), ('written', absent))
     for H in (1, 999, 1_000):
         words = one_task(100, 2_000, 90, (90_000, 90_000), (1, 9), idle=H)
         text = r.write_text(words, PLENTY)[1]
         same('an idle energy of %d, written' % H, text.split(b'\n')[1], b'(idle %d)' % H)
-        same('an idle energy of %d, read back' % H, r.read_text(text, 10), ('read', words))
+        same('an idle energy of %d, read back' % H, r.read_text(text, 11), ('read', words))
     # H over 1,000 is for the planner to refuse.
     for H in (1_001, 4_294_967_295):
         text = IDLE_TEXT.replace(b'idle 10', b'idle %d' % H)
         words = [100, H] + THOUSAND_TEN[2:]
-        same('an idle line of %d' % H, r.read_text(text, 10), ('read', words))
+        same('an idle line of %d' % H, r.read_text(text, 11), ('read', words))
         same('an idle line of %d, printed' % H, r.respond(text), b'(refused 2 1)\n')
         same('an idle energy of %d, written' % H, r.write_text(words, PLENTY), refused(2, 1))
         same('an idle energy of %d, walked' % H, r.walk(words, [1]), refused(2, 1))
     # 2 before 10, 10 before 4, 5, 6 and 7.
-    low = [100, 5, 2, 1, 2, 2, 9_999_999, 4, 20, 10, 10_000_000, 4_000_000_000, 20, 9]
-    both_ways('10 before 4, 5, 6 and 7', low, refused(10, 12), 0, 0)
+    low = [100, 5, 2, 1, 2, 2, 9_999_999, 4, 0, 20, 10, 10_000_000, 4_000_000_000, 0, 20, 9]
+    both_ways('10 before 4, 5, 6 and 7', low, refused(10, 14), 0, 0)
     both_ways('3 before 10', low[:4] + [1] + low[5:], refused(3, 4), 0, 0)
-    both_ways('2 before 10', low[:13] + [0], refused(2, 13), 0, 0)
-    both_ways('2 before 10, at the end', low + [1], refused(2, 14), 0, 0)
+    both_ways('2 before 10', low[:15] + [0], refused(2, 15), 0, 0)
+    both_ways('2 before 10, at the end', low + [1], refused(2, 16), 0, 0)
 
 
 # A planner in parts, and readings of the note that are wrong in one of them. 'taken' is what is
@@ -996,7 +1001,7 @@ IDLE_PARTS = {
     'report': lambda given, left, H, L, load: given + H * (L - load),
     'below': lambda energy, H, time: energy < H * time,
     'asked': lambda rate, M, time, period: True,
-    'which': lambda low, M: 4 + M + low[0][0] * (2 + M) + 2 + low[0][1],
+    'which': lambda low, M: 4 + M + low[0][0] * (3 + M) + 3 + low[0][1],
     'order': (2, 3, 10, 4, 7),
 }
 IDLE_MISREAD = {
@@ -1026,12 +1031,12 @@ IDLE_MISREAD = {
     'the lowest rate alone': ('asked', lambda rate, M, time, period: rate == 0),
     'the highest rate alone': ('asked', lambda rate, M, time, period: rate == M - 1),
     'rates that fit the period': ('asked', lambda rate, M, time, period: time <= period),
-    'the last such energy': ('which', lambda low, M: 4 + M + low[-1][0] * (2 + M) + 2 + low[-1][1]),
+    'the last such energy': ('which', lambda low, M: 4 + M + low[-1][0] * (3 + M) + 3 + low[-1][1]),
     'rates before tasks': ('which', lambda low, M: min(
-        (rate, 4 + M + task * (2 + M) + 2 + rate) for task, rate in low)[1]),
-    'a place too far': ('which', lambda low, M: 4 + M + low[0][0] * (2 + M) + 3 + low[0][1]),
-    'places before note 4': ('which', lambda low, M: 3 + M + low[0][0] * (2 + M) + 2 + low[0][1]),
-    'the place of the period': ('which', lambda low, M: 4 + M + low[0][0] * (2 + M)),
+        (rate, 4 + M + task * (3 + M) + 3 + rate) for task, rate in low)[1]),
+    'a place too far': ('which', lambda low, M: 4 + M + low[0][0] * (3 + M) + 4 + low[0][1]),
+    'places before note 4': ('which', lambda low, M: 3 + M + low[0][0] * (3 + M) + 3 + low[0][1]),
+    'the place of the period': ('which', lambda low, M: 4 + M + low[0][0] * (3 + M)),
     'the number of the task': ('which', lambda low, M: low[0][0] + 1),
     'how many such energies': ('which', lambda low, M: len(low)),
     '10 before 3': ('order', (2, 10, 3, 4, 7)),
@@ -1047,10 +1052,10 @@ def idle_in_parts(words, **other):
         return r.check_2(words)
     G, H, M = words[:3]
     rates, N = words[3:3 + M], words[3 + M]
-    tasks = [words[at:at + 2 + M] for at in range(4 + M, len(words), 2 + M)]
+    tasks = [words[at:at + 3 + M] for at in range(4 + M, len(words), 3 + M)]
     times = [[-(-cycles // rate) for rate in rates] for _, cycles, *_ in tasks]
     low = [(i, j) for i in range(N) for j in range(M)
-           if part['below'](tasks[i][2 + j], H, times[i][j])
+           if part['below'](tasks[i][3 + j], H, times[i][j])
            and part['asked'](j, M, times[i][j], tasks[i][0])]
     fast = r.check_4(words) is None and sum(
         r.hyper_period(r.decode(words).tasks) // tasks[i][0] * times[i][-1] for i in range(N))
@@ -1069,12 +1074,12 @@ def idle_in_parts(words, **other):
 
     def sums(plan):
         load = sum(jobs[i] * times[i][j] for i, j in enumerate(plan))
-        given = sum(jobs[i] * tasks[i][2 + j] for i, j in enumerate(plan))
+        given = sum(jobs[i] * tasks[i][3 + j] for i, j in enumerate(plan))
         taken = sum(jobs[i] * part['taken'](H, times[i][j]) for i, j in enumerate(plan))
         return load, given, taken
 
     def k(plan, d):
-        return sum(part['rounded'](jobs[i] * tasks[i][2 + j],
+        return sum(part['rounded'](jobs[i] * tasks[i][3 + j],
                                    jobs[i] * part['taken'](H, times[i][j]), d)
                    for i, j in enumerate(plan))
 
@@ -1160,7 +1165,7 @@ def at_margin(slack, unit, N, idle=0):
     """
     k = -(-2_000 // slack)
     return [slack, idle, 2, 1, 2, N] + [
-        2 * N, 2, (k - 1) * unit + 1 + 2 * idle, k * unit + idle] * N
+        2 * N, 2, 0, (k - 1) * unit + 1 + 2 * idle, k * unit + idle] * N
 
 
 # Lists, what the planner says of them, and the least energy of a plan that keeps its deadlines.
@@ -1174,18 +1179,18 @@ MARGIN_WORKED = [
     # Document 01's 33 at every rate: the least, though the unit allows 31 more.
     (one_task(1_000, 10, 10, (33, 33)), ('planned', 32, 5, 10, 33, [2]), 33),
     # Two tasks, and each costs all that it may; at a slack of 1 less neither does.
-    ([1_000, 0, 2, 1, 2, 2] + [4, 2, 3, 4] * 2, ('planned', 2, 2, 4, 8, [2, 2]), 6),
-    ([999, 0, 2, 1, 2, 2] + [4, 2, 3, 4] * 2, ('planned', 1, 4, 4, 6, [1, 1]), 6),
+    ([1_000, 0, 2, 1, 2, 2] + [4, 2, 0, 3, 4] * 2, ('planned', 2, 2, 4, 8, [2, 2]), 6),
+    ([999, 0, 2, 1, 2, 2] + [4, 2, 0, 3, 4] * 2, ('planned', 1, 4, 4, 6, [1, 1]), 6),
     # The same with three jobs of the first task: 9 or 12, and 5 or 8, are 3 x 4 and 2 x 4.
-    ([1_000, 0, 2, 1, 2, 2, 4, 2, 3, 4, 12, 6, 5, 8], ('planned', 4, 6, 12, 20, [2, 2]), 14),
+    ([1_000, 0, 2, 1, 2, 2, 4, 2, 0, 3, 4, 12, 6, 0, 5, 8], ('planned', 4, 6, 12, 20, [2, 2]), 14),
     # Three tasks of two rates.
-    ([1_000, 0, 2, 1, 2, 3] + [6, 2, 3, 4] * 3, ('planned', 2, 3, 6, 12, [2, 2, 2]), 9),
+    ([1_000, 0, 2, 1, 2, 3] + [6, 2, 0, 3, 4] * 3, ('planned', 2, 3, 6, 12, [2, 2, 2]), 9),
     # With H of 1 the energies are 5 and 5, of which 3 and 4 are left: the fast rate's idle tick
     # makes its plan the dearer one. And 33 and 64 are left of 133 and 114 with H of 10.
     (one_task(1_000, 2, 2, (5, 5), idle=1), ('planned', 2, 1, 2, 6, [2]), 5),
     (one_task(999, 2, 2, (5, 5), idle=1), ('planned', 1, 2, 2, 5, [1]), 5),
     (one_task(1_000, 10, 10, (133, 114), idle=10), ('planned', 32, 5, 10, 164, [2]), 133),
-    ([1_000, 1, 2, 1, 2, 2] + [4, 2, 5, 5] * 2, ('planned', 2, 2, 4, 12, [2, 2]), 10),
+    ([1_000, 1, 2, 1, 2, 2] + [4, 2, 0, 5, 5] * 2, ('planned', 2, 2, 4, 12, [2, 2]), 10),
     # Document 01's set: the plan 1 1 would cost 26, but misses. And note 4's, at unit 1.
     (S, ('planned', 1, 29, 30, 41, [2, 1]), 41),
     (S_1000, ('planned', 8, 28, 30, 42, [1, 2]), 41),
@@ -1243,7 +1248,7 @@ def margin_edges():
                 if max(words) > 1_000_000:
                     continue
                 name = 'at the margin %r' % (words,)
-                slow, fast = words[8] - 2 * idle, words[9] - idle
+                slow, fast = words[9] - 2 * idle, words[10] - idle
                 same(name, r.plan(words, N, PLENTY, 'table'),
                      ('planned', unit, N, 2 * N, N * fast + 2 * N * idle, [2] * N))
                 same(name + ', least', r.least_energy(words, 2_000), N * slow + 2 * N * idle)
@@ -1311,7 +1316,7 @@ def margin_at_random():
     for number in range(500):
         slack = g.choice([1_000, g.randint(500, 1_000), g.randint(1, 1_000)])
         words = at_margin(slack, 2 ** g.randint(1, 8), g.randint(1, 4), g.choice([0, 0, 1, 500]))
-        for place in range(8, len(words), 4):
+        for place in range(9, len(words), 5):
             if g.randint(1, 2) == 1:
                 words[place] += g.choice([-1, 0, 0, 1])
                 words[place + 1] += g.choice([-1, 0, 0, 1])
@@ -1342,8 +1347,8 @@ def random_set(g, most_tasks, most_rates):
         period = g.choice([1, 2, 3, 4, 5, 6, 8, 10, 12, 15, 20, 24, 30])
         cycles = max(1, round(period * filling * g.uniform(0.5, 1.5)))
         waiting = [idle * -(-cycles // rate) for rate in rates]
-        words += [period, cycles] + [max(1, min(w + g.randint(least, most), 1_000_000))
-                                     for w in waiting]
+        words += [period, cycles, 0] + [max(1, min(w + g.randint(least, most), 1_000_000))
+                                        for w in waiting]
     return words
 
 
@@ -1351,10 +1356,10 @@ def lowered(words):
     """The list without its idle energy: each energy is less by what its job's ticks would cost
     idle. None where an energy would then be below 1."""
     M, other = words[2], [words[0], 0] + words[2:]
-    for at in range(4 + M, len(words), 2 + M):
+    for at in range(4 + M, len(words), 3 + M):
         for j in range(M):
-            other[at + 2 + j] -= words[1] * -(-words[at + 1] // words[3 + j])
-    return other if min(other[2:]) > 0 else None
+            other[at + 3 + j] -= words[1] * -(-words[at + 1] // words[3 + j])
+    return other if r.check_2(other) is None else None
 
 
 def random_sets():
@@ -1410,7 +1415,7 @@ def random_sets():
              refused(6, len(text)))
         if words[1] > 0:
             # An energy below: 10, and of several the first. The walk and the writer do not look.
-            at = [place for place in range(4 + M, len(words)) if (place - 4 - M) % (2 + M) > 1]
+            at = [place for place in range(4 + M, len(words)) if (place - 4 - M) % (3 + M) > 2]
             low = sorted(g.sample(at, g.randint(1, min(3, len(at)))))
             low = [place for place in low if waiting_at(words, place) > 1]
             less = list(words)
@@ -1428,8 +1433,8 @@ def random_sets():
 def waiting_at(words, place):
     """H x job time of the energy at a place."""
     M = words[2]
-    task, rate = divmod(place - 4 - M, 2 + M)
-    return words[1] * -(-words[4 + M + task * (2 + M) + 1] // words[3 + rate - 2])
+    task, rate = divmod(place - 4 - M, 3 + M)
+    return words[1] * -(-words[4 + M + task * (3 + M) + 1] // words[3 + rate - 3])
 
 
 def objections():
@@ -1478,7 +1483,7 @@ def objections():
     against('the lower number', one_task(1, 10, 10), ('planned', 1, 10, 10, 1, [1]),
             'another plan comes first')
     # Two equal tasks: the lower number belongs to task 2.
-    twins = [100, 0, 2, 1, 2, 2] + [3, 2, 1, 3] * 2
+    twins = [100, 0, 2, 1, 2, 2] + [3, 2, 0, 1, 3] * 2
     against('the lower number for task 1', twins, ('planned', 1, 3, 3, 4, [1, 2]),
             'another plan comes first')
     against('the lower number for task 2', twins, ('planned', 1, 3, 3, 4, [2, 1]), None)
@@ -1490,7 +1495,7 @@ def objections():
     for energy in (10, 110, 910, 1_810, 1_910):
         against('1,010, %d' % energy, THOUSAND_TEN, ('planned', 1, 90, 100, energy, [1]),
                 'not the sums of its plan')
-    low = THOUSAND_TEN[:8] + [899, 200]
+    low = THOUSAND_TEN[:9] + [899, 200]
     for answer in (('planned', 1, 90, 100, 999, [1]), ('planned', 1, 10, 100, 1_100, [2]),
                    refused(7, 0)):
         against('an energy below', low, answer, 'an energy is below that of an idle processor')
@@ -1525,14 +1530,14 @@ def large_sets():
         words = [g.choice([200, 500, 1000]), idle, 2, 1, 2, 13]
         for _ in range(13):
             period, cycles = g.choice([4, 6, 8, 12]), g.choice([1, 1, 2])
-            words += [period, cycles, cycles * idle + g.randint(1, 9), idle + g.randint(0, 9) or 1]
+            words += [period, cycles, 0, cycles * idle + g.randint(1, 9), idle + g.randint(0, 9) or 1]
         name = 'thirteen tasks %d' % number
         same(name, r.plan(words, 13, PLENTY, 'table'), r.plan(words, 13, PLENTY, 'all'))
     for number in range(6):
         idle = 100 * (number % 3)
         words = [g.choice([50, 200, 1000]), idle, 8, *sorted(g.sample(range(1, 200), 8)), 32]
         for _ in range(32):
-            words += [g.choice([100, 200, 250, 500]), g.randint(1, 900)]
+            words += [g.choice([100, 200, 250, 500]), g.randint(1, 900), 0]
             words += [g.randint(200_000, 1_000_000) for _ in range(8)]
         name = '32 tasks %d' % number
         kind, unit, load, L, energy, rates = r.plan(words, 32, PLENTY)
@@ -1609,7 +1614,12 @@ def plain_reader(data):
             if M is not None:
                 fixed(b') (energy')
                 row(M, M)
-            fixed(b'))\n')
+            fixed(b')')
+            if here() == b' ':
+                fixed(b' (from ')
+                number()
+                fixed(b')')
+            fixed(b')\n')
         return None if at == len(data) else at
     except Stop as stop:
         return stop.args[0]
@@ -1624,11 +1634,13 @@ def states_after(prefix):
 
 def completed(prefix):
     """A text that begins with the prefix, made from one of its states."""
-    head, N, place, value = min(states_after(prefix),
-                                key=lambda state: (str(state[0]), state[1]))
-    items = r.shape(head, N)[place:]
-    if value is not None:
-        items = items[1:]       # a number has begun and may end here
+    head, N, line, which, place, value = min(
+        states_after(prefix), key=lambda state: (str(state[0]), *state[1:5]))
+    lines = r.shape(head, N)[line:]
+    # A number that has begun may end here. Of what a later line may be the last is taken.
+    items = [item for ways in lines[1:] for item in ways[-1]]
+    if lines:
+        items = lines[0][which][place + (value is not None):] + items
     return prefix + b''.join(b'7' if i == r.NUMBER else bytes([i]) for i in items)
 
 
