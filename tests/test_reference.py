@@ -1,6 +1,6 @@
 """Tests of the reference: the cases of the scope document, the load generator of
 document 02's note 1, the chips of its note 2, the idle energy of its note 4, the
-margin of its note 5, and random sets.
+margin of its note 5, the first releases of its note 6, and random sets.
 
 Running it prints one line and ends with 0, or names the failing case and
 ends with 1.
@@ -1333,6 +1333,422 @@ def margin_at_random():
             same('enough of %s, %s' % (kind, idle), counts.get((kind, idle), 0) >= 10, True)
 
 
+# --------------------------------------- document 02, note 6: first releases
+
+def released(*tasks, slack=100):
+    """The set of tasks given by period, job time at the first of two rates, and A."""
+    words = [slack, 0, 2, 1, 2, len(tasks)]
+    for period, time, first in tasks:
+        words += [period, time, first, 1, 1]
+    return words
+
+
+# Worked by hand: tasks of period, job time and A, and what the walk of them says.
+FIRST_WORKED = [
+    # L is 2, and the load 3. Tick 0: task 1. 1 and 2: task 2, whose deadline 3 is before 4. 3: task
+    # 1. Of task 2's second job nothing is done yet, but its deadline is 5.
+    (((2, 1, 0), (2, 2, 1)), ('kept', 4, 0, 0)),
+    # L is 4. Tick 0: idle. 1: task 1. 2: task 2. 3: task 1 breaks it, both deadlines being 5. 4:
+    # task 2. 5: task 1; the job before it was finished, though its task has another now. 6: task 2.
+    # 7: task 1 breaks it.
+    (((2, 1, 1), (4, 2, 1)), ('kept', 7, 1, 2)),
+    # With every A 0 it ends at L.
+    (((2, 1, 0), (4, 2, 0)), ('kept', 4, 0, 1)),
+    (((5, 3, 0),), ('kept', 3, 2, 0)),
+    # Jobs at 2 and 7; the second has until 12, and the walk ends at 10.
+    (((5, 3, 2),), ('kept', 6, 4, 0)),
+    (((5, 4, 2),), ('kept', 7, 3, 0)),
+    (((5, 5, 2),), ('kept', 8, 2, 0)),
+    (((5, 6, 2),), ('missed', 7, 1)),
+    # Jobs at 3 and 8, due at 8 and 13, and none at 5.
+    (((5, 4, 3),), ('kept', 6, 4, 0)),
+    # A is one less than the period: at 4 and 9, and one tick of the second is left for it.
+    (((5, 5, 4),), ('kept', 6, 4, 0)),
+    (((1, 1, 0),), ('kept', 1, 0, 0)),
+    (((2, 1, 1),), ('kept', 2, 2, 0)),
+    (((2, 3, 1),), ('missed', 3, 1)),
+    # One A above 0 takes all tasks to 2 x L: task 1 has jobs at 0, 2, 4 and 6, task 2 at 3 and 7.
+    (((2, 1, 0), (4, 1, 3)), ('kept', 6, 2, 0)),
+    # Before L, which is 10; and after it, where L is 8.
+    (((2, 3, 1), (10, 1, 0)), ('missed', 3, 1)),
+    (((10, 1, 0), (5, 6, 4)), ('missed', 9, 2)),
+    (((10, 1, 0), (10, 11, 4)), ('missed', 14, 2)),
+    (((4, 4, 0), (8, 2, 5)), ('missed', 13, 2)),
+    # At 2 x L itself, which is 8. Ticks 0 to 3: task 1. 4 and 5: task 2, whose deadline is 7. 6 and
+    # 7: task 1, which has two ticks left at 8.
+    (((4, 4, 0), (4, 2, 3)), ('missed', 8, 1)),
+    # In time there.
+    (((4, 2, 0), (4, 2, 3)), ('kept', 7, 1, 0)),
+    # Two are late at 2 x L, and the lower number is named.
+    (((4, 4, 0), (4, 2, 3), (8, 1, 0)), ('missed', 8, 1)),
+    (((8, 1, 0), (4, 4, 0), (4, 2, 3)), ('missed', 8, 2)),
+    # Released later, and yet due earlier: task 2 breaks task 1 at 1, 3, 7 and 9.
+    (((6, 3, 0), (2, 1, 1)), ('kept', 12, 0, 4)),
+]
+
+# A walk in parts, and readings of the note that are wrong in one of them. 'taken' judges A by its
+# task's period and by all periods, 'end' is the last tick, 'due' says whether a job of the task is
+# released, 'deadline' until when it may run, 'asked' which job is looked at for a preemption, the
+# one before the tick's releases or the one behind them, and 'judged' which deadlines count.
+FIRST_PARTS = {
+    'taken': lambda A, p, periods: A < p,
+    'end': lambda L, firsts: 2 * L if any(firsts) else L,
+    'due': lambda tick, A, p: tick >= A and (tick - A) % p == 0,
+    'deadline': lambda tick, A, p: tick + p,
+    'asked': 'before',
+    'judged': lambda deadline, L, end: deadline <= end,
+}
+FIRST_MISREAD = {
+    'A of the period taken': ('taken', lambda A, p, periods: A <= p),
+    'every A taken': ('taken', lambda A, p, periods: True),
+    'A against the longest period': ('taken', lambda A, p, periods: A < max(periods)),
+    'A against the first period': ('taken', lambda A, p, periods: A < periods[0]),
+    'A against the hyper-period': ('taken', lambda A, p, periods: A < r.hyper_period(
+        [r.Task(period, 1, 0, []) for period in periods])),
+    'A of 0 refused': ('taken', lambda A, p, periods: 0 < A < p),
+    'one less than the period refused': ('taken', lambda A, p, periods: A < max(p - 1, 1)),
+    'to L though some A is above 0': ('end', lambda L, firsts: L),
+    'to 2 x L though all are 0': ('end', lambda L, firsts: 2 * L),
+    'to 2 x L only if all are above 0': ('end', lambda L, firsts: 2 * L if all(firsts) else L),
+    'to 2 x L only by the first A': ('end', lambda L, firsts: 2 * L if firsts[0] else L),
+    'to L and the largest A': ('end', lambda L, firsts: L + max(firsts)),
+    'to 2 x L and the largest A': (
+        'end', lambda L, firsts: 2 * L + max(firsts) if any(firsts) else L),
+    'to 3 x L': ('end', lambda L, firsts: 3 * L if any(firsts) else L),
+    'one tick short of 2 x L': ('end', lambda L, firsts: 2 * L - 1 if any(firsts) else L),
+    'A does not count': ('due', lambda tick, A, p: tick % p == 0),
+    'at A, then at multiples of the period': ('due', lambda tick, A, p: tick == A or (
+        tick > A and tick % p == 0)),
+    'at 0 and then at A': ('due', lambda tick, A, p: tick == 0 or (tick >= A and (tick - A) % p == 0)),
+    'one period late': ('due', lambda tick, A, p: tick >= A + p and (tick - A) % p == 0),
+    'deadlines from tick 0': ('deadline', lambda tick, A, p: (tick // p + 1) * p),
+    'deadlines at A more': ('deadline', lambda tick, A, p: tick + p + A),
+    'unfinished asked after the releases': ('asked', 'after'),
+    'unfinished at 2 x L is a miss': ('judged', lambda deadline, L, end: True),
+    'deadlines at 2 x L not judged': ('judged', lambda deadline, L, end: deadline < end or end == L),
+    'deadlines judged up to L': ('judged', lambda deadline, L, end: deadline <= L),
+}
+
+
+def first_in_parts(words, plan, **other):
+    """What the walk says of a list that is good but for some A: of the parts, or of another in place
+    of one. It goes by the deadlines, and by numbers for jobs."""
+    part = {**FIRST_PARTS, **other}
+    M = words[2]
+    places = range(4 + M, len(words), 3 + M)
+    periods, firsts = [words[at] for at in places], [words[at + 2] for at in places]
+    for at, p, A in zip(places, periods, firsts):
+        if not part['taken'](A, p, periods):
+            return refused(2, at + 2)
+    times = [-(-words[at + 1] // words[2 + rate]) for at, rate in zip(places, plan)]
+    L = r.hyper_period([r.Task(p, 1, 0, []) for p in periods])
+    end, N = part['end'](L, firsts), len(periods)
+    left, deadline, ran = [0] * N, [None] * N, None
+    busy = idle = preempted = 0
+    for tick in range(end + 1):
+        for i in range(N):
+            # At the end all that is unfinished may be looked at.
+            late = tick == deadline[i] or tick == end and deadline[i] is not None
+            if late and left[i] > 0 and part['judged'](deadline[i], L, end):
+                return ('missed', tick, i + 1)
+        if tick == end:
+            return ('kept', busy, idle, preempted)
+        broken = ran is not None and left[ran] > 0
+        was = ran is not None and deadline[ran]
+        for i in range(N):
+            if part['due'](tick, firsts[i], periods[i]):
+                left[i] = times[i]
+                deadline[i] = part['deadline'](tick, firsts[i], periods[i])
+        if part['asked'] == 'after':
+            broken = ran is not None and left[ran] > 0
+        now = min((i for i in range(N) if left[i] > 0), key=lambda i: (deadline[i], i), default=None)
+        if now is None:
+            idle += 1
+        else:
+            preempted += broken and (now != ran or deadline[now] != was)
+            left[now] -= 1
+            busy += 1
+        ran = now
+
+
+FIRST_TEXT = (b'(slack 100)\n'
+              b'(rates 2 4 8)\n'
+              b'(task (period 10) (cycles 12) (energy 4 9 20) (from 3))\n'
+              b'(task (period 15) (cycles 20) (energy 7 15 30))\n')
+FIRST_SET = S[:9] + [3] + S[10:]
+FIRST_PRINTED = (b'(plan (unit 1) (load 29 30) (energy 41))\n'
+                 b'(rate 1 2)\n'
+                 b'(rate 2 1)\n'
+                 b'(walk (busy 58) (idle 2) (preempted 2))\n')
+# The writer's task lines in parts: which A are shown, and where.
+FIRST_TEXT_PARTS = {
+    'shown': lambda A: A > 0,
+    'form': '(task (period {p}) (cycles {c}) (energy {e}){A})\n',
+}
+FIRST_TEXT_MISREAD = {
+    '(from 0) written': ('shown', lambda A: True),
+    'written from 2 on': ('shown', lambda A: A > 1),
+    'never written': ('shown', lambda A: False),
+    'before the energies': ('form', '(task (period {p}) (cycles {c}){A} (energy {e}))\n'),
+    'behind the task': ('form', '(task (period {p}) (cycles {c}) (energy {e})){A}\n'),
+    'behind the period': ('form', '(task (period {p}){A} (cycles {c}) (energy {e}))\n'),
+}
+
+
+def first_written(words, **other):
+    """The task lines of a list, in parts."""
+    part = {**FIRST_TEXT_PARTS, **other}
+    M, text = words[2], ''
+    for at in range(4 + M, len(words), 3 + M):
+        p, c, A, *energies = words[at:at + 3 + M]
+        text += part['form'].format(p=p, c=c, e=' '.join(map(str, energies)),
+                                    A=' (from %d)' % A if part['shown'](A) else '')
+    return text.encode('ascii')
+
+
+def with_first(words, task, A):
+    """The list with another A for the task of that number."""
+    at = 4 + words[2] + (task - 1) * (3 + words[2]) + 2
+    return words[:at] + [A] + words[at + 1:]
+
+
+def first_ranges():
+    """Both sides of A's range, at each task; and which of two bad words is given."""
+    eight = [100, 0, 8, *range(1, 9), 3]
+    for period in (10, 20, 5):
+        eight += [period, 1, 0] + [1] * 8
+    for words in (S, eight, released((1, 1, 0)), released((10_000_000, 1, 0))):
+        s, M = r.decode(words), words[2]
+        for task, (p, *_) in enumerate(s.tasks, 1):
+            at = 4 + M + (task - 1) * (3 + M) + 2
+            for A in {0, p - 1}:
+                same('A of %d, period %d' % (A, p), r.check_2(with_first(words, task, A)), None)
+            for A in (p, p + 1, 2 * p, 2 ** 31, 2 ** 32 - 1):
+                bad = with_first(words, task, A)
+                name = 'A of %d, period %d, task %d' % (A, p, task)
+                same(name, r.check_set(bad), refused(2, at))
+                same(name + ', planner', r.plan(bad, 0, 0), refused(2, at))
+                same(name + ', walk', r.walk(bad, []), refused(2, at))
+                same(name + ', writer', r.write_text(bad, 0), refused(2, at))
+                same(name + ', C', r.c_walk(bad, [], 0), (2 * 2 ** 32 + at, None))
+    # 14 is below the second period and not below the first; of two the first is given.
+    same("A against its own task's period", r.check_set(with_first(S, 1, 14)), refused(2, 9))
+    same('A of 14 at the second task', r.check_set(with_first(S, 2, 14))[0], 'good')
+    same('two bad A', r.check_set(with_first(with_first(S, 1, 10), 2, 15)), refused(2, 9))
+    bad = with_first(S, 1, 10)
+    same('cycles before A', r.check_set(bad[:8] + [0] + bad[9:]), refused(2, 8))
+    same('A before energies', r.check_set(bad[:10] + [0] + bad[11:]), refused(2, 9))
+    same('the period before its A', r.check_set(bad[:7] + [0] + bad[8:]), refused(2, 7))
+    same('A before a missing word', r.check_set(bad[:-1]), refused(2, 9))
+    same('A missing', r.check_set(S[:9]), refused(2, 9))
+    same('2 before 3', r.check_set(bad[:5] + [4] + bad[6:]), refused(2, 9))
+    # The list as it was before this note: the first energy, 9, 15 or 20, is taken for A.
+    same('a list without A', r.check_set([100, 0, 2, 1, 2, 1, 30, 60, 9, 15]), refused(2, 10))
+    same('a list without A, a dear job', r.check_set([100, 0, 2, 1, 2, 1, 30, 60, 30, 15]),
+         refused(2, 8))
+
+
+def first_edges():
+    for tasks, want in FIRST_WORKED:
+        words, plan = released(*tasks), [1] * len(tasks)
+        name = 'first releases %r' % (tasks,)
+        same(name, r.walk(words, plan), want)
+        L = r.hyper_period(r.decode(words).tasks)
+        end = 2 * L if any(first for *_, first in tasks) else L
+        if want[0] == 'kept':
+            same(name + ', all ticks', want[1] + want[2], end)
+            same(name + ', C', r.c_walk(words, plan, 32), (0, [1, *want[1:]]))
+        else:
+            same(name + ', C', r.c_walk(words, plan, 32), (0, [0, *want[1:], 0]))
+        same(name + ', for ever up to there', r.keeps_for_ever(words, plan, end), want[0] == 'kept')
+        same(name + ', planned as together', r.plan(words, 32, PLENTY),
+             r.plan(r.released_together(words), 32, PLENTY))
+    # 'Kept' is of that stretch: the load is 3, and L is 2.
+    over = released((2, 1, 0), (2, 2, 1))
+    same('kept, and not for ever', r.keeps_for_ever(over, [1, 1], 6), False)
+    # The walk's checks: 2, 3, 4, 8, and from C 6.
+    same('8 with first releases', r.walk(over, [1, 3]), refused(8, 1))
+    same('4 with first releases', r.walk(released((9_999_999, 1, 9), (10_000_000, 1, 9)), []),
+         refused(4, 11))
+    same('6 with first releases', r.c_walk(over, [1, 1], 31), (6 * 2 ** 32 + 32, None))
+
+    same('(from 3), read', r.read_text(FIRST_TEXT, 19), ('read', FIRST_SET))
+    same('(from 3), a word short', r.read_text(FIRST_TEXT, 18), refused(6, 19))
+    same('(from 3), written', r.write_text(FIRST_SET, len(FIRST_TEXT)), ('written', FIRST_TEXT))
+    same('(from 3), a byte short', r.write_text(FIRST_SET, len(FIRST_TEXT) - 1),
+         refused(6, len(FIRST_TEXT)))
+    same('(from 3), printed', r.respond(FIRST_TEXT), FIRST_PRINTED)
+    # '0 if absent', and the form that says so; only the first is written.
+    zero = FIRST_TEXT.replace(b'from 3', b'from 0')
+    same('(from 0), read', r.read_text(zero, 19), ('read', S))
+    same('(from 0), printed', r.respond(zero), PRINTED)
+    same('A of 0, written', r.write_text(S, PLENTY), ('written', EXAMPLE))
+    for A in (1, 9):
+        words = with_first(S, 1, A)
+        same('A of %d, read back' % A, r.read_text(r.write_text(words, PLENTY)[1], 19), ('read', words))
+    # Ranges are not judged by the reader.
+    for A in (10, 4_294_967_295):
+        text = FIRST_TEXT.replace(b'from 3', b'from %d' % A)
+        same('(from %d), read' % A, r.read_text(text, 19), ('read', with_first(S, 1, A)))
+        same('(from %d), printed' % A, r.respond(text), b'(refused 2 9)\n')
+    # Under a chip.
+    for chip, slack, tasks, want in (TWO_ON_XSCALE, TWO_ON_PPC405LP):
+        text = chip_text(chip, slack, tasks)
+        for task, (period, _) in enumerate(tasks, 1):
+            for A in (0, 1, period - 1, period, 4_294_967_295):
+                lines = text.split(b'\n')
+                lines[1 + task] = lines[1 + task][:-1] + b' (from %d))' % A
+                words = with_first(want, task, A)
+                name = '%s, (from %d) at task %d' % (chip, A, task)
+                same(name, r.read_text(b'\n'.join(lines), len(want)), ('read', words))
+                same(name + ', checked', r.check_2(words) is None, A < period)
+
+
+def first_errors():
+    """Each wrong reading departs from one of the worked figures, or from what is taken."""
+    worked = [(released(*tasks), want) for tasks, want in FIRST_WORKED]
+    worked += [(released((10, 1, A), (15, 1, B)), want) for A, B, want in (
+        (10, 0, refused(2, 8)), (14, 0, refused(2, 8)), (0, 15, refused(2, 13)),
+        (0, 29, refused(2, 13)), (0, 4_294_967_295, refused(2, 13)), (0, 14, ('kept', 10, 50, 0)),
+        (9, 14, ('kept', 9, 51, 0)))]
+    for words, want in worked:
+        plan = [1] * words[5]
+        same('first releases in parts, %r' % (words,), first_in_parts(words, plan), want)
+        same('first releases, %r' % (words,), r.walk(words, plan), want)
+    for name, (part, wrong) in FIRST_MISREAD.items():
+        seen = any(first_in_parts(words, [1] * words[5], **{part: wrong}) != want
+                   for words, want in worked)
+        same('first releases misread: ' + name, seen, True)
+    lists = [S, FIRST_SET, with_first(S, 2, 1), with_first(FIRST_SET, 2, 14)]
+    for words in lists:
+        text = r.write_text(words, PLENTY)[1]
+        same('task lines in parts, %r' % (words,), first_written(words), text[text.index(b'(task'):])
+    for name, (part, wrong) in FIRST_TEXT_MISREAD.items():
+        seen = any(first_written(words, **{part: wrong}) != first_written(words) for words in lists)
+        same('first releases misread: ' + name, seen, True)
+
+
+def first_offsets():
+    """Where a text with (from A) departs, and which bytes go on."""
+    slack = b'(slack 1)\n'
+    at, goes_on = departures('first release')
+    for label, line, task in (
+            ('rates', b'(rates 1 2)\n', b'(task (period 9) (cycles 1) (energy 1 1)'),
+            ('xscale', b'(chip xscale)\n', b'(task (period 9) (cycles 1)'),
+            ('ppc405lp', b'(chip ppc405lp)\n', b'(task (period 9) (cycles 1)')):
+        head, form = slack + line, b' (from 7)'
+        bare, text = head + task + b')\n', head + task + form + b')\n'
+        begin = len(head + task)
+        plain = r.read_text(bare, 1000)[1]
+        same(label + ', from 7', r.read_text(text, 1000), ('read', with_first(plain, 1, 7)))
+        for length in range(begin, len(text)):
+            at('%s, cut after %d' % (label, length), text[:length], length)
+        for place, byte in enumerate(form):
+            for wrong in sorted({byte ^ 32, byte + 1, *b'\x00 ()e7\n\xff'} - {byte}):
+                changed = text[:begin + place] + bytes([wrong]) + text[begin + place + 1:]
+                is_digit = b'0'[0] <= wrong <= b'9'[0]
+                if place == 7 and is_digit:
+                    same('%s, %d for 7' % (label, wrong), r.read_text(changed, 1000)[0], 'read')
+                    continue
+                # A bracket in the space's place ends the task, and a digit in the bracket's place
+                # goes on with the number: the fault is then behind it.
+                goes = place == 0 and wrong == b')'[0] or (place == 8 and is_digit) * 2
+                at('%s, %d at %d' % (label, wrong, place), changed, begin + place + goes)
+            goes_on('%s, %d bytes of the form' % (label, place + 1), text[:begin + place + 1],
+                    (b'(', b'f', b'r', b'o', b'm', b' ', b'0123456789', b')0123456789', b')')[place])
+        goes_on(label + ', before the form', head + task, b' )')
+        for wrong, departs in (
+                (b' (from)', 6), (b' (from )', 7), (b' (from 07)', 8), (b' (from 00)', 8),
+                (b' (from 4294967296)', 16), (b' (from 42949672950)', 17), (b' (from -1)', 7),
+                (b' (from 7 7)', 8), (b' (from 7))', 10), (b' (from (7))', 7), (b' (froms 7)', 6),
+                (b' (From 7)', 2), (b' (from 7) (from 7)', 9), (b' (from 0) (from 7)', 9),
+                (b'  (from 7)', 1), (b'(from 7)', 0), (b' from 7', 1), (b' (from  7)', 7),
+                (b' (from\t7)', 6), (b' (from 7) ', 9), (b' (from 7)(from 7)', 9), (b' ', 1),
+                (b' (first 7)', 3), (b' (from 7) (energy 1 1)', 9), (b' (until 7)', 2),
+                (b' (energy 1 1)', 2), (b' (e', 2), (b' (period 7)', 2)):
+            at('%s, %r' % (label, wrong), head + task + wrong + b')\n', begin + departs)
+        # Behind the task's bracket, on a line of its own, and as the first item.
+        at(label + ', behind the task', head + task + b') (from 7)\n', begin + 1)
+        at(label + ', on a line', bare + b'(from 7)\n', len(bare) + 1)
+        at(label + ', first', head + b'(task (from 7) (period 9) (cycles 1))\n', len(head) + 7)
+        at(label + ', behind the period', head + b'(task (period 9) (from 7) (cycles 1))\n',
+           len(head) + 18)
+        whole = task + form + b')\n'
+        same(label + ', 32 tasks', r.read_text(head + whole * 32, 1000)[0], 'read')
+        at(label + ', a 33rd task', head + whole * 33, len(head + whole * 32))
+        for A in (0, 1, 9, 10, 4_294_967_295):
+            text = head + task + b' (from %d))\n' % A
+            same('%s, from %d' % (label, A), r.read_text(text, 1000), ('read', with_first(plain, 1, A)))
+    # With rates a form before the energies departs at its letter; the energies come first.
+    head = slack + b'(rates 1 2)\n(task (period 9) (cycles 1)'
+    at('before the energies', head + b' (from 7) (energy 1 1))\n', len(head) + 2)
+    at('without energies', head + b' (from 7))\n', len(head) + 2)
+    at('too few energies', head + b' (energy 1) (from 7))\n', len(head) + 10)
+    goes_on('the cycles of rates and a bracket', head + b' (', b'e')
+
+
+def firsts_at_random():
+    """Random sets with first releases: the walk in two ways, the endless walk up to the last tick,
+    and the planner, whose answer is that without them and whose plan keeps all deadlines."""
+    g = random.Random(8)
+    counts = {}
+
+    def saw(kind):
+        counts[kind] = counts.get(kind, 0) + 1
+
+    for number in range(400):
+        words = random_set(g, *g.choice([(3, 3), (4, 2), (2, 4), (1, 2)]))
+        together = list(words)
+        M, N = words[2], words[3 + words[2]]
+        for task in range(1, N + 1):
+            p = r.decode(words).tasks[task - 1].period
+            words = with_first(words, task, g.choice([0, p - 1, g.randrange(p), g.randrange(p)]))
+        name = 'first releases %d %r' % (number, words)
+        kind, _, _, L = r.check_set(words)
+        same(name + ', good', (kind, r.released_together(words)), ('good', together))
+        answer = r.plan(words, N, PLENTY)
+        same(name + ', planned alike', answer, r.plan(together, N, PLENTY))
+        some = words != together
+        end = 2 * L if some else L
+        if answer[0] == 'planned':
+            rates = answer[5]
+            ended = r.walk(words, rates)
+            same(name + ', planned and kept', (ended[0], sum(ended[1:3])), ('kept', end))
+            same(name + ', planned, for ever', r.keeps_for_ever(words, rates, 5 * L), True)
+            saw(('planned', some))
+        for _ in range(3):
+            rates = [g.randint(1, M) for _ in range(N)]
+            ended = r.walk(words, rates)
+            same(name + ', %r in parts' % rates, first_in_parts(words, rates), ended)
+            same(name + ', %r up to the end' % rates, r.keeps_for_ever(words, rates, end),
+                 ended[0] == 'kept')
+            load = r.load_of(words, rates)
+            if ended[0] == 'missed':
+                same(name + ', %r misses' % rates, load > L, True)
+            if some and ended[0] == 'missed':
+                saw('missed at the end' if ended[1] == end else 'missed after L'
+                    if ended[1] > L else 'missed up to L')
+            elif some:
+                saw('kept, over L' if load > L else 'kept')
+                if ended[1] < 2 * load:
+                    saw('kept with work left')
+        text = r.write_text(words, PLENTY)[1]
+        same(name + ', written', text.count(b' (from '),
+             sum(task.first > 0 for task in r.decode(words).tasks))
+        same(name + ', read back', r.read_text(text, len(words)), ('read', words))
+        if answer[0] == 'planned' and r.words_needed(r.decode(words)) <= r.WORKING_WORDS:
+            # The lines of the plan are those without first releases; the last is the walk's.
+            *lines, last, _ = r.respond(text).split(b'\n')
+            plain = r.respond(r.write_text(together, PLENTY)[1])
+            same(name + ', printed', lines, plain.split(b'\n')[:-2])
+            same(name + ', walk printed', last, b'(walk (busy %d) (idle %d) (preempted %d))'
+                 % r.walk(words, answer[5])[1:])
+    for kind, least in ((('planned', True), 100), (('planned', False), 10), ('missed up to L', 50),
+                        ('missed after L', 20), ('missed at the end', 3), ('kept', 100),
+                        ('kept, over L', 3), ('kept with work left', 50)):
+        same('enough of %s' % (kind,), counts.get(kind, 0) >= least, True)
+
+
 # --------------------------------------------------------------- random sets
 
 def random_set(g, most_tasks, most_rates):
@@ -1665,13 +2081,15 @@ def random_texts():
             text += '(idle %d)\n' % some()
         for _ in range(N):
             bare = bool(chip) != (g.randint(1, 12) == 1)        # now and then the other kind of line
-            energies = M + g.choice([0, 0, 0, 0, 0, -1, 1])
-            text += '(task (period %d) (cycles %d)%s)\n' % (
-                some(), some(), '' if bare else ' (energy%s)' % some_row(max(0, energies)))
+            count = M + g.choice([0, 0, 0, 0, 0, -1, 1])
+            energies = '' if bare else ' (energy%s)' % some_row(max(0, count))
+            first = ' (from %d)' % some() * g.choice([0, 0, 0, 1, 1, 1, 1, 2])
+            ends = [energies + first, first + energies][g.randint(1, 12) == 1]
+            text += '(task (period %d) (cycles %d)%s)\n' % (some(), some(), ends)
         text = bytearray(text.encode('ascii'))
         for _ in range(g.choice([0, 1, 1, 1, 2])):
             place = g.randrange(len(text))
-            byte = g.choice(b'0123456789() \n\rabcdehiklnoprstxy\x00\xff')
+            byte = g.choice(b'0123456789() \n\rabcdefhiklmnoprstxy\x00\xff')
             what = g.choice(['change', 'insert', 'remove', 'cut', 'append'])
             if what == 'change':
                 text[place] = byte
@@ -1704,7 +2122,8 @@ def main():
                      generator_edges, generator_errors, generated_sets,
                      chip_edges, chip_errors, chip_offsets, chips_at_random,
                      idle_edges, idle_errors, idle_offsets, margin_edges, margin_errors,
-                     margin_at_random, random_sets, objections, large_sets, random_texts):
+                     margin_at_random, first_ranges, first_edges, first_errors, first_offsets,
+                     firsts_at_random, random_sets, objections, large_sets, random_texts):
             part()
     except AssertionError as failure:
         print('reference: failed: %s' % failure)
