@@ -660,8 +660,8 @@ def items_of(line):
 
 
 @lru_cache(maxsize=None)
-def shape(head, N):
-    """A well-formed text with that head and N tasks: for each line the items that it may
+def shape(head):
+    """A well-formed text with that head and 32 tasks: for each line the items that it may
     have."""
     has_idle, clock = head
     # 'A line (idle H) may follow the slack line'
@@ -678,42 +678,42 @@ def shape(head, N):
     task = [b'(task (period ', NUMBER, b') (cycles ', NUMBER, b')'] + energies
     # 'Each task may end with (from A)'
     first = [b' (from ', NUMBER, b')']
-    ends = [items_of(task + more + [b')\n']) for more in ([], first)]
-    return [[items_of(line)] for line in [[b'(slack ', NUMBER, b')\n'], *idle, line]] + [ends] * N
+    tasks = [items_of(task + more + [b')\n']) for more in ([], first)]
+    return [[items_of(line)] for line in [[b'(slack ', NUMBER, b')\n'], *idle, line]] + [tasks] * 32
 
 
-# A state is (head, N, line, which, place, value). It says: the bytes so far begin some
-# text with that head and N tasks; the next byte belongs to that line of its shape, which
-# is there as one of those that it may be, and to that place of it; value is the number
-# begun there, or None. From every state some well-formed text can be reached, so a
-# beginning without a state begins no well-formed text.
+# A state is (head, line, which, place, value). It says: the bytes so far begin some text
+# with that head; the next byte belongs to that line of its shape, which is there as one
+# of those that it may be, and to that place of it; value is the number begun there, or
+# None. From every state some well-formed text can be reached, so a beginning without a
+# state begins no well-formed text.
 
-def at_line(head, N, line):
+def at_line(head, line):
     """The states before the first byte of a line; behind the last one that of the end."""
-    lines = shape(head, N)
+    lines = shape(head)
     ways = len(lines[line]) if line < len(lines) else 1
-    return [(head, N, line, which, 0, None) for which in range(ways)]
+    return [(head, line, which, 0, None) for which in range(ways)]
 
 
-FIRST_STATES = frozenset(state for head in HEADS for N in range(1, 33)
-                         for state in at_line(head, N, 0))
+FIRST_STATES = frozenset(state for head in HEADS for state in at_line(head, 0))
 
 
 def is_end(state):
-    head, N, line, *_ = state
-    return line == len(shape(head, N))
+    """Whether a text may end here: behind 'slack, rates, then 1 to 32 tasks'."""
+    (has_idle, _), line, _, place, _ = state
+    return place == 0 and line > 2 + has_idle
 
 
 def next_states(state, byte):
-    head, N, line, which, place, value = state
-    if is_end(state):
-        return []
-    items = shape(head, N)[line][which]
+    head, line, which, place, value = state
+    if line == len(shape(head)):
+        return []               # a 33rd task
+    items = shape(head)[line][which]
 
     def at(place, value=None):
         if place == len(items):
-            return at_line(head, N, line + 1)
-        return [(head, N, line, which, place, value)]
+            return at_line(head, line + 1)
+        return [(head, line, which, place, value)]
 
     if items[place] != NUMBER:
         return at(place + 1) if byte == items[place] else []
@@ -753,11 +753,11 @@ def read_text(data, room):
             # 'the first byte such that no well-formed text begins with the
             # bytes up to and including it'
             return refused(1, offset)
-    ended = [state for state in states if is_end(state)]
+    ended = {head for head, *state in states if is_end((head, *state))}
     if not ended:
         return refused(1, len(data))    # 'the text's length if it ends early'
 
-    [((has_idle, clock), *_)] = ended   # a text has one shape
+    [(has_idle, clock)] = ended         # a text has one head
     lines = data.split(b'\n')[:-1]
     [slack] = numbers_of(lines.pop(0))
     # '0 if the line is absent', and of a chip its own

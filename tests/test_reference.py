@@ -2050,13 +2050,14 @@ def states_after(prefix):
 
 def completed(prefix):
     """A text that begins with the prefix, made from one of its states."""
-    head, N, line, which, place, value = min(
-        states_after(prefix), key=lambda state: (str(state[0]), *state[1:5]))
-    lines = r.shape(head, N)[line:]
-    # A number that has begun may end here. Of what a later line may be the last is taken.
-    items = [item for ways in lines[1:] for item in ways[-1]]
-    if lines:
-        items = lines[0][which][place + (value is not None):] + items
+    head, line, which, place, value = state = min(
+        states_after(prefix), key=lambda state: (str(state[0]), *state[1:4]))
+    items = []
+    while not r.is_end(state):
+        # To the end of the line, where a number that has begun may end here; then the next
+        # line, as the last that it may be.
+        items += r.shape(head)[line][which][place + (value is not None):]
+        state = head, line, which, place, value = r.at_line(head, line + 1)[-1]
     return prefix + b''.join(b'7' if i == r.NUMBER else bytes([i]) for i in items)
 
 
