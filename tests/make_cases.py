@@ -5,9 +5,9 @@ program's call and the load generator, and their answers.
     python3 tests/make_cases.py --check   writes nothing and compares with both
 
 Each call has a module of records/; chips.py there has those of processors by name,
-idle.py those of the idle energy and margin.py those of the margin above the least
-energy, for all calls, and shared.py has what they share. The order of the records is
-that of the groups in make, below.
+idle.py those of the idle energy, margin.py those of the margin above the least energy and
+firsts.py those of first releases, for all calls, and shared.py has what they share. The
+order of the records is that of the groups in make, below.
 
 One record a line, one space between items, each line ended by byte 10:
 
@@ -47,7 +47,8 @@ or written are put into a text once more, in another way; those of a chip are wo
 out again, and refusal 9 is found by the cycles alone. What the program prints
 is put together by program.py as well, with a walk from one event to the next, and the
 reference must print the same; where L is so long that its walk would be slow, it
-is not asked. A generated list is made by generator.py as well, with each draw worked
+is not asked. A walk with first releases is made in three ways where it is kept, and in two
+where it is not. A generated list is made by generator.py as well, with each draw worked
 out from the seed at once.
 
 The test program adds `changed` to an answer of the reader, the writer, the program's
@@ -60,11 +61,13 @@ from pathlib import Path
 
 sys.dont_write_bytecode = True
 
-from records import checks, chips, generator, idle, margin, planner, program, reader, walk, writer
+from records import (
+    checks, chips, firsts, generator, idle, margin, planner, program, reader, walk, writer)
 from records.shared import answers, names, questions
 
 FOLDER = Path(__file__).resolve().parent.parent / 'crates' / 'cases'
-MOST_BYTES = 3_400_000          # of all records
+# Of all records: each task has a word more since document 02's note 6, and note 6 has its own.
+MOST_BYTES = 4_000_000
 
 
 # --------------------------------------------------------------- the sentences
@@ -93,7 +96,7 @@ SENTENCES = {
     'Rates 4 4: refusal 3, place 3, which is 4 since note 4':
         'rates-4-4 rates-4-4-w p-rates-4-4 t-rates-4-4-8192 a-rates-4-4',
     'Empty text: refusal 1, offset 0': 'r-empty a-empty',
-    'Two rates, periods 9,999,999 and 10,000,000: refusal 4, place 9, which is 10 since note 4':
+    'Two rates, periods 9,999,999 and 10,000,000: refusal 4, place 9, which is 11 since note 6':
         'periods-9999999-10000000 periods-9999999-10000000-w p-periods-9999999-10000000 '
         'a-periods-9999999-10000000',
     'One period of 10,000,000 passes':
@@ -131,27 +134,27 @@ SENTENCES = {
     'Note 1: 2 with place 0 for N outside 1 to 32':
         'g-count-0-lent-400 g-length-01 g-length-32 g-count-33-lent-400 '
         'g-count-4294967295-lent-400',
-    'Note 1: then 6': 'g-length-01-short g-length-32-short g-count-0-lent-0 g-count-33-lent-239',
+    'Note 1: then 6': 'g-length-01-short g-length-32-short g-count-0-lent-0 g-count-33-lent-272',
 
     'Note 2: A line (chip xscale) or (chip ppc405lp) replaces the rates line':
-        'r-chip-worked-01-lent-23 r-chip-worked-02-lent-20 r-chip-name-11 r-chip-name-13 '
+        'r-chip-worked-01-lent-25 r-chip-worked-02-lent-22 r-chip-name-11 r-chip-name-13 '
         'r-chip-xscale-then-rates r-chip-xscale-after-rates r-chip-ppc405lp-then-rates '
         'r-chip-ppc405lp-after-rates r-chip-xscale-twice r-chip-ppc405lp-twice',
     'Note 2: task lines then omit the energy form':
         'r-chip-xscale-energies-at-1 r-chip-ppc405lp-energies-at-1 r-chip-xscale-energies-at-32 '
         'r-chip-none-bare r-chip-none-bare-at-2 r-chip-xscale-rates-given-bare',
     'Note 2: One tick is a millisecond, so rates are MHz x 1,000':
-        'r-chip-worked-01-lent-23 r-chip-worked-02-lent-20 a-chip-printed-03 a-chip-printed-04 '
+        'r-chip-worked-01-lent-25 r-chip-worked-02-lent-22 a-chip-printed-03 a-chip-printed-04 '
         'a-chip-printed-05 a-chip-printed-07',
     'Note 2: an energy is power in mW times the job time':
-        'r-chip-worked-01-lent-23 r-chip-worked-02-lent-20 r-chip-worked-05-lent-23 '
-        'r-chip-worked-06-lent-20',
+        'r-chip-worked-01-lent-25 r-chip-worked-02-lent-22 r-chip-worked-05-lent-25 '
+        'r-chip-worked-06-lent-22',
     'Note 2: xscale 150, 400, 600, 800, 1000 MHz at 80, 170, 400, 900, 1600 mW':
-        'r-chip-worked-03-lent-23 r-chip-xscale-cycles-1',
+        'r-chip-worked-03-lent-25 r-chip-xscale-cycles-1',
     'Note 2: ppc405lp 33, 100, 266, 333 MHz at 19, 72, 600, 750 mW':
-        'r-chip-worked-04-lent-20 r-chip-ppc405lp-cycles-1',
+        'r-chip-worked-04-lent-22 r-chip-ppc405lp-cycles-1',
     'Note 2: Reading gives the ordinary list, expanded':
-        'r-chip-worked-01-lent-23 a-chip-printed-01 a-chip-printed-01-given a-chip-printed-02 '
+        'r-chip-worked-01-lent-25 a-chip-printed-01 a-chip-printed-01-given a-chip-printed-02 '
         'a-chip-printed-02-given r-chip-list-7-of-chip p-chip-list-7 c-chip-list-7',
     'Note 2: the writer writes that list in the old form': 't-chip-list-1 t-chip-list-2 t-chip-list-7',
     'Note 2: The round trip is about lists and holds for these too':
@@ -167,7 +170,7 @@ SENTENCES = {
         'r-chip-ppc405lp-of-32-dear-31-32 r-chip-ppc405lp-of-32-dear-9-10-and-on',
     'Note 2: after 1, before 6':
         'r-chip-xscale-1-before-9-line-end r-chip-ppc405lp-1-before-9-cut r-chip-xscale-9-lent-0 '
-        'r-chip-xscale-9-lent-22 r-chip-xscale-6-lent-22 r-chip-xscale-6-lent-23 '
+        'r-chip-xscale-9-lent-24 r-chip-xscale-6-lent-24 r-chip-xscale-6-lent-25 '
         'a-chip-xscale-slack-0-and-9 a-chip-ppc405lp-9-before-4',
 
     'Note 3: The hyper-period is as it was for every list':
@@ -189,7 +192,7 @@ SENTENCES = {
     'Note 4: 0 if the line is absent':
         'r-document r-idle-rates-absent r-idle-rates-0 a-idle-absent a-idle-of-0',
     'Note 4: Chips bring H of their own unless the line is given: 12 for ppc405lp, 40 for xscale':
-        'r-chip-worked-01-lent-23 r-chip-worked-02-lent-20 r-idle-xscale-absent '
+        'r-chip-worked-01-lent-25 r-chip-worked-02-lent-22 r-idle-xscale-absent '
         'r-idle-ppc405lp-absent r-idle-xscale-0 r-idle-ppc405lp-0 r-idle-xscale-given '
         'r-idle-ppc405lp-own a-chip-printed-01 a-chip-printed-02 a-idle-xscale-absent '
         'a-idle-xscale-40 a-idle-ppc405lp-absent a-idle-ppc405lp-12',
@@ -209,11 +212,11 @@ SENTENCES = {
         'rates-4-4 p-rates-4-4 p-periods-9999999-10000000 p-document-set g-worked-0 g-length-32 '
         'g-length-32-short',
     'Note 4: 10, an energy below H x job time':
-        'p-ten-least-8 p-ten-least-9 p-ten-least-equal p-ten-pair-9 p-ten-h-1000-time-1000-energy-999999 '
+        'p-ten-least-9 p-ten-least-10 p-ten-least-equal p-ten-pair-10 p-ten-h-1000-time-1000-energy-999999 '
         'p-ten-h-1000-time-1000-energy-1000000 p-ten-unused-slow p-ten-unused-no-plan '
         'a-ten a-ten-s a-idle-xscale-80 a-idle-xscale-81 a-idle-ppc405lp-19 a-idle-ppc405lp-20',
     "Note 4: with the first such energy's place":
-        'p-ten-first-11-of-14 p-ten-first-9-of-19 p-ten-all p-idle-worked-18 p-ten-whole-331',
+        'p-ten-first-12-of-16 p-ten-first-10-of-22 p-ten-all p-idle-worked-18 p-ten-whole-363',
     'Note 4: after 3, before 4':
         'p-3-and-ten-none p-2-at-13-and-ten-none p-ten-and-4-none p-ten-and-7-all p-ten-and-5 '
         'p-ten-and-6 p-not-ten-4 p-not-ten-7 p-not-ten-5 p-not-ten-6 a-idle-3-before-10 '
@@ -231,6 +234,53 @@ SENTENCES = {
         'p-margin-worked-03 p-margin-worked-06 p-margin-worked-10 p-margin-worked-15 '
         'p-step-of-1-slack-1000-k-2 p-step-of-1-slack-1000-k-2-less p-step-of-1-slack-1-k-1999 '
         'p-step-of-3-slack-857-k-7 a-margin-worked-03',
+
+    'Note 6: Each task may end with (from A)':
+        'r-from-3 r-from-rates-given r-from-xscale-given r-from-ppc405lp-given r-from-rates-absent '
+        'r-from-rates-of-two-first r-from-rates-of-two-second r-from-rates-32-tasks '
+        'r-from-rates-twice r-from-xscale-twice r-from-rates-before-energies '
+        'r-from-rates-no-energies r-from-xscale-energies r-from-ppc405lp-energies '
+        'r-from-rates-behind-the-task r-from-rates-behind-the-period r-from-rates-on-a-line '
+        'r-from-rates-cut-0 r-from-rates-cut-9 r-from-xscale-wrong-0-41 r-from-xscale-wrong-8-53 '
+        'r-from-rates-no-number r-from-rates-number-21 r-from-rates-number-10 '
+        'r-chip-xscale-energies-at-1 r-chip-ppc405lp-energies-at-32',
+    'Note 6: A below the period':
+        'c-first-least-1-0 c-first-least-1-6 c-first-least-1-7 c-first-least-1-8 '
+        'c-first-least-1-4294967295 c-first-pair-2-14 c-first-pair-2-15 c-first-five-4-0 '
+        'c-first-five-4-1 c-first-whole-32-19 c-first-whole-32-20 c-first-9999999-of-10000000 '
+        'c-first-10000000-of-10000000 r-from-at-9-of-10 r-from-rates-number-09',
+    'Note 6: the task record gains A after the cycles':
+        'document-set r-from-3 whole-left-over-1 p-whole-left-over c-first-and-cycles '
+        'c-first-and-energy c-first-none c-first-none-of-s every-word-at-its-most',
+    "Note 6: 0 if absent, in document 01's examples and from the generator":
+        'r-document r-from-rates-absent r-from-rates-0 r-from-xscale-absent r-from-0 p-document-set '
+        'walk-of-2-1 p-periods-9999999-10000000 g-worked-0 g-length-32 g-length-32-short',
+    'Note 6: written only if above 0':
+        't-document t-from-0 t-from-3 t-from-3-and-8 t-from-3-and-9 t-from-1-of-2-rates-1 '
+        't-from-9999999-of-8-rates-32',
+    'Note 6: The planner still answers for a common release':
+        'p-first-s-last p-first-s-1000-half p-first-over-one p-first-none-last p-first-full-last '
+        'p-first-s-2-242 p-first-s-1-243 a-from-3 a-from-over-l pf0001',
+    'Note 6: its plan must keep all deadlines for ever under every choice of A':
+        'w-first-s-2-1-from-9-14 w-first-s-1-2-from-5-5 a-from-s-9-14 pf0001-walked',
+    'Note 6: The walk takes A: releases fall at A plus multiples of the period':
+        'w-first-worked-01 w-first-worked-09 w-first-worked-10 w-of-5-for-4-from-3 '
+        'w-of-3-4-for-1-2-from-2-3 w-first-long-9999999',
+    'Note 6: and it goes to 2 x L':
+        'w-first-worked-02 w-first-worked-05 w-first-worked-14 w-of-2-for-1-from-1 '
+        'w-first-long-full w-first-long-1 w-of-4-4-for-4-2-from-0-3 w-of-2-4-for-2-1-from-0-3 '
+        'a-from-3 a-from-10000000',
+    "Note 6: If some A is above 0, 'kept' means just that stretch":
+        'w-first-worked-01 w-of-4-4-for-2-3-from-0-3',
+    'Note 6: and an unfinished job whose deadline lies past it is no miss':
+        'w-first-worked-01 w-first-worked-07 w-first-worked-10 w-of-5-for-5-from-4',
+    'Note 6: If all are 0 it ends at L as before':
+        'w-first-worked-03 w-first-worked-04 walk-of-2-1 w-first-s-2-1-from-0-0 a-document a-from-0',
+    'Note 6: A outside its range is refusal 2':
+        'c-first-least-1-7 p-first-least-1-7 w-first-least-1-7 t-first-least-1-7 a-from-10-at-9 '
+        'a-from-4294967295-at-15 a-from-xscale-bad w-first-bad-and-4 a-from-2-before-3',
+    'Note 6: A well-formed text is now under 6,000 bytes':
+        'r-idle-longest a-from-longest r-from-longest-xscale',
 }
 
 
@@ -261,7 +311,12 @@ def make():
                   idle.idle_lines, idle.idle_bytes, idle.idle_numbers, idle.idle_written,
                   idle.idle_programs, idle.random_idle_plans, idle.random_idle_programs,
                   idle.random_idle_texts, margin.margin_worked, margin.margin_reached,
-                  margin.margin_units, margin.random_margins):
+                  margin.margin_units, margin.random_margins, firsts.first_ranges,
+                  firsts.first_planned, firsts.first_worked, firsts.first_small, firsts.first_many,
+                  firsts.first_lines, firsts.first_bytes, firsts.first_numbers,
+                  firsts.first_written, firsts.first_programs, firsts.random_first_walks,
+                  firsts.random_first_plans, firsts.random_first_programs,
+                  firsts.random_first_texts):
         group()
     for sentence, found in SENTENCES.items():
         assert names.issuperset(found.split()), sentence

@@ -38,7 +38,7 @@ def document():
     walk('empty-list-some-plan', [], [1, 1], refused(2, 0))
     both('rates-4-4', with_rates((4, 4)), [1], refused(3, 4))
     both('periods-9999999-10000000', with_periods((9_999_999, 10_000_000)), [1, 1],
-         refused(4, 10))
+         refused(4, 11))
     check('period-10000000', with_periods((10_000_000,)), good(2, 1, 10_000_000))
     long_walk('period-10000000-w', with_periods((10_000_000,)), [1], kept(1, 9_999_999, 0))
 
@@ -65,7 +65,7 @@ def ranges():
                 words = [low - 1, high, high + 1]       # long lines, so fewer of them
             for word in words:
                 if word < 0:
-                    continue                            # the idle energy's range begins with 0
+                    continue                            # some ranges begin with 0
                 check('%s-%s-%d' % (label, what, word), put(base, place, word),
                       None if low <= word <= high else refused(2, place))
 
@@ -102,7 +102,7 @@ def lengths():
         check('least-cut-%02d' % length, least[:length], refused(2, length))
     for length in range(len(middle)):
         check('middle-cut-%02d' % length, middle[:length], refused(2, length))
-    for length in (1, 2, 3, 10, 11, 12, 13, 21, 22, 23, 32, 166, 321, 322, 323, 330, 331):
+    for length in (1, 2, 3, 10, 11, 12, 13, 14, 15, 22, 23, 24, 34, 188, 352, 353, 354, 355, 362, 363):
         check('whole-cut-%03d' % length, whole[:length], refused(2, length))
     # The number of tasks says more or less than what follows.
     for N in (1, 2, 4, 32):
@@ -129,33 +129,34 @@ def lengths():
         check('%s-bad-last-of-short' % label, put(base, end - 2, 0)[:-1], refused(2, end - 2))
         check('%s-bad-slack-and-short' % label, put(base, 0, 1_001)[:-1], refused(2, 0))
         check('%s-bad-slack-and-long' % label, put(base, 0, 0) + [0], refused(2, 0))
-    for count in (1, 2, 68):
-        check('whole-left-over-%d' % count, whole + [1] * count, refused(2, 332))
-    check('whole-bad-last-and-long', put(whole, 331, 0) + [1], refused(2, 331))
+    for count in (1, 2, 36):
+        check('whole-left-over-%d' % count, whole + [1] * count, refused(2, 364))
+    check('whole-bad-last-and-long', put(whole, 363, 0) + [1], refused(2, 363))
 
     # Of two bad words the first is given.
-    for first, second in ((0, 1), (0, 2), (0, 16), (1, 2), (1, 16), (2, 6), (3, 4), (5, 7), (6, 7),
-                          (7, 8), (8, 9), (9, 10), (11, 12), (11, 16), (13, 12), (15, 16)):
+    for first, second in ((0, 1), (0, 2), (0, 18), (1, 2), (1, 18), (2, 6), (3, 4), (5, 7), (6, 7),
+                          (7, 8), (7, 9), (8, 9), (9, 10), (9, 15), (10, 11), (12, 13), (12, 18),
+                          (14, 13), (14, 15), (15, 16), (17, 18)):
         check('document-set-bad-%d-and-%d' % (first, second), with_bad(S, first, second),
               refused(2, min(first, second)))
 
 
 def odd_lists():
-    """Lists of length 0 to 11 with odd contents.
+    """Lists of length 0 to 12 with odd contents.
 
     Catches a read of M, of N or of a task's words before the length was asked.
     """
     contents = {
-        'zeros': [0] * 11, 'ones': [1] * 11, 'twos': [2] * 11, 'threes': [3] * 11,
-        'eights': [8] * 11, 'largest': [TOP] * 11, 'rising': list(range(1, 12)),
-        'falling': list(range(11, 0, -1)), 'hundred': [100, 0, 2, 1, 2, 1, 1, 1, 1, 1, 1],
-        'eight-rates': [1_000, 1_000, 8, 1, 2, 3, 4, 5, 6, 7, 8],
-        'many-tasks': [7, 0, 2, 5, 6, 32, 1, 1, 1, 1, 1],
+        'zeros': [0] * 12, 'ones': [1] * 12, 'twos': [2] * 12, 'threes': [3] * 12,
+        'eights': [8] * 12, 'largest': [TOP] * 12, 'rising': list(range(1, 13)),
+        'falling': list(range(12, 0, -1)), 'hundred': [100, 0, 2, 1, 2, 1, 1, 1, 0, 1, 1, 1],
+        'eight-rates': [1_000, 1_000, 8, 1, 2, 3, 4, 5, 6, 7, 8, 9],
+        'many-tasks': [7, 0, 2, 5, 6, 32, 1, 1, 0, 1, 1, 1],
         # As it was before document 02's note 4: M is taken for H.
-        'no-idle-word': [100, 2, 1, 2, 1, 30, 60, 1, 1, 1, 1],
+        'no-idle-word': [100, 2, 1, 2, 1, 30, 60, 1, 1, 1, 1, 1],
     }
     for label, words in contents.items():
-        for length in range(1, 12):
+        for length in range(1, 13):
             check('odd-%s-%02d' % (label, length), words[:length])
     walk('odd-one-word', [100], [], refused(2, 1))
     walk('odd-two-words', [100, 2], [1], refused(2, 2))
@@ -167,7 +168,7 @@ def bad_counts():
     """A bad M or N, followed by anything.
 
     Catches places and lengths worked out from M or N before they were judged:
-    2 + M and N x (M + 2) wrap at 32 bits for the words here, some of them so
+    2 + M and N x (M + 3) wrap at 32 bits for the words here, some of them so
     that the list's length would come out right. Also a count looked at in its
     low byte (258, 257) or low half (65538, 65537).
     """
@@ -182,15 +183,19 @@ def bad_counts():
     walk('m-%d-walk' % TOP, [100, 0, TOP] + rest, [1, 1], refused(2, M_AT))
 
     least = same_tasks(2, 1)
-    # 2^30 x 4 is 0, (2^30 + 1) x 4 is 4, 2^31 + 1 likewise, all at 32 bits.
-    for N in (0, 33, 255, 257, 65_537, 2 ** 30, 2 ** 30 + 1, 2 ** 31 + 1, TOP - 1, TOP):
+    # 858993460 x 5 is 4 at 32 bits, and 858993461 x 5 is 9.
+    for N in (0, 33, 255, 257, 65_537, 858_993_459, 858_993_460, 858_993_461, 2 ** 30 + 1,
+              2 ** 31 + 1, TOP - 1, TOP):
         check('n-%d-alone' % N, least[:5] + [N], refused(2, 5))
         check('n-%d-and-rest' % N, put(least, 5, N), refused(2, 5))
         check('n-%d-and-bad' % N, least[:5] + [N] + [0, TOP] * 4, refused(2, 5))
         check('n-%d-after-bad-rate' % N, put(put(least, 5, N), 4, 0), refused(2, 4))
-    # 858993460 x 5 is 4 at 32 bits, and 858993461 x 5 is 9.
-    for N in (858_993_459, 858_993_460, 858_993_461):
+    # 2^31 x 6 is 0 and (2^31 + 2) x 6 is 12, all that S has; 715827883 x 6 is 2.
+    for N in (715_827_882, 715_827_883, 2 ** 31, 2 ** 31 + 2):
         check('n-%d-of-3-rates' % N, put(S, 6, N), refused(2, 6))
+    # 2^29 x 8 is 0, and (2^29 + 1) x 8 is 8, all that one task has.
+    for N in (2 ** 29, 2 ** 29 + 1):
+        check('n-%d-of-5-rates' % N, put(same_tasks(5, 1), task_count(5), N), refused(2, 8))
     walk('n-%d-walk' % TOP, put(least, 5, TOP), [1], refused(2, 5))
     check('m-and-n-%d' % TOP, [100, 0, TOP, 1, 2, TOP, 1, 1, 1, 1], refused(2, 2))
     check('m-%d-and-400-words' % TOP, [100, 0, TOP] + [1] * 397, refused(2, 2))
@@ -231,22 +236,22 @@ def rising_rates():
     check('last-rate-is-n', with_rates((1, 5), 5), good(2, 5, 10))
     check('last-rate-above-n', with_rates((1, 6), 5), good(2, 5, 10))
     # Energies and cycles need not rise.
-    check('energies-fall', [100, 0, 3, 1, 2, 3, 1, 10, 1, 9, 5, 1], good(3, 1, 10))
-    check('energies-equal', [100, 0, 3, 1, 2, 3, 1, 10, 1, 5, 5, 5], good(3, 1, 10))
+    check('energies-fall', [100, 0, 3, 1, 2, 3, 1, 10, 1, 0, 9, 5, 1], good(3, 1, 10))
+    check('energies-equal', [100, 0, 3, 1, 2, 3, 1, 10, 1, 0, 5, 5, 5], good(3, 1, 10))
 
-    falling = [100, 0, 3, 2, 8, 4, 2, 10, 12, 4, 9, 20, 15, 20, 7, 15, 30]
+    falling = S[:4] + [8, 4] + S[6:]
     both('falling-rates', falling, [2, 1], refused(3, 5))
     # Check 2 comes first, wherever its fault stands.
-    for place in (0, 1, 2, 3, 4, 5, 6, 7, 8, 9, 11, 12, 13, 14, 16):
+    for place in (0, 1, 2, 3, 4, 5, 6, 7, 8, 9, 10, 12, 13, 14, 15, 16, 18):
         check('falling-rates-and-bad-%02d' % place, with_bad(falling, place), refused(2, place))
-    for length in (0, 1, 2, 4, 5, 6, 7, 11, 16):
+    for length in (0, 1, 2, 4, 5, 6, 7, 9, 12, 18):
         check('falling-rates-cut-%02d' % length, falling[:length], refused(2, length))
-    check('falling-rates-left-over', falling + [1], refused(2, 17))
+    check('falling-rates-left-over', falling + [1], refused(2, 19))
     check('falling-rates-n-of-33', put(falling, 6, 33), refused(2, 6))
     both('rates-fall-to-0', put(falling, 5, 0), [2, 1], refused(2, 5))
     check('rates-4-4-and-1000001', with_rates((4, 4, 1_000_001)), refused(2, 5))
     # Checks 4 and 8 come later.
-    long = put(put(falling, 7, 9_999_999), 12, 10_000_000)
+    long = put(put(falling, 7, 9_999_999), 13, 10_000_000)
     both('falling-rates-and-long', long, [2, 1], refused(3, 5))
     walk('falling-rates-and-bad-plan', falling, [0, 9], refused(3, 5))
     walk('falling-rates-and-no-plan', falling, [], refused(3, 5))
@@ -341,13 +346,13 @@ def hyper_periods():
 
     # Check 4 after 2 and before 8.
     over = with_periods((9_999_999, 10_000_000))
-    for place in (0, 1, 3, 5, 7, 9, 11, 13):
+    for place in (0, 1, 3, 5, 7, 8, 10, 12, 13, 15):
         check('over-and-bad-%02d' % place, with_bad(over, place), refused(2, place))
-    check('over-and-short', over[:-1], refused(2, 13))
-    check('over-and-long', over + [1], refused(2, 14))
-    walk('over-and-bad-plan', over, [0, 9], refused(4, 10))
-    walk('over-and-no-plan', over, [], refused(4, 10))
-    walk('over-and-long-plan', over, [1] * 40, refused(4, 10))
+    check('over-and-short', over[:-1], refused(2, 15))
+    check('over-and-long', over + [1], refused(2, 16))
+    walk('over-and-bad-plan', over, [0, 9], refused(4, 11))
+    walk('over-and-no-plan', over, [], refused(4, 11))
+    walk('over-and-long-plan', over, [1] * 40, refused(4, 11))
     walk('10000000-and-bad-plan', with_periods((10_000_000,)), [3], refused(8, 0))
 
 
@@ -423,17 +428,18 @@ def some_periods(draw):
         place = draw.between(0, N - 1)
         periods[place] = draw.one_of([2, 3, 5, 7, 11, 13, 256, draw.between(1, 10_000_000)])
     words = with_periods(periods, M)
-    first = period_of(M, 1)
-    for place in range(first + 2, len(words)):
-        if (place - first) % (2 + M) > 0:
-            words[place] = draw.between(1, 9)
+    for task in range(1, N + 1):
+        at = period_of(M, task)
+        words[at + 1] = draw.between(1, 9)
+        words[at + 2] = draw.between(0, min(9, words[at] - 1))
+        words[at + 3:at + 3 + M] = [draw.between(1, 9) for _ in range(M)]
     return words
 
 
 def short_list(draw):
-    """A list of length 0 to 13; its first words are often right."""
+    """A list of length 0 to 14; its first words are often right."""
     words = [draw.one_of([1, 1, 2, 2, 3, 5, 10, 100, draw.one_of(EDGES)])
-             for _ in range(draw.between(0, 13))]
+             for _ in range(draw.between(0, 14))]
     for place, word in enumerate((100, 0, 2, 3, 4, 1)):
         if place < len(words) and draw.between(1, 6) > 1:
             words[place] = word

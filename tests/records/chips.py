@@ -5,8 +5,8 @@ import reference as r
 from records.shared import (
     CHIPS, CHIP_IDLE, Draw, MOST_LENT, MOST_PRINTED, MOST_READ, MOST_WORK, MOST_WRITTEN,
     RANDOM_CHIPS, RANDOM_CHIP_LISTS, RANDOM_CHIP_PROGRAMS, SEED, TOP, chip_line, chip_text, costed,
-    expanded, good, head_of, length_of, line_of, needed, period_of, refused, text_of, was_read,
-    words_of, wrote)
+    energies_of, expanded, good, head_of, length_of, line_of, needed, period_of, refused, text_of,
+    was_read, words_of, wrote)
 from records.checks import check
 from records.planner import least_slack, planner
 from records.program import program, refusal, roomed, short_span
@@ -17,7 +17,8 @@ from test_reference import CHIP_PRINTED, CHIP_WORKED, MOST_CYCLES, plain_reader
 
 SLACK = b'(slack 5)\n'
 BARE = chip_line(7, 9)                  # a task line without energies
-BEHIND = len(b'(task (period 7) (cycles 9)')    # where it ends, or goes on with energies
+BEHIND = len(b'(task (period 7) (cycles 9)')    # where it ends, or goes on with (from A)
+ENERGIES = BEHIND + len(b' (')          # where energies depart, which no (from A) begins with
 NAME_AT = len(SLACK + b'(chip ')
 OTHER = {'xscale': 'ppc405lp', 'ppc405lp': 'xscale'}
 
@@ -174,11 +175,11 @@ def chip_lines():
         for before in (0, 1, 31):
             tasks = BARE * before
             departs('energies-at-%d' % (before + 1), head + tasks + given[chip],
-                    len(head + tasks) + BEHIND)
-        departs('energies-then-bare', head + given[chip] + BARE, len(head) + BEHIND)
-        departs('energies-of-two', head + two, len(head) + BEHIND)
-        departs('energies-none', head + line_of(7, 9), len(head) + BEHIND)
-        departs('space-behind-cycles', head + BARE[:BEHIND] + b' )\n', len(head) + BEHIND)
+                    len(head + tasks) + ENERGIES)
+        departs('energies-then-bare', head + given[chip] + BARE, len(head) + ENERGIES)
+        departs('energies-of-two', head + two, len(head) + ENERGIES)
+        departs('energies-none', head + line_of(7, 9), len(head) + ENERGIES)
+        departs('space-behind-cycles', head + BARE[:BEHIND] + b' )\n', len(head) + BEHIND + 1)
         departs('one-bracket', head + BARE[:BEHIND] + b'\n', len(head) + BEHIND)
         departs('three-brackets', head + BARE[:BEHIND] + b'))\n', len(head) + BEHIND + 1)
         departs('no-cycles', head + b'(task (period 7))\n', len(head) + 16)
@@ -281,7 +282,7 @@ def chip_nine():
                 ('byte-255', text + b'\xff', len(text)), ('bracket', text + b'(', len(text) + 1),
                 ('rates', text + b'(rates 1 2)\n', len(text) + 1),
                 ('cut', text[:-1], len(text) - 1), ('cut-by-2', text[:-2], len(text) - 2),
-                ('energies', text + line_of(7, 9, 1, 2), len(text) + BEHIND),
+                ('energies', text + line_of(7, 9, 1, 2), len(text) + ENERGIES),
                 ('number', text + chip_line(7, '01'), len(text) + BEHIND - 1),
                 ('33rd', chip_text(chip, 9, tasks(33, 1)), len(chip_text(chip, 9, tasks(32, 1))))):
             read('r-chip-%s-1-before-9-%s' % (chip, label), departing,
@@ -309,7 +310,7 @@ def chip_nine():
         # The highest rate but one of ppc405lp is the dear one.
         dear = min(range(len(rates)), key=lambda at: NEAR[chip][at])
         program('a-chip-%s-given' % chip, text_of(words),
-                want=refusal(2, period_of(len(rates), 1) + 2 + dear))
+                want=refusal(2, energies_of(len(rates), 1) + dear))
 
 
 # ---------------------------------------------------------------- the program
@@ -404,7 +405,7 @@ def chip_lists():
         read_back('r-' + name, words)
         read('r-%s-of-chip' % name, chip_text(chip, slack, tasks), want=was_read(words))
     # A list that is too dear for the reader is out of its range for the others.
-    for chip, place in (('xscale', 15), ('ppc405lp', 12)):
+    for chip, place in (('xscale', 16), ('ppc405lp', 13)):
         words = expanded(chip, 9, [(7, MOST_CYCLES[chip] + 1)])
         check('c-chip-%s-dear' % chip, words, refused(2, place))
         planner('p-chip-%s-dear' % chip, words, want=refused(2, place))

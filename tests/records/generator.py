@@ -83,11 +83,11 @@ def generator_lengths():
         size = length_of(N)
         generator('g-length-%02d' % N, 1_000 + N, N, size)
         generator('g-length-%02d-short' % N, 1_000 + N, N, size - 1, refused(6, size))
-        generator('g-length-%02d-tasks-alone' % N, 1_000 + N, N, 7 * N, refused(6, size))
+        generator('g-length-%02d-tasks-alone' % N, 1_000 + N, N, 8 * N, refused(6, size))
         generator('g-length-%02d-none' % N, 1_000 + N, N, 0, refused(6, size))
         if N in (1, 2, 16, 31, 32):
             generator('g-length-%02d-more' % N, 1_000 + N, N, size + 1)
-            generator('g-length-%02d-a-task-more' % N, 1_000 + N, N, size + 7)
+            generator('g-length-%02d-a-task-more' % N, 1_000 + N, N, size + 8)
 
 
 def generator_counts():
@@ -95,14 +95,14 @@ def generator_counts():
 
     Catches an end moved by one, the place of N in the list or N itself for the
     second number, a compare that is signed or looks at a part of a word, and 6
-    asked first, also with a length that wraps at 32 bits: 7 x 613,566,757 does.
+    asked first, also with a length that wraps at 32 bits: 8 x 536,870,913 is 8.
     """
-    for N in (0, 33, 34, 35, 64, 255, 256, 257, 65_535, 65_536, 65_537, 613_566_756, 613_566_757,
+    for N in (0, 33, 34, 35, 64, 255, 256, 257, 65_535, 65_536, 65_537, 536_870_912, 536_870_913,
               2 ** 31 - 1, 2 ** 31, 2 ** 31 + 1, TOP - 1, TOP):
-        for lent in (0, 9, 16, MOST_GENERATED):
+        for lent in (0, 9, 17, MOST_GENERATED):
             generator('g-count-%d-lent-%d' % (N, lent), 7, N, lent, refused(2, 0))
     # Either side of 33 tasks' length, and of 32 tasks'.
-    for lent in (232, 233, 234, 239, 240, 241):
+    for lent in (264, 265, 266, 272, 273, 274):
         generator('g-count-33-lent-%d' % lent, 7, 33, lent, refused(2, 0))
     for seed in (0, TOP):
         for N in (0, 33, TOP):
@@ -141,7 +141,7 @@ def generator_draws():
     for cycles in (1, 2, 500, 999, 1_000):
         drawn('cycles-%d' % cycles, 1, 2, 1_000, cycles - 1, cycles)
     for factor in range(2, 11):
-        drawn('energy-%d' % factor, 2, 3, 9, factor - 2, factor)
+        drawn('energy-%d' % factor, 3, 3, 9, factor - 2, factor)
     # States at their ends, and at those of a draw, for each of the first three draws.
     for count in (1, 2, 3):
         for state in (0, 1, 65_535, 65_536, 2 ** 31 - 1, 2 ** 31, STATES - 65_537,

@@ -6,9 +6,9 @@ import reference as r
 from records.shared import (
     CHIPS, CHIP_IDLE, Draw, IDLE_AT, M_AT, MOST_LENT, MOST_PRINTED, MOST_READ, MOST_WORK,
     MOST_WRITTEN, PAST_ONE, RANDOM_IDLE_PLANS, RANDOM_IDLE_PROGRAMS, RANDOM_IDLE_TEXTS, RATE_AT, S,
-    SEED, TOP, chip_line, chip_text, costed, counts, expanded, front_of, head_of, kept, length_of,
-    line_of, needed, period_of, planned, put, refused, same_tasks, task_count, text_of, was_read,
-    wrote)
+    SEED, TOP, chip_line, chip_text, costed, counts, energies_of, expanded, front_of, head_of, kept,
+    length_of, line_of, needed, period_of, planned, put, refused, same_tasks, task_count, task_lines,
+    text_of, was_read, with_bad, wrote)
 from records.checks import check
 from records.planner import planner, some_large, some_planned, waiting, with_idle
 from records.program import plan_lines, program, refusal, roomed, short_span
@@ -82,8 +82,8 @@ def idle_ten():
         places = [place for place, _ in waiting(base)]
         if label == 'whole':
             places = [place for place in places if place in (
-                period_of(8, 1) + 2, period_of(8, 1) + 9, period_of(8, 2) + 2, period_of(8, 17) + 5,
-                period_of(8, 32) + 2, period_of(8, 32) + 9)]
+                energies_of(8, 1), energies_of(8, 1) + 7, energies_of(8, 2), energies_of(8, 17) + 3,
+                energies_of(8, 32), energies_of(8, 32) + 7)]
         for place in places:
             low = put(base, place, base[place] - 1)
             ten('ten-%s-%d' % (label, place), low, place)
@@ -112,25 +112,25 @@ def idle_ten():
                     continue
                 words = costed((1, 1_000), [(5_000, time, energy, 1_000)], 100, idle)
                 planner('p-ten-h-%d-time-%d-energy-%d' % (idle, time, energy), words, *ALL,
-                        refused(10, 8) if more < 0 else None)
+                        refused(10, 9) if more < 0 else None)
     # Cycles on either side of a full tick: 7 x 3 and 7 x 4 ticks.
     for cycles, energy, low in ((15, 21, False), (15, 20, True), (16, 21, True), (16, 27, True),
                                 (16, 28, False), (11, 20, True), (11, 21, False), (10, 20, False)):
         planner('p-ten-cycles-%d-energy-%d' % (cycles, energy),
                 costed((5, 50), [(60, cycles, energy, 7)], 100, 7), *ALL,
-                refused(10, 8) if low else None)
+                refused(10, 9) if low else None)
     # Products past 32 bits: at 32 bits 512 x 2^23 is 0, and 512 x 2^22 is below 0 where it is signed.
     for label, idle, cycles in (('0', 512, 2 ** 23), ('1', 1, 4_000_000_000), ('sign', 512, 2 ** 22),
                                 ('most', 1_000, 4_000_000_000), ('1000', 1_000, 4_294_968)):
         words = costed((1, 1_000_000), [(10_000_000, cycles, 1_000_000, 1_000_000)], 100, idle)
-        ten('ten-wraps-%s' % label, words, 8)
+        ten('ten-wraps-%s' % label, words, 9)
     # An energy that no plan would use: at a rate that is too slow, at one that is dearer than
     # another and has more load, in a set without a plan, and all but the one that is taken.
-    ten('ten-unused-slow', raised((1, 2), [(10, 15, -1, 5)], 3), 8)
-    ten('ten-unused-dear', raised((1, 2, 4), [(40, 20, 0, -1, 0)], 3), 10)
-    ten('ten-unused-no-plan', raised((1, 2), [(10, 21, 0, -1)], 3), 9)
-    ten('ten-used', raised((1, 2), [(10, 15, 5, -1)], 3), 9)
-    ten('ten-all-but-one', raised((1, 2, 4), [(20, 20, -1, 0, -1)], 3), 9)
+    ten('ten-unused-slow', raised((1, 2), [(10, 15, -1, 5)], 3), 9)
+    ten('ten-unused-dear', raised((1, 2, 4), [(40, 20, 0, -1, 0)], 3), 11)
+    ten('ten-unused-no-plan', raised((1, 2), [(10, 21, 0, -1)], 3), 10)
+    ten('ten-used', raised((1, 2), [(10, 15, 5, -1)], 3), 10)
+    ten('ten-all-but-one', raised((1, 2, 4), [(20, 20, -1, 0, -1)], 3), 10)
 
 
 def idle_order():
@@ -139,23 +139,23 @@ def idle_order():
     late = raised((1, 2), [(30, 61, 0, 0), (30, 61, -1, 0)], 5)
     good = raised((1, 2), [(30, 6, 0, 0), (30, 6, -1, 0)], 5)
     for much, lent in (('all', ALL), ('none', NONE)):
-        planner('p-ten-and-4-%s' % much, low, *lent, refused(10, 13))
-        planner('p-ten-and-7-%s' % much, late, *lent, refused(10, 12))
-        planner('p-ten-and-4-and-7-%s' % much, put(low, 7, 4_000_000_000), *lent, refused(10, 8))
+        planner('p-ten-and-4-%s' % much, low, *lent, refused(10, 15))
+        planner('p-ten-and-7-%s' % much, late, *lent, refused(10, 14))
+        planner('p-ten-and-4-and-7-%s' % much, put(low, 7, 4_000_000_000), *lent, refused(10, 9))
         planner('p-3-and-ten-%s' % much, put(good, 4, 1), *lent, refused(3, 4))
         planner('p-3-and-ten-and-4-%s' % much, put(low, 4, 1), *lent, refused(3, 4))
-        for place in (0, 1, 2, 3, 5, 6, 7, 9, 13):
-            bad = put(low, place, 1_001 if place == IDLE_AT else 0)
+        for place in (0, 1, 2, 3, 5, 6, 7, 8, 10, 13, 15):
+            bad = with_bad(low, place)
             planner('p-2-at-%02d-and-ten-%s' % (place, much), bad, *lent, refused(2, place))
-        planner('p-2-missing-and-ten-%s' % much, low[:-1], *lent, refused(2, 13))
-        planner('p-2-left-over-and-ten-%s' % much, low + [1], *lent, refused(2, 14))
+        planner('p-2-missing-and-ten-%s' % much, low[:-1], *lent, refused(2, 15))
+        planner('p-2-left-over-and-ten-%s' % much, low + [1], *lent, refused(2, 16))
     W = needed(good)
     for label, J, A in (('5', 2, W - 1), ('6', 1, W), ('5-and-6', 1, W - 1), ('enough', 2, W)):
-        planner('p-ten-and-%s' % label, good, J, A, refused(10, 12))
+        planner('p-ten-and-%s' % label, good, J, A, refused(10, 14))
     # The same without the low energy: 4, 5, 6, 7 and a plan.
-    planner('p-not-ten-4', put(low, 13, 10), *ALL, refused(4, 10))
-    planner('p-not-ten-7', put(late, 12, 305), *ALL, refused(7, 0))
-    good[12] = 30
+    planner('p-not-ten-4', put(low, 15, 10), *ALL, refused(4, 11))
+    planner('p-not-ten-7', put(late, 14, 305), *ALL, refused(7, 0))
+    good[14] = 30
     for label, J, A, want in (('5', 2, W - 1, refused(5, W)), ('6', 1, W, refused(6, 2)),
                               ('5-and-6', 1, W - 1, refused(5, W)),
                               ('enough', 2, W, planned(1, 6, 30, 150, 2, 2))):
@@ -166,7 +166,7 @@ def idle_others():
     """Lists of refusal 10: checks of a set, walk, writer and reader answer as if nothing were wrong;
     they are the planner's and the program's to refuse."""
     for label, words, plans in (
-            ('1010', put(THOUSAND_TEN, 8, 899), ([1], [2])),
+            ('1010', put(THOUSAND_TEN, 9, 899), ([1], [2])),
             ('s', put(S, IDLE_AT, 1), ([1, 1], [2, 1], [1, 3], [3, 3])),
             ('s-most', put(S, IDLE_AT, 1_000), ([1, 1], [2, 1])),
             ('all', raised((1, 2, 4), [(20, 20, -1, -1, -1)] * 3, 9), ([1, 1, 1], [3, 3, 3])),
@@ -186,12 +186,12 @@ def idle_others():
         program('a-ten-%s' % label, text_of(words), want=refusal(10, place))
     # With 4 the walk says 4, where the planner says 10.
     low = raised((1, 2), [(9_999_999, 4, 0, 0), (10_000_000, 4, 0, -1)], 5)
-    walk('w-ten-and-4', low, [1, 1], refused(4, 10))
-    check('c-ten-and-4', low, refused(4, 10))
+    walk('w-ten-and-4', low, [1, 1], refused(4, 11))
+    check('c-ten-and-4', low, refused(4, 11))
     written('t-ten-and-4', low)
-    program('a-ten-and-4', text_of(low), want=refusal(10, 13))
+    program('a-ten-and-4', text_of(low), want=refusal(10, 15))
     # Refusal 10 with as many bytes lent as it prints, and less.
-    roomed('a-ten', text_of(put(THOUSAND_TEN, 8, 899)), refusal(10, 8))
+    roomed('a-ten', text_of(put(THOUSAND_TEN, 9, 899)), refusal(10, 9))
 
 
 # ---------------------------------------------------------- units and energies
@@ -269,7 +269,7 @@ def idle_units():
         words = costed((1, 3, 4, 8), [(48, 24, 240, 100, 90, 70), (24, 12, 120, 60, 45, 36)], 300,
                        idle)
         planner('p-by-h-%02d' % idle, words, *ALL,
-                None if idle <= 10 else refused(10, period_of(4, 1) + 2))
+                None if idle <= 10 else refused(10, energies_of(4, 1)))
     # A full load has no idle tick, and one of L - 1 has one.
     for label, tasks in (('2-4', [(2, 1), (4, 2)]), ('3-3-3', [(3, 1)] * 3), ('30-60', PAST_ONE),
                          ('many', [(64, 2)] * 32)):
@@ -320,16 +320,16 @@ def idle_limits():
                          (L, ticks, 1_000_000, 1_000_000)]
                 planner('p-10000000-of-%d-slack-%d-h-%d' % (ticks, slack, idle),
                         costed((1, 2), tasks, slack, idle), *ALL,
-                        refused(10, 16) if idle * ticks > 1_000_000 else None)
+                        refused(10, energies_of(2, 3)) if idle * ticks > 1_000_000 else None)
     # 4,000,000,000 cycles take 4,001 ticks at 999,993 and 4,000 at 1,000,000.
     whole = [999_993 + i for i in range(8)]
     most = [(L, 4_000_000_000) + (1_000_000,) * 8] * 32
     for slack in (259, 1_000):
         planner('p-most-words-h-249-%d' % slack, costed(whole, most, slack, 249))
         planner('p-most-words-h-250-%d' % slack, costed(whole, most, slack, 250), *ALL,
-                refused(10, period_of(8, 1) + 2))
+                refused(10, energies_of(8, 1)))
         planner('p-most-words-h-1000-%d' % slack, costed(whole, most, slack, 1_000), *ALL,
-                refused(10, period_of(8, 1) + 2))
+                refused(10, energies_of(8, 1)))
         tasks = [(32, 1_000_000) + (1_000_000,) * 8] * 31
         last = (L, 1_000_000_000) + (1_000_000,) * 8
         planner('p-most-energy-h-1000-%d' % slack, costed(whole[:7] + [1_000_000], tasks + [last],
@@ -443,14 +443,14 @@ def idle_numbers():
                 want = was_read(costed((6, 7), [(1, 2, 3, 4)], 5, int(odd)))
             else:
                 want = was_read(expanded(label, 5, [(1, 2)], int(odd)))
-            read('r-idle-%s-number-%02d' % (label, count), text, (12, MOST_READ)[count % 2], want
+            read('r-idle-%s-number-%02d' % (label, count), text, (13, MOST_READ)[count % 2], want
                  if label == 'rates' or departs is not None or count % 2 else None)
     for H in (999, 1_000, 1_001):
         read_back('r-idle-of-%d' % H, put(THOUSAND_TEN, IDLE_AT, H))
     longest = text_of(put(put([TOP] * r.MOST_WORDS, M_AT, 8), task_count(8), 32))
-    assert len(longest) < 5_000
+    assert len(longest) < 6_000
     read('r-idle-longest', longest, r.MOST_WORDS)
-    read('r-idle-longest-a-word-short', longest, r.MOST_WORDS - 1, refused(6, 332))
+    read('r-idle-longest-a-word-short', longest, r.MOST_WORDS - 1, refused(6, 364))
     read('r-idle-longest-cut', longest[:-1], want=refused(1, len(longest) - 1))
     read('r-idle-longest-more', longest + b'\n', want=refused(1, len(longest)))
     for chip, most in MOST_CYCLES.items():
@@ -496,8 +496,8 @@ def idle_programs():
     where 10 stands among the program's refusals."""
     for H, want in ((0, plan_lines(8, 10, 100, 200, [2], 0)),
                     (1, None), (9, None), (10, plan_lines(1, 90, 100, 1_010, [1], 0)),
-                    (11, refusal(10, 8)), (20, refusal(10, 8)), (21, refusal(10, 8)),
-                    (1_000, refusal(10, 8)), (1_001, refusal(2, 1)), (TOP, refusal(2, 1))):
+                    (11, refusal(10, 9)), (20, refusal(10, 9)), (21, refusal(10, 9)),
+                    (1_000, refusal(10, 9)), (1_001, refusal(2, 1)), (TOP, refusal(2, 1))):
         program('a-idle-of-%d' % H, head_of(100, (1, 9), H) + line_of(100, 90, 910, 200),
                 want=want)
     program('a-idle-of-4294967296', head_of(100, (1, 9), TOP + 1) + line_of(100, 90, 910, 200),
@@ -517,18 +517,18 @@ def idle_programs():
     late[IDLE_AT] = 1_000
     program('a-idle-3-before-10', text_of(late), want=refusal(3, 4))
     late[RATE_AT + 1] = 3
-    program('a-idle-10-before-4', text_of(late), want=refusal(10, 8))
+    program('a-idle-10-before-4', text_of(late), want=refusal(10, 9))
     late[IDLE_AT] = 0
-    program('a-idle-4-then', text_of(late), want=refusal(4, 10))
-    late[10], late[IDLE_AT] = 9_999_999, 1
-    program('a-idle-10-before-5', text_of(late), want=refusal(10, 8))
+    program('a-idle-4-then', text_of(late), want=refusal(4, 11))
+    late[period_of(2, 2)], late[IDLE_AT] = 9_999_999, 1
+    program('a-idle-10-before-5', text_of(late), want=refusal(10, 9))
     late[0] = 2
-    program('a-idle-10-before-7', text_of(late), want=refusal(10, 8))
+    program('a-idle-10-before-7', text_of(late), want=refusal(10, 9))
 
     for chip, slowest in (('xscale', 80), ('ppc405lp', 19)):
         own, M = CHIP_IDLE[chip], len(CHIPS[chip])
         tasks = [(40, 1_000_000), (20, 500_000)]
-        first = period_of(M, 1) + 2
+        first = energies_of(M, 1)
         for H in (None, 0, 1, own - 1, own, own + 1, slowest - 1, slowest):
             name = 'a-idle-%s-%s' % (chip, 'absent' if H is None else H)
             text = chip_text(chip, 500, tasks, H)
@@ -610,8 +610,7 @@ def random_idle_texts():
     for number in range(1, RANDOM_IDLE_TEXTS + 1):
         M, N = draw.between(2, 4), draw.one_of([1, 1, 2])
         words = put(some_words(draw, M, N), IDLE_AT, some_number(draw))
-        text = head_of(words[0], words[RATE_AT:RATE_AT + M], words[IDLE_AT]) + b''.join(
-            line_of(*words[at:at + 2 + M]) for at in range(period_of(M, 1), len(words), 2 + M))
+        text = head_of(words[0], words[RATE_AT:RATE_AT + M], words[IDLE_AT]) + task_lines(words)
         if draw.between(1, 4) == 1:
             chip = draw.one_of(list(CHIPS))
             text = chip_text(chip, words[0], [(7, draw.between(0, MOST_CYCLES[chip]))] * N,

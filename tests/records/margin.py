@@ -4,8 +4,8 @@ than it was; each that is recorded here is held to it as it is made."""
 from math import gcd
 
 from records.shared import (
-    Draw, IDLE_AT, MOST_LENT, MOST_WORK, RANDOM_MARGINS, RATE_AT, S, SEED, answers, counts, kept,
-    needed, period_of, planned, put, refused, text_of)
+    Draw, IDLE_AT, MOST_LENT, MOST_WORK, RANDOM_MARGINS, RATE_AT, S, SEED, answers, counts,
+    energies_of, kept, needed, period_of, planned, put, refused, task_words, text_of)
 from records.idle import raised
 from records.planner import least_slack, planner, waiting
 from records.program import plan_lines, program
@@ -37,7 +37,7 @@ def least_of(words):
         for j in range(M):
             full, rest = divmod(words[at + 1], words[RATE_AT + j])
             go_on(task + 1, ticks_left - jobs * (full + (rest > 0)),
-                  energy + jobs * above[at + 2 + j])
+                  energy + jobs * above[energies_of(M, task) + j])
 
     go_on(1, L, words[IDLE_AT] * L)
     return min(found)
@@ -97,7 +97,7 @@ def margin_reached():
                 words = at_margin(slack, unit, N, idle)
                 if max(words) > 1_000_000 or slack < least_slack(N):
                     continue
-                slow, fast = words[8] - 2 * idle, words[9] - idle
+                slow, fast = words[9] - 2 * idle, words[10] - idle
                 assert N * (fast - slow) == N * (unit - 1)
                 name = 'p-reach-%d-slack-%d-of-%d-h-%d' % (unit, slack, N, idle)
                 want = planned(unit, N, 2 * N, N * (fast + 2 * idle), *[2] * N)
@@ -170,7 +170,7 @@ def random_margins():
             N = draw.between(1, 4)
             words = at_margin(draw.one_of([1_000, draw.between(20, 1_000)]),
                               2 ** draw.between(1, 7), N, draw.one_of([0, draw.between(0, 40)]))
-            place = draw.between(8, 9) + 4 * draw.between(0, N - 1)
+            place = draw.between(9, 10) + task_words(2) * draw.between(0, N - 1)
             words = put(words, place, words[place] + draw.one_of([0, 0, 1, -1]))
         _, N = counts(words)
         said = held_plan('rm%04d' % number, words)

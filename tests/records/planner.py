@@ -3,8 +3,9 @@
 import reference as r
 from records.shared import (
     Draw, FEW_PLANS, IDLE_AT, LONGEST_RANDOM, M_AT, MOST_LENT, MOST_WORK, PAST_ONE, RANDOM_PLANS,
-    RATE_AT, S, SEED, TOP, costed, counts, damaged, needed, outside, period_of, places_of, planned,
-    put, record, refused, same_tasks, task_count, task_set, with_periods, with_rates)
+    RATE_AT, S, SEED, TOP, costed, counts, damaged, energies_of, needed, outside, period_of,
+    places_of, planned, put, record, refused, same_tasks, task_count, task_set, task_words,
+    with_periods, with_rates)
 from records.walk import some_walk
 from test_reference import lowered
 
@@ -17,7 +18,7 @@ def waiting(words):
         at = period_of(M, task)
         for j in range(M):
             full, left = divmod(words[at + 1], words[RATE_AT + j])
-            yield at + 2 + j, words[IDLE_AT] * (full + (left > 0))
+            yield energies_of(M, task) + j, words[IDLE_AT] * (full + (left > 0))
 
 
 def judged_plan(name, words, plan_len, work_len):
@@ -41,7 +42,8 @@ def judged_plan(name, words, plan_len, work_len):
             assert (load, energy) == (r.load_of(words, rates), r.energy_of(words, rates)), name
             assert load <= L, name
             if L <= LONGEST_RANDOM:
-                assert r.walk(words, rates)[:3] == ('kept', load, L - load), name
+                together = r.released_together(words)
+                assert r.walk(together, rates)[:3] == ('kept', load, L - load), name
         # The same set with its idle energy taken out of all energies has the same plan.
         other = lowered(words) if words[IDLE_AT] > 0 else None
         if other:
@@ -88,7 +90,7 @@ def planner_document():
     planner('p-empty-list-much-lent', [], want=refused(2, 0))
     planner('p-rates-4-4', with_rates((4, 4)), want=refused(3, 4))
     planner('p-periods-9999999-10000000', with_periods((9_999_999, 10_000_000)),
-            want=refused(4, 10))
+            want=refused(4, 11))
     planner('p-period-10000000', costed((1, 2), [(10_000_000, 1, 1, 1)]), 1, 82,
             planned(1, 1, 10_000_000, 1, 1))
     # One task whose task energy is 33 at every rate: rounded down it gets 16.
@@ -126,12 +128,12 @@ def planner_checks():
                         refused(2, len(base)))
             planner('p-%s-twice-%s' % (label, much), base * 2, J, A, refused(2, len(base)))
     whole = same_tasks(8, 32)
-    for length in (1, 2, 3, 10, 11, 12, 13, 21, 331):
+    for length in (1, 2, 3, 10, 11, 12, 13, 14, 22, 363):
         planner('p-whole-cut-%03d' % length, whole[:length], want=refused(2, length))
-    planner('p-whole-left-over', whole + [1], want=refused(2, 332))
+    planner('p-whole-left-over', whole + [1], want=refused(2, 364))
     for M in (2 ** 31 + 2, TOP - 1):
         planner('p-m-%d' % M, put(S, M_AT, M), want=refused(2, M_AT))
-    for N in (2 ** 30 + 1, 858_993_461):
+    for N in (715_827_883, 2 ** 31 + 2):
         planner('p-n-%d' % N, put(S, task_count(3), N), want=refused(2, task_count(3)))
 
     # Rates: the first and the last pair, equal and falling.
@@ -152,19 +154,19 @@ def planner_checks():
                     want=refused(4, period_of(M, task)))
     over = with_periods((9_999_999, 10_000_000))
     for much, (J, A) in lent.items():
-        planner('p-over-%s' % much, over, J, A, refused(4, 10))
-        planner('p-over-by-1-%s' % much, with_periods((11, 909_091)), J, A, refused(4, 10))
+        planner('p-over-%s' % much, over, J, A, refused(4, 11))
+        planner('p-over-by-1-%s' % much, with_periods((11, 909_091)), J, A, refused(4, 11))
 
     # Two faults at once: 2 before 3 before 4, and each before 5, 6 and 7; idle.py has 10.
     falling = put(put(over, 3, 2), 4, 2)
-    late = put(put(over, 7, 4_000_000_000), 11, 4_000_000_000)
+    late = put(put(over, 7, 4_000_000_000), 12, 4_000_000_000)
     for much, (J, A) in lent.items():
         planner('p-3-and-4-%s' % much, falling, J, A, refused(3, 4))
-        planner('p-2-and-3-and-4-%s' % much, put(falling, 13, 0), J, A, refused(2, 13))
-        planner('p-2-and-4-%s' % much, put(over, 13, 0), J, A, refused(2, 13))
-        planner('p-2-and-3-left-over-%s' % much, falling + [1], J, A, refused(2, 14))
-        planner('p-2-and-3-missing-%s' % much, falling[:-1], J, A, refused(2, 13))
-        planner('p-4-and-7-%s' % much, late, J, A, refused(4, 10))
+        planner('p-2-and-3-and-4-%s' % much, put(falling, 15, 0), J, A, refused(2, 15))
+        planner('p-2-and-4-%s' % much, put(over, 15, 0), J, A, refused(2, 15))
+        planner('p-2-and-3-left-over-%s' % much, falling + [1], J, A, refused(2, 16))
+        planner('p-2-and-3-missing-%s' % much, falling[:-1], J, A, refused(2, 15))
+        planner('p-4-and-7-%s' % much, late, J, A, refused(4, 11))
         planner('p-3-and-4-and-7-%s' % much, put(late, 4, 1), J, A, refused(3, 4))
     none = costed((1, 2), [(30, 61, 1, 1)])
     for much, (J, A) in lent.items():
@@ -214,7 +216,7 @@ def planner_lengths():
         planner('p-%s-5-and-6-none' % label, words, 0, 0, refused(5, W))
     # No plan fits, and too little is lent.
     for label, words in (('one', costed((1, 2), [(30, 61, 1, 1)])),
-                         ('two', put(put(S, 8, 81), 13, 121)),
+                         ('two', put(put(S, 8, 81), 14, 121)),
                          ('three-rates', costed((1, 2, 3), [(4, 6, 1, 1, 1)] * 3, 1_000))):
         N, W = counts(words)[1], needed(words)
         planner('p-none-fits-%s' % label, words, N, W, refused(7, 0))
@@ -575,11 +577,10 @@ def some_planned(draw):
     shape = draw.one_of(['random', 'random', 'rising', 'rising', 'falling', 'small', 'small',
                          'equal', 'large', 'edge'])
     for task in range(1, N + 1):
-        at = period_of(M, task) + 2
-        words[at:at + M] = some_energies(draw, M, shape)
+        at, size = period_of(M, task), task_words(M)
+        words[energies_of(M, task):at + size] = some_energies(draw, M, shape)
         if draw.between(1, 6) == 1 and task > 1:        # a twin of the task before
-            size = 2 + M
-            words[at - 2:at + M] = words[at - 2 - size:at + M - size]
+            words[at:at + size] = words[at - size:at]
     if draw.between(1, 25) == 1:
         # One long period; the walk is then too slow for the reference.
         L = r.hyper_period(r.decode(words).tasks)

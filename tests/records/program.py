@@ -3,9 +3,9 @@
 import reference as r
 from records.shared import (
     DAMAGED_PROGRAMS, Draw, EDGES, LONGEST_RANDOM, M_AT, MOST_PRINTED, MOST_TEXT, MOST_WORK,
-    PAST_ONE, RANDOM_PROGRAMS, S, SEED, TOP, costed, head_of, line_of, needed, on_a_line, outside,
-    period_of, put, record, refused, task_count, task_set, text_of, with_periods, with_rates,
-    words_of)
+    PAST_ONE, RANDOM_PROGRAMS, S, SEED, TOP, costed, firsts_of, head_of, line_of, needed, on_a_line,
+    outside, period_of, put, record, refused, task_count, task_set, text_of, with_periods,
+    with_rates, words_of)
 from records.walk import walked
 from records.planner import judged_plan, largest, least_slack, some_planned
 from records.reader import damaged_text, read_again
@@ -34,11 +34,14 @@ def refusal(number, second):
     return on_lines(form('refused', number, second))
 
 
-def plan_lines(unit, load, L, energy, rates, preempted):
-    """The lines of a plan. Its walk is busy for the load, and idle for the rest."""
+def plan_lines(unit, load, L, energy, rates, preempted, busy=None, idle=None):
+    """The lines of a plan. Where all tasks are released together its walk is busy for the load and
+    idle for the rest, which need not be given."""
+    if busy is None:
+        busy, idle = load, L - load
     return on_lines(form('plan', form('unit', unit), form('load', load, L), form('energy', energy)),
                     *(form('rate', task, rate) for task, rate in enumerate(rates, 1)),
-                    form('walk', form('busy', load), form('idle', L - load),
+                    form('walk', form('busy', busy), form('idle', idle),
                          form('preempted', preempted)))
 
 
@@ -54,8 +57,8 @@ def printed_for(name, text):
     else:
         _, unit, load, L, energy, rates = answer
         busy, idle, preempted = walked(words, rates)
-        assert (busy, idle) == (load, L - load), name
-        printed = plan_lines(unit, load, L, energy, rates, preempted)
+        assert any(firsts_of(words)) or (busy, idle) == (load, L - load), name
+        printed = plan_lines(unit, load, L, energy, rates, preempted, busy, idle)
     if L <= LONGEST_RANDOM:
         assert r.respond(text) == printed, name
     return printed
@@ -80,7 +83,7 @@ def program_document():
     roomed('a-slack-of-0', text_of(put(S, 0, 0)), refusal(2, 0))
     roomed('a-rates-4-4', text_of(with_rates((4, 4))), refusal(3, 4))
     roomed('a-periods-9999999-10000000', text_of(with_periods((9_999_999, 10_000_000))),
-           refusal(4, 10))
+           refusal(4, 11))
     roomed('a-document-slack-1', text_of(put(S, 0, 1)), refusal(5, 24_003))
     roomed('a-61-cycles-in-30-ticks', text_of(costed((1, 2), [(30, 61, 1, 1)])), refusal(7, 0))
     program('a-60-cycles-in-30-ticks', text_of(costed((1, 2), [(30, 60, 1, 1)])),
@@ -112,8 +115,8 @@ def program_document():
 
 def program_checks():
     """Each refusal, at each kind of place, and which of several comes first."""
-    kinds = {0: 'slack', 1: 'idle', 7: 'period', 8: 'cycles', 12: 'period', 13: 'cycles'}
-    for place in (0, 1, 3, 4, 5, *range(7, 17)):
+    kinds = {0: 'slack', 1: 'idle', 7: 'period', 8: 'cycles', 9: 'first', 13: 'period', 14: 'cycles'}
+    for place in (0, 1, 3, 4, 5, *range(7, 15), *range(16, 19)):
         for word in [*outside(kinds.get(place, 'rate' if place < 7 else 'energy')), TOP]:
             program('a-word-%02d-%d' % (place, word), text_of(put(S, place, word)),
                     want=refusal(2, place))
@@ -135,8 +138,8 @@ def program_checks():
     late[7] = 4_000_000_000
     program('a-3-before-4', text_of(late), want=refusal(3, 4))
     late[4] = 3
-    program('a-4-before-5', text_of(late), want=refusal(4, 10))
-    late[10] = 9_999_999
+    program('a-4-before-5', text_of(late), want=refusal(4, 11))
+    late[period_of(2, 2)] = 9_999_999
     program('a-5-before-7', text_of(late), want=refusal(5, 24_003))
     late[0] = 2
     program('a-7-at-last', text_of(late), want=refusal(7, 0))

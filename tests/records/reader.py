@@ -5,7 +5,7 @@ import re
 import reference as r
 from records.shared import (
     Draw, IDLE_AT, M_AT, MOST_READ, MOST_TEXT, RANDOM_TEXTS, S, SEED, TOP, chip_of, costed,
-    counts, head_of, length_of, line_of, on_a_line, period_of, put, record, refused, row,
+    counts, first_of, head_of, length_of, line_of, on_a_line, period_of, put, record, refused, row,
     task_count, text_of, was_read, with_periods, words_of)
 from test_reference import EXAMPLE, MOST_CYCLES, plain_reader
 
@@ -42,12 +42,13 @@ def read_back(name, words, lent=None):
 def read_document():
     """The scope document's example, its cases, and the words lent for it."""
     assert text_of(S) == EXAMPLE
-    read('r-document', EXAMPLE, 17, was_read(S))
+    size = len(S)
+    read('r-document', EXAMPLE, size, was_read(S))
     read('r-document-much-lent', EXAMPLE, want=was_read(S))
-    read('r-document-a-word-more', EXAMPLE, 18, was_read(S))
-    read('r-document-a-word-short', EXAMPLE, 16, refused(6, 17))
-    read('r-document-one-word-lent', EXAMPLE, 1, refused(6, 17))
-    read('r-document-none-lent', EXAMPLE, 0, refused(6, 17))
+    read('r-document-a-word-more', EXAMPLE, size + 1, was_read(S))
+    read('r-document-a-word-short', EXAMPLE, size - 1, refused(6, 19))
+    read('r-document-one-word-lent', EXAMPLE, 1, refused(6, 19))
+    read('r-document-none-lent', EXAMPLE, 0, refused(6, 19))
     read('r-empty', b'', 0, refused(1, 0))
     read('r-empty-much-lent', b'', want=refused(1, 0))
     # 1 is looked for before 6.
@@ -61,7 +62,7 @@ def read_document():
     read_back('r-rate-over-a-million', put(S, 5, 1_000_001))
     read_back('r-period-over-ten-million', put(S, 7, 10_000_001))
     read_back('r-cycles-over-four-milliards', put(S, 8, 4_000_000_001))
-    read_back('r-energy-over-a-million', put(S, 16, 1_000_001))
+    read_back('r-energy-over-a-million', put(S, 18, 1_000_001))
     read_back('r-hyper-period-too-long', with_periods((9_999_999, 10_000_000)))
     # What the program reads at most, and the longest text that a record can give.
     for size in (r.BYTES_READ, r.BYTES_READ + 1, MOST_TEXT):
@@ -119,13 +120,14 @@ def read_numbers():
     Catches a largest number that is off by one or wraps at 32 or 64 bits,
     leading zeros that pass, and a number of no digits.
     """
-    places = [0, 3, 4, 5, *range(7, 17)]        # of the numbers in S
+    # Of the numbers in S, the first releases left out.
+    places = [0, 3, 4, 5, 7, 8, 10, 11, 12, 13, 14, 16, 17, 18]
     for place, number in zip(places, re.finditer(rb'[0-9]+', EXAMPLE)):
         for count, (item, departs) in enumerate(ODD_NUMBERS):
             text = EXAMPLE[:number.start()] + item.encode('latin-1') + EXAMPLE[number.end():]
             want = refused(1, number.start() + departs) if departs is not None else \
                 was_read(put(S, place, int(item)))
-            read('r-number-%02d-%02d' % (place, count), text, (17, MOST_READ)[count % 2], want)
+            read('r-number-%02d-%02d' % (place, count), text, (len(S), MOST_READ)[count % 2], want)
 
 
 def read_counts():
@@ -134,7 +136,7 @@ def read_counts():
     head = head_of(5, (6, 7))
     for count in (31, 32):
         read('r-count-tasks-%d' % count, head + line * count, want=was_read(
-            [5, 0, 2, 6, 7, count] + [1, 2, 3, 4] * count))
+            [5, 0, 2, 6, 7, count] + [1, 2, 0, 3, 4] * count))
     read('r-count-no-task', head, want=refused(1, len(head)))
     read('r-count-no-task-none-lent', head, 0, refused(1, len(head)))
     most = len(head + line * 32)
@@ -187,10 +189,10 @@ def read_ends():
              want=refused(1, len(slack + rates + first)))
     read('r-end-bracket', EXAMPLE + b'(', want=refused(1, end + 1))
     read('r-end-twice', EXAMPLE + EXAMPLE, want=refused(1, end + 1))
-    read('r-end-a-task-more', EXAMPLE + first, 22, was_read(put(S, 6, 3) + S[7:12]))
-    read('r-end-a-task-less', slack + rates + first, 12, was_read(put(S, 6, 1)[:12]))
-    read('r-end-tasks-swapped', slack + rates + second + first, 17,
-         was_read(S[:7] + S[12:] + S[7:12]))
+    read('r-end-a-task-more', EXAMPLE + first, 25, was_read(put(S, 6, 3) + S[7:13]))
+    read('r-end-a-task-less', slack + rates + first, 13, was_read(put(S, 6, 1)[:13]))
+    read('r-end-tasks-swapped', slack + rates + second + first, len(S),
+         was_read(S[:7] + S[13:] + S[7:13]))
     read('r-end-rates-first', rates + slack + first, want=refused(1, 1))
     read('r-end-no-slack', rates + first, want=refused(1, 1))
     read('r-end-slack-twice', slack + slack + rates + first, want=refused(1, len(slack) + 1))
@@ -211,14 +213,14 @@ def read_damaged():
     and not of the byte, and a byte class that is too wide.
     """
     def lent(at):
-        return (17, MOST_READ, 0)[at % 3]
+        return (len(S), MOST_READ, 0)[at % 3]
 
     task_ends = [at for at in range(1, len(EXAMPLE) + 1) if EXAMPLE[:at].endswith(b'))\n')]
     for at, byte in enumerate(EXAMPLE):
         if at not in task_ends:
             read('r-cut-%03d' % at, EXAMPLE[:at], lent(at), refused(1, at))
         else:
-            read('r-cut-%03d' % at, EXAMPLE[:at], 12, was_read(put(S, 6, 1)[:12]))
+            read('r-cut-%03d' % at, EXAMPLE[:at], 13, was_read(put(S, 6, 1)[:13]))
         for wrong in b'05() \naT-\x00\xff':
             if wrong == byte:
                 continue
@@ -239,10 +241,12 @@ def some_number(draw):
 
 
 def some_words(draw, M, N):
-    """A list of that shape, whatever the ranges; half of them have no idle energy."""
+    """A list of that shape, whatever the ranges; half of them have no idle energy, and half of their
+    tasks no first release."""
     words = [some_number(draw) for _ in range(length_of(M, N))]
-    if draw.between(0, 1):
-        words[IDLE_AT] = 0
+    for place in (IDLE_AT, *(first_of(M, task) for task in range(1, N + 1))):
+        if draw.between(0, 1):
+            words[place] = 0
     return put(put(words, M_AT, M), task_count(M), N)
 
 
@@ -251,7 +255,7 @@ def damaged_text(draw, text, more=b''):
     text = bytearray(text)
     for _ in range(draw.one_of([1, 1, 1, 2])):
         at = draw.between(0, len(text) - 1)
-        byte = draw.one_of(b'0123456789() \n\rabcdeiklnoprstxy\x00\xff' + more)
+        byte = draw.one_of(b'0123456789() \n\rabcdefiklmnoprstxy\x00\xff' + more)
         how = draw.one_of(['change', 'insert', 'remove', 'cut', 'more', 'copy', 'swap'])
         if how == 'change':
             text[at] = byte

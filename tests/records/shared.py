@@ -29,6 +29,10 @@ RANDOM_IDLE_PLANS = 400         # sets with an idle energy for the planner,
 RANDOM_IDLE_PROGRAMS = 150      # for the program, and
 RANDOM_IDLE_TEXTS = 150         # texts with an idle line for the reader
 RANDOM_MARGINS = 400            # small sets for the planner, held to the margin
+RANDOM_FIRST_WALKS = 500        # sets with first releases for the walk,
+RANDOM_FIRST_PLANS = 120        # for the planner,
+RANDOM_FIRST_PROGRAMS = 120     # for the program, and
+RANDOM_FIRST_TEXTS = 150        # texts with (from A) for the reader
 FEW_PLANS = 1_024               # up to so many, the reference looks at all of them
 TOP = 4_294_967_295             # the largest word
 
@@ -92,7 +96,7 @@ def wrote(text):
 
 # ---------------------------------------------------------------------- sets
 
-S = [100, 0, 3, 2, 4, 8, 2, 10, 12, 4, 9, 20, 15, 20, 7, 15, 30]
+S = [100, 0, 3, 2, 4, 8, 2, 10, 12, 0, 4, 9, 20, 15, 20, 0, 7, 15, 30]
 
 
 # Periods and job times whose load is L. Added as fractions of 53 bits, and of 24 too,
@@ -102,20 +106,32 @@ assert 7 / 30 + 33 / 60 + 9 / 60 + 4 / 60 > 1
 
 
 def task_set(rates, tasks, slack=100, idle=0):
-    """tasks are pairs of period and cycles; the energy at rate j is j."""
-    words = [slack, idle, len(rates), *rates, len(tasks)]
-    for period, cycles in tasks:
-        words += [period, cycles, *range(1, len(rates) + 1)]
-    return words
+    """tasks are pairs of period and cycles; the energy at rate j is j, and every A is 0."""
+    energies = range(1, len(rates) + 1)
+    return costed(rates, [(*task, *energies) for task in tasks], slack, idle)
 
 
 def costed(rates, tasks, slack=100, idle=0):
-    """tasks are period, cycles and the energies."""
+    """tasks are period, cycles and the energies; every A is 0."""
     words = [slack, idle, len(rates), *rates, len(tasks)]
-    for task in tasks:
-        assert len(task) == 2 + len(rates), task
-        words += task
+    for period, cycles, *energies in tasks:
+        assert len(energies) == len(rates), energies
+        words += [period, cycles, 0, *energies]
     return words
+
+
+def with_firsts(words, firsts):
+    """The list with these first releases, one for each task."""
+    M, N = counts(words)
+    assert len(firsts) == N, firsts
+    for task, first in enumerate(firsts, 1):
+        words = put(words, first_of(M, task), first)
+    return words
+
+
+def firsts_of(words):
+    M, N = counts(words)
+    return [words[first_of(M, task)] for task in range(1, N + 1)]
 
 
 # Of each chip of document 02's note 2 the rates, and the microjoules that a tick takes at each.
@@ -157,10 +173,10 @@ def same_tasks(M, N):
     return task_set(range(1, M + 1), [(10, 1)] * N)
 
 
-# The range of each kind of word.
+# The range of each kind of word; of a first release in a task of period 10, as those of same_tasks.
 RANGES = {'slack': (1, 1_000), 'idle': (0, 1_000), 'm': (2, 8), 'rate': (1, 1_000_000),
           'n': (1, 32), 'period': (1, 10_000_000), 'cycles': (1, 4_000_000_000),
-          'energy': (1, 1_000_000)}
+          'first': (0, 9), 'energy': (1, 1_000_000)}
 
 
 def outside(kind):
@@ -170,18 +186,21 @@ def outside(kind):
 
 
 IDLE_AT, M_AT, RATE_AT = 1, 2, 3        # the places of H, of M and of the first rate
+BEFORE_ENERGIES = 3                     # words of a task: period, cycles and first release
 
 
 def places_of(M, N):
-    """A label, the kind and the place of words of every kind, at both ends of a set of N tasks and M rates."""
+    """A label, the kind and the place of words of every kind, at both ends of a set of N tasks and
+    M rates."""
     places = [('slack', 'slack', 0), ('idle', 'idle', IDLE_AT), ('m', 'm', M_AT),
               ('rate-a', 'rate', RATE_AT), ('rate-z', 'rate', last_rate(M)),
               ('n', 'n', task_count(M))]
     for end, task in (('a', 1), ('z', N))[:N]:
         at = period_of(M, task)
         places += [('period-' + end, 'period', at), ('cycles-' + end, 'cycles', at + 1),
-                   ('energy-%sa' % end, 'energy', at + 2),
-                   ('energy-%sz' % end, 'energy', at + 1 + M)]
+                   ('first-' + end, 'first', first_of(M, task)),
+                   ('energy-%sa' % end, 'energy', energies_of(M, task)),
+                   ('energy-%sz' % end, 'energy', energies_of(M, task) + M - 1)]
     return places
 
 
@@ -190,10 +209,12 @@ def put(words, place, word):
 
 
 def with_bad(words, *places):
-    """The list with a word at each of these places that no set has there: 0, and for H, which may
-    be 0, one that is too high."""
+    """The list with a word at each of these places that no set has there: 0, and for H and A, which
+    may be 0, one that is too high."""
+    M, N = counts(words)
+    high = {IDLE_AT: 1_001, **{first_of(M, task): TOP for task in range(1, N + 1)}}
     for place in places:
-        words = put(words, place, 1_001 if place == IDLE_AT else 0)
+        words = put(words, place, high.get(place, 0))
     return words
 
 
@@ -206,7 +227,20 @@ def task_count(M):
 
 
 def period_of(M, task):
-    return task_count(M) + 1 + (task - 1) * (2 + M)
+    return task_count(M) + 1 + (task - 1) * task_words(M)
+
+
+def task_words(M):
+    return BEFORE_ENERGIES + M
+
+
+def first_of(M, task):
+    return period_of(M, task) + 2
+
+
+def energies_of(M, task):
+    """The place of a task's first energy."""
+    return period_of(M, task) + BEFORE_ENERGIES
 
 
 def length_of(M, N):
@@ -235,30 +269,44 @@ def head_of(slack, rates, idle=None):
     return front_of(slack, idle) + ('(rates%s)\n' % row(rates)).encode('latin-1')
 
 
-def line_of(period, cycles, *energies):
-    return ('(task (period %s) (cycles %s) (energy%s))\n'
-            % (period, cycles, row(energies))).encode('latin-1')
+def from_form(first):
+    """What a task may end with, only where it is given."""
+    return '' if first is None else ' (from %s)' % first
+
+
+def line_of(period, cycles, *energies, first=None):
+    return ('(task (period %s) (cycles %s) (energy%s)%s)\n'
+            % (period, cycles, row(energies), from_form(first))).encode('latin-1')
+
+
+def task_lines(words):
+    """The lines of a list's tasks, with a form for A unless it is 0."""
+    M, N = counts(words)
+    assert len(words) == length_of(M, N)
+    tasks = [words[period_of(M, task):period_of(M, task + 1)] for task in range(1, N + 1)]
+    return b''.join(line_of(period, cycles, *energies, first=first or None)
+                    for period, cycles, first, *energies in tasks)
 
 
 def text_of(words):
-    """The text that says a list of words, whatever their ranges, with an idle line unless H is 0. M
-    and N are those of the list."""
-    M, N = counts(words)
-    tasks = [words[at:at + 2 + M] for at in range(period_of(M, 1), len(words), 2 + M)]
-    assert N == len(tasks)
+    """The text that says a list of words, whatever their ranges, with an idle line unless H is 0 and
+    with a form for each A that is not 0. M and N are those of the list."""
+    M, _ = counts(words)
     head = head_of(words[0], words[RATE_AT:RATE_AT + M], words[IDLE_AT] or None)
-    return head + b''.join(line_of(*task) for task in tasks)
+    return head + task_lines(words)
 
 
 def chip_head(chip, slack, idle=None):
     return front_of(slack, idle) + ('(chip %s)\n' % chip).encode('latin-1')
 
 
-def chip_line(period, cycles):
-    return ('(task (period %s) (cycles %s))\n' % (period, cycles)).encode('latin-1')
+def chip_line(period, cycles, first=None):
+    return ('(task (period %s) (cycles %s)%s)\n'
+            % (period, cycles, from_form(first))).encode('latin-1')
 
 
 def chip_text(chip, slack, tasks, idle=None):
+    """tasks are period and cycles, and A where it is given."""
     return chip_head(chip, slack, idle) + b''.join(chip_line(*task) for task in tasks)
 
 
@@ -270,16 +318,23 @@ def chip_of(text):
 
 def words_of(text):
     """The words of a well-formed text, whatever their ranges; those of a chip's text expanded."""
-    (slack,), *others = ([int(number) for number in re.findall(rb'[0-9]+', line)]
-                         for line in text.split(b'\n')[:-1])
+    lines = text.split(b'\n')[:-1]
+    numbers = [[int(number) for number in re.findall(rb'[0-9]+', line)] for line in lines]
+    # A is the last number of its line, where it is given.
+    firsts = [row.pop() if b'(from ' in line else None
+              for line, row in zip(lines, numbers) if line.startswith(b'(task')]
+    (slack,), *others = numbers
     idle = others.pop(0)[0] if b'(idle ' in text else None
     chip, rates, *tasks = chip_of(text), *others
     if chip:
-        assert chip_text(chip, slack, tasks, idle) == text
-        return expanded(chip, slack, tasks, idle)
-    words = costed(rates, tasks, slack, idle or 0)
-    assert head_of(slack, rates, idle) + b''.join(line_of(*task) for task in tasks) == text
-    return words
+        words = expanded(chip, slack, tasks, idle)
+        again = chip_text(chip, slack, [(*task, first) for task, first in zip(tasks, firsts)], idle)
+    else:
+        words = costed(rates, tasks, slack, idle or 0)
+        again = head_of(slack, rates, idle) + b''.join(
+            line_of(*task, first=first) for task, first in zip(tasks, firsts))
+    assert again == text
+    return with_firsts(words, [first or 0 for first in firsts])
 
 
 # ------------------------------------------------------------ random choices
@@ -342,7 +397,7 @@ def damaged(draw, words):
             if at < len(words) and 0 < words[at] < TOP:
                 words[at] += draw.one_of([1, -1])
         elif how == 'period' and len(words) > period_of(M, 1):
-            tasks = (len(words) - period_of(M, 1)) // (2 + M)
+            tasks = (len(words) - period_of(M, 1)) // task_words(M)
             at = period_of(M, draw.between(1, max(1, tasks)))
             if at < len(words):
                 words[at] = draw.one_of([9_999_991, 9_999_999, 10_000_000, 7_654_321, 1_048_576])

@@ -22,19 +22,21 @@ def walked(words, rates):
     """The counts of the walk of a plan that is kept. The walk goes from one
     release or end of a job to the next."""
     s = r.decode(words)
-    L = r.hyper_period(s.tasks)
+    end = r.hyper_period(s.tasks)
+    if any(task.first for task in s.tasks):
+        end *= 2
     time = [-(-task.cycles // s.rates[rate - 1]) for task, rate in zip(s.tasks, rates)]
     releases = sorted((tick, i) for i, task in enumerate(s.tasks)
-                      for tick in range(0, L, task.period))
+                      for tick in range(task.first, end, task.period))
     jobs = []                   # deadline, task and ticks left of each unfinished job
     broken = None               # the job of the tick before, if it is unfinished
     now = at = busy = preemptions = 0
-    while now < L:
+    while now < end:
         while at < len(releases) and releases[at][0] == now:
             i = releases[at][1]
             heapq.heappush(jobs, (now + s.tasks[i].period, i, time[i]))
             at += 1
-        until = releases[at][0] if at < len(releases) else L
+        until = releases[at][0] if at < len(releases) else end
         if not jobs:
             now, broken = until, None
             continue
@@ -49,8 +51,8 @@ def walked(words, rates):
         else:
             heapq.heappop(jobs)
             broken = None
-    assert not jobs, 'missed'
-    return busy, L - busy, preemptions
+    assert all(deadline > end for deadline, _, _ in jobs), 'missed'
+    return busy, end - busy, preemptions
 
 
 def timed(name, tasks, want=None):
@@ -155,7 +157,7 @@ def one_task():
     # Slack and energies are nothing to the walk, the idle energy neither (idle.py has more of it).
     for slack in (1, 1_000):
         walk('walk-with-slack-%d' % slack, put(S, 0, slack), [2, 1], kept(29, 1, 1))
-    walk('walk-with-other-energies', S[:9] + [1_000_000, 1, 1, 15, 20, 1, 1, 1_000_000],
+    walk('walk-with-other-energies', S[:10] + [1_000_000, 1, 1, 15, 20, 0, 1, 1, 1_000_000],
          [2, 1], kept(29, 1, 1))
 
 
@@ -361,7 +363,7 @@ def some_walk(draw):
         f = rates[rate - 1]
         low, high = (time - 1) * f + 1, time * f        # all of them round up to the time
         cycles = draw.one_of([low, high, draw.between(low, high)])
-        words += [period, cycles] + [draw.between(1, most) for _ in range(M)]
+        words += [period, cycles, 0] + [draw.between(1, most) for _ in range(M)]
     return words, plan
 
 

@@ -40,7 +40,8 @@ def write_document():
         write('t-empty-list-%d' % lent, [], lent, refused(2, 0))
         write('t-rates-4-4-%d' % lent, with_rates((4, 4)), lent, refused(3, 4))
         # 2 before 3.
-        write('t-rates-4-4-energy-0-%d' % lent, put(with_rates((4, 4)), 9, 0), lent, refused(2, 9))
+        write('t-rates-4-4-energy-0-%d' % lent, put(with_rates((4, 4)), 10, 0), lent,
+              refused(2, 10))
     # The writer makes no check 4, and none after it.
     written('t-hyper-period-too-long', with_periods((9_999_999, 10_000_000)))
     written('t-no-plan-fits', task_set((1, 2), [(30, 61)]))
@@ -67,7 +68,7 @@ def write_shapes():
                     costed(rates, [task] * N, low['slack'], low['idle']))
     # The last number of each length, and the first of the next.
     for kind, place in (('slack', 0), ('idle', 1), ('rate', 5), ('period', 7), ('cycles', 8),
-                        ('energy', 9), ('energy', 16)):
+                        ('energy', 10), ('energy', 18)):
         for power in range(1, 10):
             for word in (10 ** power - 1, 10 ** power):
                 if word <= RANGES[kind][1] and (kind != 'rate' or word > 4):
