@@ -21,19 +21,21 @@
  * a list count from 0, as C counts: in a table of the M rates of a set, rate number r stands at entry r - 1, and entry
  * M is past its end. In a plan, the rate number of task number k stands at entry k - 1.
  *
- * A SET is 4 + M + N x (2 + M) words, at most 332: the slack in thousandths, 1 to 1,000; the idle energy H in
+ * A SET is 4 + M + N x (3 + M) words, at most 364: the slack in thousandths, 1 to 1,000; the idle energy H in
  * microjoules per tick, 0 to 1,000, which is drawn in each tick in which no job runs; the number of rates M, 2 to 8;
  * the M rates in cycles a tick, each 1 to 1,000,000 and above the one before it; the number of tasks N, 1 to 32; then
- * for each task its period in ticks, 1 to 10,000,000, the cycles of one job, 1 to 4,000,000,000, and M energies in
- * microjoules per job, at rate numbers 1, 2, .. M, each 1 to 1,000,000. The hyper-period, the least common multiple of
- * the periods, is at most 10,000,000. The planner asks besides that no energy is below H x the job time, which is
- * cycles / rate rounded up to whole ticks: an energy is all that is drawn while the job runs, and not only what is
- * drawn above H.
+ * for each task its period in ticks, 1 to 10,000,000, the cycles of one job, 1 to 4,000,000,000, its first release A,
+ * the tick at which its first job is released, 0 to its own period - 1, and M energies in microjoules per job, at rate
+ * numbers 1, 2, .. M, each 1 to 1,000,000. The hyper-period, the least common multiple of the periods, is at most
+ * 10,000,000. The planner asks besides that no energy is below H x the job time, which is cycles / rate rounded up to
+ * whole ticks: an energy is all that is drawn while the job runs, and not only what is drawn above H.
  *
- * For example 100 0 3 2 4 8 2 10 12 4 9 20 15 20 7 15 30 has slack 100, nothing drawn while no job runs, the 3 rates 2,
- * 4 and 8, and 2 tasks: one of period 10 and 12 cycles with energies 4, 9 and 20, one of period 15 and 20 cycles with
- * energies 7, 15 and 30. And 100 10 2 1 9 1 100 90 910 200 has an idle energy of 10, the rates 1 and 9, and one task of
- * period 100 and 90 cycles, whose job takes 90 ticks and 910 microjoules, or 10 ticks and 200.
+ * For example 100 0 3 2 4 8 2 10 12 0 4 9 20 15 20 0 7 15 30 has slack 100, nothing drawn while no job runs, the 3
+ * rates 2, 4 and 8, and 2 tasks that are released together: one of period 10 and 12 cycles with energies 4, 9 and 20,
+ * one of period 15 and 20 cycles with energies 7, 15 and 30. With a 3 in place of the first task's 0, that task's jobs
+ * are released at 3, 13, 23 and so on, each to be finished 10 ticks later. And 100 10 2 1 9 1 100 90 0 910 200 has an
+ * idle energy of 10, the rates 1 and 9, and one task of period 100 and 90 cycles, whose job takes 90 ticks and 910
+ * microjoules, or 10 ticks and 200.
  */
 #ifndef SEEDSPELL_H
 #define SEEDSPELL_H
@@ -45,17 +47,19 @@
 extern "C" {
 #endif
 
-/* The version of the layout of a set's list. 2 is the one above. 1 had no idle energy: there the number of rates stood
- * straight behind the slack. A list of one layout means something else in the other, and need not be refused, so a
- * caller that makes its lists for this one does well not to compile with another:
+/* The version of the layout of a set's list. 3 is the one above. 2 had no first releases: there a task's energies stood
+ * straight behind its cycles. 1 had no idle energy either: there the number of rates stood straight behind the slack. A
+ * list of one layout means something else in another, and need not be refused, so a caller that makes its lists for
+ * this one does well not to compile with another:
  *
- *     #if SEEDSPELL_LIST_VERSION != 2
- *     #error "this caller makes lists with the idle energy behind the slack"
+ *     #if SEEDSPELL_LIST_VERSION != 3
+ *     #error "this caller makes lists with a first release behind each task's cycles"
  *     #endif
  *
- * A 0 inserted behind the first word makes a list of version 1 one of version 2. It is then answered as it was, but
- * that every place behind the slack's is one higher in a refusal. */
-#define SEEDSPELL_LIST_VERSION 2
+ * A 0 inserted behind each task's cycles makes a list of version 2 one of version 3; in a list of version 1 a 0 goes
+ * behind the first word too. It is then answered as it was, but that a place in a refusal is higher by as many 0s as
+ * stand before it. */
+#define SEEDSPELL_LIST_VERSION 3
 
 /* The refusals' numbers; behind each its cause, and its second number. Of several causes the first in a call's own
  * order is the one returned. No call from C returns 1 or 9: these are of texts, which the program reads. */
@@ -70,7 +74,8 @@ extern "C" {
 #define SEEDSPELL_REFUSED_RECEIVING_LIST_SHORT 6  /* no room for the plan, for the generator's set, or for the results;
                                                      the words needed for the plan or the set, or the bytes for the
                                                      results */
-#define SEEDSPELL_REFUSED_NO_PLAN_FITS 7          /* no plan keeps every deadline; 0 */
+#define SEEDSPELL_REFUSED_NO_PLAN_FITS 7          /* no plan keeps every deadline, all tasks being released together;
+                                                     0 */
 #define SEEDSPELL_REFUSED_BAD_WALK_PLAN 8         /* the plan that the walk is given; the lowest place of a word that is
                                                      not 1 to M, or its length if it is short, or N if it is long */
 #define SEEDSPELL_REFUSED_CHIP_ENERGY_TOO_HIGH 9  /* a text names a chip, and an energy worked out by the chip's tables
@@ -91,10 +96,12 @@ extern "C" {
 #define SEEDSPELL_RESULT_BYTES 32
 
 /* The most words of a generated set, one of 32 tasks. */
-#define SEEDSPELL_GENERATED_WORDS 233
+#define SEEDSPELL_GENERATED_WORDS 265
 
-/* The walk: every tick from 0 to the hyper-period, all tasks released at 0, the earliest deadline first and of equal
- * deadlines the lower task number.
+/* The walk: every tick from 0 to the hyper-period L where every first release is 0, and to 2 x L where some first
+ * release is above 0. A task's jobs are released at its first release and every period after it, each with its deadline
+ * one period later; the earliest deadline runs first, and of equal deadlines the lower task number. Every deadline up
+ * to the last tick, and at it, is looked at.
  *
  * set, set_len          the set
  * plan, plan_len        a rate number, 1 to M, for each of the N tasks: exactly N words. Of a longer list that the
@@ -102,17 +109,23 @@ extern "C" {
  * results, results_len  receives the results, at least 32 bytes
  *
  * Returns 0 and leaves in the first 32 bytes of results
- *   1, busy ticks, idle ticks, preemptions      if every deadline is kept: then the plan keeps every deadline for
- *                                               ever, and the busy ticks are its load;
+ *   1, busy ticks, idle ticks, preemptions      if each of these deadlines is kept. With every first release 0 the plan
+ *                                               then keeps every deadline for ever, and the busy ticks are its load.
+ *                                               With some above 0 it means just that stretch: busy and idle ticks come
+ *                                               to 2 x L, a job that is unfinished there and has its deadline later is
+ *                                               no miss, and a plan that the planner did not give may miss later;
  *   0, tick, task number, 0                     if a deadline is missed, at that tick, by that task, the lowest
  *                                               numbered of those that miss theirs then: the plan does not keep
- *                                               every deadline for ever;
+ *                                               every deadline for ever from these first releases, nor with all
+ *                                               tasks released together;
  * or refuses: 2, 3, 4, 8, and then 6 with 32, in this order. */
 uint64_t seedspell_walk(const uint32_t *set, size_t set_len, const uint32_t *plan, size_t plan_len,
                         uint8_t *results, size_t results_len);
 
 /* The planner: a rate for each task, so that every deadline is kept for ever, at an energy over the hyper-period, of
- * jobs and of waiting together, that is within the slack of the least possible, and within a margin in microjoules.
+ * jobs and of waiting together, that is within the slack of the least possible, and within a margin in microjoules. It
+ * plans for tasks that are released together: beyond check 2 it does not look at the first releases, and its plan keeps
+ * every deadline for ever under every choice of them, each below its task's period.
  *
  * set, set_len          the set
  * plan, plan_len        receives the plan, at least N words: 32 are enough for every set
@@ -128,12 +141,12 @@ uint64_t seedspell_walk(const uint32_t *set, size_t set_len, const uint32_t *pla
  *                                               the hyper-period in microjoules: that of its jobs, as the set gives
  *                                               it, plus H x (L - load), which is drawn in the ticks in which no job
  *                                               runs. The plan keeps every deadline for ever. If e is the energy of
- *                                               any plan that does, (1,000 + slack) x e is at least 1,000 x this one,
- *                                               and e + N x (unit - 1) is at least this one: with unit 1 this one is
- *                                               the least there is;
+ *                                               any plan that does, all tasks being released together, (1,000 + slack)
+ *                                               x e is at least 1,000 x this one, and e + N x (unit - 1) is at least
+ *                                               this one: with unit 1 this one is the least there is;
  * or refuses: 2, 3, 10, 4, 5 with W, 6 with N for the plan list, 6 with 32 for the results, and then 7, in this order.
- * 7 is returned if and only if none of the others applies and no plan keeps every deadline for ever. On a refusal
- * nothing is changed.
+ * 7 is returned if and only if none of the others applies and no plan keeps every deadline for ever, all tasks being
+ * released together. On a refusal nothing is changed.
  *
  * N x (unit - 1) is the margin: the energy exceeds that of any plan that keeps every deadline by at most so many
  * microjoules. It is 0 where the unit is 1, and nowhere else; only there may a host say 'least'. The unit is at least 1
@@ -150,14 +163,14 @@ uint64_t seedspell_plan(const uint32_t *set, size_t set_len, uint32_t *plan, siz
  *
  * seed                  any word
  * n                     the number of tasks N, 1 to 32
- * set, set_len          receives the set, at least 9 + 7 x N words: SEEDSPELL_GENERATED_WORDS are enough for every N
+ * set, set_len          receives the set, at least 9 + 8 x N words: SEEDSPELL_GENERATED_WORDS are enough for every N
  * results, results_len  receives the results, at least 32 bytes
  *
- * Returns 0 and leaves in the first 9 + 7 x N words of set a set of five rates and N tasks, with an idle energy of 0,
- * which passes checks 2, 3, 10 and 4 and whose hyper-period divides 400, but may have no plan; and in the first 32
- * bytes of results
- *   length, 0, 0, 0                             the set's length, 9 + 7 x N;
- * or refuses: 2 with 0 for N outside 1 to 32, 6 with 9 + 7 x N for the set list, and then 6 with 32 for the results, in
+ * Returns 0 and leaves in the first 9 + 8 x N words of set a set of five rates and N tasks, with an idle energy and
+ * first releases of 0, which passes checks 2, 3, 10 and 4 and whose hyper-period divides 400, but may have no plan; and
+ * in the first 32 bytes of results
+ *   length, 0, 0, 0                             the set's length, 9 + 8 x N;
+ * or refuses: 2 with 0 for N outside 1 to 32, 6 with 9 + 8 x N for the set list, and then 6 with 32 for the results, in
  * this order. On a refusal nothing is changed. */
 uint64_t seedspell_generate(uint32_t seed, uint32_t n, uint32_t *set, size_t set_len,
                             uint8_t *results, size_t results_len);

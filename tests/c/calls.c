@@ -1,5 +1,6 @@
 /* Calls the three entries of the archive many times and holds every answer, every lent word and what lies around the
-   lists to document 01, with the generator and the idle energy of document 02's notes 1 and 4, as reference.c reads them.
+   lists to document 01, with the generator, the idle energy and the first releases of document 02's notes 1, 4 and 6,
+   as reference.c reads them.
    The energy of a plan is also held to the least that there is, which least.c finds by going through all plans: to the
    slack, and to the margin of document 02's note 5.
 
@@ -64,6 +65,8 @@ static struct {
     uint64_t calls[ENTRIES], refused[ENTRIES][11], results_short[ENTRIES];
     uint64_t planned, kept, missed;
     uint64_t with_idle, idle_ticks, nothing_left, one_low, walked_low;
+    uint64_t bad_first[ENTRIES], first_at_period[ENTRIES], planned_from;
+    uint64_t kept_from, work_left, kept_over, missed_from, missed_after, missed_at_twice;
     uint64_t unit_1, unit_above_1, highest_last, full_load, one_over, alike, both_ways[2], preempted, full_walk, missed_at_end;
     uint64_t long_span;
     uint64_t judged_1, judged_above_1, above_least, margin_used, margin_of_several, margin_with_idle;
@@ -79,6 +82,8 @@ struct row {
 static const struct row rows[] = {
     {"calls of seedspell_plan", &count.calls[PLAN], 80000},
     {"  refused 2: bad word", &count.refused[PLAN][2], 10000},
+    {"    of these a first release", &count.bad_first[PLAN], 3000},
+    {"      just the period", &count.first_at_period[PLAN], 100},
     {"  refused 3: rate not above", &count.refused[PLAN][3], 1000},
     {"  refused 10: energy below idle", &count.refused[PLAN][10], 3000},
     {"    of these below by 1", &count.one_low, 500},
@@ -92,6 +97,7 @@ static const struct row rows[] = {
     {"    with an idle energy", &count.with_idle, 8000},
     {"      and idle ticks", &count.idle_ticks, 4000},
     {"      and of jobs nothing left", &count.nothing_left, 300},
+    {"    with first releases", &count.planned_from, 5000},
     {"    of load L", &count.full_load, 2000},
     {"    unit 1", &count.unit_1, 1000},
     {"    unit above 1", &count.unit_above_1, 1000},
@@ -107,6 +113,8 @@ static const struct row rows[] = {
     {"        with an idle energy", &count.margin_with_idle, 500},
     {"calls of seedspell_walk", &count.calls[WALK], 80000},
     {"  refused 2: bad word", &count.refused[WALK][2], 10000},
+    {"    of these a first release", &count.bad_first[WALK], 3000},
+    {"      just the period", &count.first_at_period[WALK], 100},
     {"  refused 3: rate not above", &count.refused[WALK][3], 1000},
     {"  refused 4: hyper-period", &count.refused[WALK][4], 1000},
     {"  refused 6: results", &count.refused[WALK][6], 1000},
@@ -115,8 +123,14 @@ static const struct row rows[] = {
     {"    with preemptions", &count.preempted, 2000},
     {"    without idle ticks", &count.full_walk, 2000},
     {"    with an energy below idle", &count.walked_low, 1000},
+    {"    with first releases", &count.kept_from, 5000},
+    {"      and work left at 2 x L", &count.work_left, 2000},
+    {"      and a load over L", &count.kept_over, 300},
     {"  missed", &count.missed, 20000},
     {"    at the last tick", &count.missed_at_end, 1000},
+    {"    with first releases", &count.missed_from, 5000},
+    {"      after L", &count.missed_after, 500},
+    {"      at 2 x L itself", &count.missed_at_twice, 50},
     {"hyper-period over 2,000", &count.long_span, 10},
     {"calls of seedspell_generate", &count.calls[GENERATE], 60000},
     {"  refused 2: number of tasks", &count.refused[GENERATE][2], 5000},
@@ -134,8 +148,8 @@ static const struct row rows[] = {
 /* Of a set, the ticks of a job by an energy's place, times H. */
 static uint64_t waiting_at(const uint32_t *set, size_t place)
 {
-    size_t rates = set[2], task = (place - 4 - rates) / (2 + rates), at = 4 + rates + task * (2 + rates);
-    uint64_t rate = set[3 + place - at - 2];
+    size_t rates = set[2], task = (place - 4 - rates) / (3 + rates), at = 4 + rates + task * (3 + rates);
+    uint64_t rate = set[3 + place - at - 3];
 
     return set[1] * ((set[at + 1] + rate - 1) / rate);
 }
@@ -143,12 +157,51 @@ static uint64_t waiting_at(const uint32_t *set, size_t place)
 /* Whether some energy of a set is below what waiting costs. */
 static int is_low(const uint32_t *set)
 {
-    size_t rates = set[2], end = 4 + rates + set[3 + rates] * (2 + rates);
+    size_t rates = set[2], end = 4 + rates + set[3 + rates] * (3 + rates);
 
     for (size_t place = 4 + rates; place < end; place++)
-        if ((place - 4 - rates) % (2 + rates) > 1 && set[place] < waiting_at(set, place))
+        if ((place - 4 - rates) % (3 + rates) > 2 && set[place] < waiting_at(set, place))
             return 1;
     return 0;
+}
+
+/* Whether some first release of a set is above 0. */
+static int has_firsts(const uint32_t *set)
+{
+    size_t rates = set[2];
+
+    for (size_t t = 0; t < set[3 + rates]; t++)
+        if (set[4 + rates + t * (3 + rates) + 2] > 0)
+            return 1;
+    return 0;
+}
+
+/* Of refusal 2: whether the word that it names is there, and is a first release. */
+static int is_first(const struct call *c, uint64_t place)
+{
+    uint64_t rates = place > 3 ? c->set.word[2] : 0;
+
+    return place < c->set_len && place > 3 + rates && (place - 4 - rates) % (3 + rates) == 2;
+}
+
+static void count_bad_first(const struct call *c, uint64_t place)
+{
+    count.bad_first[c->entry]++;
+    count.first_at_period[c->entry] += c->set.word[place] == c->set.word[place - 2];
+}
+
+/* Of the walk to 2 x L, which a first release above 0 makes. */
+static void count_walk_from(const struct answer *want)
+{
+    if (want->value[0] == 1) {
+        count.kept_from++;
+        count.work_left += want->value[1] < 2 * want->load;
+        count.kept_over += want->load > want->span;
+    } else {
+        count.missed_from++;
+        count.missed_after += want->value[1] > want->span;
+        count.missed_at_twice += want->value[1] == want->end;
+    }
 }
 
 static void count_call(const struct call *c, const struct answer *want)
@@ -159,6 +212,8 @@ static void count_call(const struct call *c, const struct answer *want)
     count.calls[c->entry]++;
     count.refused[c->entry][refused]++;
     count.long_span += want->span > SHORT_SPAN;
+    if (c->entry != GENERATE && refused == 2 && is_first(c, want->code & UINT32_MAX))
+        count_bad_first(c, want->code & UINT32_MAX);
     count.results_short[c->entry] += want->code == ((uint64_t)6 << 32) + RESULT_BYTES && c->results_len < RESULT_BYTES;
     if (c->entry == PLAN) {
         count.one_over += refused == 7 && want->least_load == want->span + 1;
@@ -168,6 +223,7 @@ static void count_call(const struct call *c, const struct answer *want)
             return;
         count.planned++;
         count.with_idle += set[1] > 0;
+        count.planned_from += has_firsts(set);
         count.idle_ticks += set[1] > 0 && want->value[1] < want->span;
         count.nothing_left += set[1] > 0 && want->value[3] == want->waiting;
         count.full_load += want->value[1] == want->span;
@@ -186,7 +242,9 @@ static void count_call(const struct call *c, const struct answer *want)
         count.preempted += want->value[0] == 1 && want->value[3] > 0;
         count.full_walk += want->value[0] == 1 && want->value[2] == 0;
         count.missed += want->value[0] == 0;
-        count.missed_at_end += want->value[0] == 0 && want->value[1] == want->span;
+        count.missed_at_end += want->value[0] == 0 && want->value[1] == want->end;
+        if (want->end > want->span)
+            count_walk_from(want);
     }
 }
 
@@ -648,7 +706,7 @@ static void plan_lending(const struct list *set, size_t plan_len, size_t work_le
 
 static void cases_of_s(void)
 {
-    static const uint32_t s[] = {100, 0, 3, 2, 4, 8, 2, 10, 12, 4, 9, 20, 15, 20, 7, 15, 30};
+    static const uint32_t s[] = {100, 0, 3, 2, 4, 8, 2, 10, 12, 0, 4, 9, 20, 15, 20, 0, 7, 15, 30};
     struct list set = list_of(s, COUNT(s));
     struct answer want;
 
@@ -675,7 +733,7 @@ static void cases_of_s(void)
     set.word[0] = 100;
     set.word[1] = 1;
     plan_lending(&set, 2, 243, &want);
-    demand(is_refusal(&want, 10, 9), "S with an idle energy of 1");
+    demand(is_refusal(&want, 10, 10), "S with an idle energy of 1");
     walk_under(&set, (const uint32_t[]){2, 1}, 2, &want);
     demand(has_values(&want, 1, 29, 1, 1), "its walk of 2 1");
     set.word[1] = 1001;
@@ -685,11 +743,11 @@ static void cases_of_s(void)
 
 static void cases_of_others(void)
 {
-    struct list set = list_of((const uint32_t[]){100, 0, 2, 1, 2, 1, 30, 60, 1, 2}, 10);
-    struct list rates = list_of((const uint32_t[]){100, 0, 2, 4, 4, 1, 30, 60, 1, 2}, 10);
-    struct list energy = list_of((const uint32_t[]){1000, 0, 2, 1, 2, 1, 30, 30, 33, 33}, 10);
-    struct list periods = list_of((const uint32_t[]){100, 0, 2, 1, 2, 2, 9999999, 1, 1, 1, 10000000, 1, 1, 1}, 14);
-    struct list period = list_of((const uint32_t[]){100, 0, 2, 1, 2, 1, 10000000, 1, 1, 1}, 10);
+    struct list set = list_of((const uint32_t[]){100, 0, 2, 1, 2, 1, 30, 60, 0, 1, 2}, 11);
+    struct list rates = list_of((const uint32_t[]){100, 0, 2, 4, 4, 1, 30, 60, 0, 1, 2}, 11);
+    struct list energy = list_of((const uint32_t[]){1000, 0, 2, 1, 2, 1, 30, 30, 0, 33, 33}, 11);
+    struct list periods = list_of((const uint32_t[]){100, 0, 2, 1, 2, 2, 9999999, 1, 0, 1, 1, 10000000, 1, 0, 1, 1}, 16);
+    struct list period = list_of((const uint32_t[]){100, 0, 2, 1, 2, 1, 10000000, 1, 0, 1, 1}, 11);
     struct list empty = {{0}, 0};
     struct answer want;
 
@@ -705,11 +763,11 @@ static void cases_of_others(void)
     plan_lending(&empty, 1, 82, &want);
     demand(is_refusal(&want, 2, 0), "empty list");
     plan_lending(&periods, 2, 243, &want);
-    demand(is_refusal(&want, 4, 10), "periods 9,999,999 and 10,000,000");
+    demand(is_refusal(&want, 4, 11), "periods 9,999,999 and 10,000,000");
     plan_lending(&period, 1, 82, &want);
     demand(want.code == 0 && want.value[2] == 10000000, "period of 10,000,000");
     walk_under(&periods, (const uint32_t[]){1, 1}, 2, &want);
-    demand(is_refusal(&want, 4, 10), "walk of periods 9,999,999 and 10,000,000");
+    demand(is_refusal(&want, 4, 11), "walk of periods 9,999,999 and 10,000,000");
     walk_under(&rates, (const uint32_t[]){1}, 1, &want);
     demand(is_refusal(&want, 3, 4), "walk of rates 4 4");
     walk_under(&empty, (const uint32_t[]){1}, 1, &want);
@@ -726,23 +784,23 @@ static void cases_of_idle(void)
     } cases[] = {
         {10, 910, 200, 0, 0, 1, 90, 1010, 1},
         {0, 910, 200, 0, 0, 8, 10, 200, 2},
-        {11, 910, 200, 10, 8, 0, 0, 0, 0},
+        {11, 910, 200, 10, 9, 0, 0, 0, 0},
         {10, 900, 200, 0, 0, 1, 90, 1000, 1},   /* nothing is left of the slow rate's, */
-        {10, 899, 200, 10, 8, 0, 0, 0, 0},
+        {10, 899, 200, 10, 9, 0, 0, 0, 0},
         {10, 910, 100, 0, 0, 1, 10, 1000, 2},   /* of the fast one's, and so the first unit is 1, */
-        {10, 910, 99, 10, 9, 0, 0, 0, 0},
+        {10, 910, 99, 10, 10, 0, 0, 0, 0},
         {10, 900, 100, 0, 0, 1, 10, 1000, 2},   /* and of both, where the load decides */
         {10, 900, 101, 0, 0, 1, 90, 1000, 1},
-        {10, 899, 99, 10, 8, 0, 0, 0, 0},
+        {10, 899, 99, 10, 9, 0, 0, 0, 0},
         {1000, 1000000, 1000000, 0, 0, 32768, 90, 1010000, 1},
     };
-    struct list set = list_of((const uint32_t[]){100, 0, 2, 1, 9, 1, 100, 90, 0, 0}, 10);
+    struct list set = list_of((const uint32_t[]){100, 0, 2, 1, 9, 1, 100, 90, 0, 0, 0}, 11);
     struct answer want;
 
     for (size_t i = 0; i < COUNT(cases); i++) {
         set.word[1] = cases[i].idle;
-        set.word[8] = cases[i].slow;
-        set.word[9] = cases[i].fast;
+        set.word[9] = cases[i].slow;
+        set.word[10] = cases[i].fast;
         plan_lending(&set, 1, 82, &want);
         demand(cases[i].number > 0 ? is_refusal(&want, cases[i].number, cases[i].second)
                                    : has_values(&want, cases[i].unit, cases[i].load, 100, cases[i].energy)
@@ -752,9 +810,69 @@ static void cases_of_idle(void)
         demand(has_values(&want, 1, 90, 10, 0), "a walk with an idle energy");
     }
     /* 512 x 2^23 is 0 at 32 bits. */
-    set = list_of((const uint32_t[]){100, 512, 2, 1, 2, 1, 10000000, 8388608, 1000000, 1000000}, 10);
+    set = list_of((const uint32_t[]){100, 512, 2, 1, 2, 1, 10000000, 8388608, 0, 1000000, 1000000}, 11);
     plan_lending(&set, 1, 82, &want);
-    demand(is_refusal(&want, 10, 8), "a job of 8,388,608 ticks");
+    demand(is_refusal(&want, 10, 9), "a job of 8,388,608 ticks");
+}
+
+/* Tasks with a period, a job time at rate 1 and a first release; the second rate is twice as fast. */
+static void timed_shape(struct shape *shape, const uint32_t (*task)[3], uint32_t tasks)
+{
+    *shape = (struct shape){.slack = 100, .rates = 2, .rate = {1, 2}, .tasks = tasks};
+    for (uint32_t t = 0; t < tasks; t++) {
+        shape->period[t] = task[t][0];
+        shape->cycles[t] = task[t][1];
+        shape->first[t] = task[t][2];
+        shape->energy[t][0] = 1;
+        shape->energy[t][1] = 2;
+    }
+}
+
+/* Worked by hand: walks of one or two tasks at rate 1. The first is kept though its load is 3 and L is 2; in the second
+   'unfinished', asked after a tick's releases, would count a third preemption. */
+static void cases_of_firsts(void)
+{
+    static const struct {
+        uint32_t tasks, task[2][3];
+        uint64_t value[4];
+    } cases[] = {
+        {2, {{2, 1, 0}, {2, 2, 1}}, {1, 4, 0, 0}},
+        {2, {{2, 1, 1}, {4, 2, 1}}, {1, 7, 1, 2}},
+        {2, {{2, 1, 0}, {4, 2, 0}}, {1, 4, 0, 1}},      /* all 0: to L */
+        {1, {{5, 3, 2}}, {1, 6, 4, 0}},
+        {1, {{5, 5, 4}}, {1, 6, 4, 0}},                 /* four ticks are left at 10, until 14 */
+        {1, {{5, 6, 2}}, {0, 7, 1, 0}},
+        {2, {{4, 4, 0}, {4, 2, 3}}, {0, 8, 1, 0}},      /* at 2 x L itself */
+        {2, {{4, 2, 0}, {4, 2, 3}}, {1, 7, 1, 0}},
+        {2, {{6, 3, 0}, {2, 1, 1}}, {1, 12, 0, 4}},
+    };
+    struct list set;
+    struct answer want, plain;
+
+    for (size_t i = 0; i < COUNT(cases); i++) {
+        const uint64_t *value = cases[i].value;
+        struct shape shape;
+        timed_shape(&shape, cases[i].task, cases[i].tasks);
+        flatten(&shape, &set);
+        walk_under(&set, (const uint32_t[]){1, 1}, cases[i].tasks, &want);
+        demand(has_values(&want, value[0], value[1], value[2], value[3]), "a walk with first releases");
+        plan_lending(&set, cases[i].tasks, words_needed(&set), &want);
+        memset(shape.first, 0, sizeof shape.first);
+        flatten(&shape, &set);
+        plan_lending(&set, cases[i].tasks, words_needed(&set), &plain);
+        demand(memcmp(&want, &plain, sizeof want) == 0, "a plan with first releases");
+    }
+    /* The period is 10. */
+    set = list_of((const uint32_t[]){100, 0, 2, 1, 2, 1, 10, 1, 9, 1, 2}, 11);
+    plan_lending(&set, 1, 82, &want);
+    demand(want.code == 0, "a first release of 9");
+    for (uint32_t first = 10; first <= 12; first++) {
+        set.word[8] = first == 12 ? UINT32_MAX : first;
+        plan_lending(&set, 1, 82, &want);
+        demand(is_refusal(&want, 2, 8), "a first release too late");
+        walk_under(&set, (const uint32_t[]){1}, 1, &want);
+        demand(is_refusal(&want, 2, 8), "the walk of a first release too late");
+    }
 }
 
 /* Tasks alike, of two rates: with every task at the slow one the load is L, at the fast one half of it. */
@@ -804,7 +922,7 @@ static void cases_of_margin(void)
                "a margin");
         demand(least_energy(set.word) == cases[i].least, "a least energy");
     }
-    set = list_of((const uint32_t[]){100, 0, 2, 1, 2, 1, 30, 61, 1, 2}, 10);
+    set = list_of((const uint32_t[]){100, 0, 2, 1, 2, 1, 30, 61, 0, 1, 2}, 11);
     demand(least_energy(set.word) == NO_ENERGY, "a least energy where no plan fits");
 }
 
@@ -812,36 +930,36 @@ static void cases_of_margin(void)
    from 4294967295 they are 15445, 12311, 8835, from 174 19890, 3999, 62834, and from 378 25071, 37000, 41894. */
 static void cases_of_generator(void)
 {
-    static const uint32_t from_0[] = {100, 0, 5, 100, 200, 300, 400, 500, 3, 200, 257, 7, 28, 63, 112, 175,
-                                      20, 171, 9, 36, 81, 144, 225, 200, 946, 6, 24, 54, 96, 150};
-    static const uint32_t one[][16] = {{100, 0, 5, 100, 200, 300, 400, 500, 1, 100, 312, 8, 32, 72, 128, 200},
-                                       {100, 0, 5, 100, 200, 300, 400, 500, 1, 25, 1000, 7, 28, 63, 112, 175},
-                                       {100, 0, 5, 100, 200, 300, 400, 500, 1, 400, 1, 10, 40, 90, 160, 250}};
+    static const uint32_t from_0[] = {100, 0, 5, 100, 200, 300, 400, 500, 3, 200, 257, 0, 7, 28, 63, 112, 175,
+                                      20, 171, 0, 9, 36, 81, 144, 225, 200, 946, 0, 6, 24, 54, 96, 150};
+    static const uint32_t one[][17] = {{100, 0, 5, 100, 200, 300, 400, 500, 1, 100, 312, 0, 8, 32, 72, 128, 200},
+                                       {100, 0, 5, 100, 200, 300, 400, 500, 1, 25, 1000, 0, 7, 28, 63, 112, 175},
+                                       {100, 0, 5, 100, 200, 300, 400, 500, 1, 400, 1, 0, 10, 40, 90, 160, 250}};
     static const uint32_t seeds[] = {4294967295u, 174, 378};
     struct answer want;
 
-    generate_lending(0, 3, 30, 32, &want);
-    demand(has_values(&want, 30, 0, 0, 0) && memcmp(want.set, from_0, sizeof from_0) == 0, "three tasks from seed 0");
+    generate_lending(0, 3, 33, 32, &want);
+    demand(has_values(&want, 33, 0, 0, 0) && memcmp(want.set, from_0, sizeof from_0) == 0, "three tasks from seed 0");
     for (size_t i = 0; i < COUNT(seeds); i++) {
         generate_lending(seeds[i], 1, 400, 40, &want);
-        demand(has_values(&want, 16, 0, 0, 0) && memcmp(want.set, one[i], sizeof one[i]) == 0, "a task from a seed");
+        demand(has_values(&want, 17, 0, 0, 0) && memcmp(want.set, one[i], sizeof one[i]) == 0, "a task from a seed");
     }
     generate_lending(7, 0, 400, 32, &want);
     demand(is_refusal(&want, 2, 0), "no task");
     generate_lending(7, 33, 0, 0, &want);
     demand(is_refusal(&want, 2, 0), "33 tasks, and no word");
-    generate_lending(7, 32, 232, 0, &want);
-    demand(is_refusal(&want, 6, 233), "32 tasks in 232 words");
-    generate_lending(7, 32, 233, 31, &want);
+    generate_lending(7, 32, 264, 0, &want);
+    demand(is_refusal(&want, 6, 265), "32 tasks in 264 words");
+    generate_lending(7, 32, 265, 31, &want);
     demand(is_refusal(&want, 6, 32), "31 bytes for results");
 }
 
 /* Two lists that are only read may be one: here the plan is the first task's energies. */
 static void case_of_one_list(void)
 {
-    static const uint32_t s[] = {100, 0, 2, 2, 4, 2, 10, 12, 2, 1, 15, 20, 7, 15};
+    static const uint32_t s[] = {100, 0, 2, 2, 4, 2, 10, 12, 0, 2, 1, 15, 20, 0, 7, 15};
     uint8_t results[RESULT_BYTES], must[RESULT_BYTES] = {1};
-    uint64_t code = seedspell_walk(s, COUNT(s), s + 8, 2, results, sizeof results);
+    uint64_t code = seedspell_walk(s, COUNT(s), s + 9, 2, results, sizeof results);
 
     must[8] = 29;
     must[16] = 1;
@@ -1015,13 +1133,13 @@ static void edge_idle(uint32_t rates, uint32_t tasks, uint32_t idle, uint32_t le
     for (size_t a = first; a < set.len; a++) {
         uint32_t word = set.word[a];
         size_t b = draw(first, set.len - 1);
-        if ((a - first) % (2 + rates) < 2)
+        if ((a - first) % (3 + rates) < 3)
             continue;
         for (uint32_t low = 0; low < 3; low++) {
             uint32_t other = set.word[b];
             set.word[a] = low == 0 ? word - left - 1 : low == 1 ? word - left : 1;
             try_both(&set, set.len);
-            if (b != a && (b - first) % (2 + rates) > 1)
+            if (b != a && (b - first) % (3 + rates) > 2)
                 set.word[b] = low == 2 ? 1 : other - left - 1;
             try_both(&set, set.len);
             set.word[b] = other;
@@ -1095,6 +1213,47 @@ static void edge_plans(uint32_t rates, uint32_t tasks)
             }
 }
 
+/* Every first release about the ends of its range, and about the other task's period. */
+static void edge_firsts(uint32_t rates, uint32_t tasks)
+{
+    static const uint32_t ends[] = {0, 1, 38, 39, 40, 41, 78, 79, 80, 81, 65575, 65576, 2147483648u, 4294967295u};
+    struct shape shape;
+    struct list set;
+
+    for (uint32_t t = 0; t < tasks; t++)
+        for (size_t i = 0; i < COUNT(ends); i++) {
+            plain_shape(&shape, rates, tasks);
+            shape.first[t] = ends[i];
+            flatten(&shape, &set);
+            try_both(&set, set.len);
+            shape.first[draw(0, tasks - 1)] = ends[draw(0, COUNT(ends) - 1)];
+            flatten(&shape, &set);
+            try_both(&set, set.len);
+        }
+}
+
+/* All walks of two tasks with periods up to 4, job times up to one more than that, and every first release. */
+static void edge_small_walks(void)
+{
+    uint32_t task[2][3];
+    struct shape shape;
+    struct list set;
+
+    for (uint32_t p = 1; p <= 4; p++)
+        for (uint32_t q = 1; q <= 4; q++)
+            for (uint32_t i = 0; i < (p + 1) * p * (q + 1) * q; i++) {
+                task[0][0] = p;
+                task[0][1] = 1 + i % (p + 1);
+                task[0][2] = i / (p + 1) % p;
+                task[1][0] = q;
+                task[1][1] = 1 + i / (p + 1) / p % (q + 1);
+                task[1][2] = i / (p + 1) / p / (q + 1);
+                timed_shape(&shape, (const uint32_t (*)[3])task, 2);
+                flatten(&shape, &set);
+                walk_under(&set, (const uint32_t[]){1, 1}, 2, &(struct answer){0});
+            }
+}
+
 /* One task at every load about L: it fits at L. */
 static void edge_load(void)
 {
@@ -1118,7 +1277,7 @@ static void edge_load(void)
 /* The generator's lists of each length about what it needs, in all combinations, also where N is none that it takes. */
 static void edge_generate(uint32_t tasks)
 {
-    const size_t needed = tasks < 40 ? 9 + 7 * tasks : 233, results[] = {0, 1, 31, 32, 33, 40},
+    const size_t needed = tasks < 40 ? 9 + 8 * tasks : 265, results[] = {0, 1, 31, 32, 33, 40},
                  set[] = {0, 1, needed - 9, needed - 1, needed, needed + 1, MOST_WORDS};
     struct answer want;
 
@@ -1129,10 +1288,10 @@ static void edge_generate(uint32_t tasks)
         }
 }
 
-/* Every N about 1 and 32, and such as look small where a part of the word is looked at, or where 7 x N wraps. */
+/* Every N about 1 and 32, and such as look small where a part of the word is looked at, or where 8 x N wraps. */
 static void edge_generated_tasks(void)
 {
-    static const uint32_t tasks[] = {64, 255, 256, 257, 288, 65536, 65537, 613566756, 613566757, 2147483647, 2147483648u,
+    static const uint32_t tasks[] = {64, 255, 256, 257, 288, 65536, 65537, 536870912, 536870913, 2147483647, 2147483648u,
                                      2147483649u, 2147483680u, 4294967264u, 4294967294u, 4294967295u};
 
     for (uint32_t n = 0; n <= 40; n++)
@@ -1147,12 +1306,12 @@ static void edge_seeds(void)
     struct answer want;
 
     for (uint32_t i = 0; i < 2000; i++) {
-        generate_lending(i, 1, 16, 32, &want);
-        generate_lending(UINT32_MAX - i, 1, 16, 32, &want);
+        generate_lending(i, 1, 17, 32, &want);
+        generate_lending(UINT32_MAX - i, 1, 17, 32, &want);
     }
     for (uint32_t bit = 0; bit < 32; bit++)
         for (uint32_t more = 0; more <= 2; more++)
-            generate_lending(((uint32_t)1 << bit) + more - 1, MOST_TASKS, 233, 32, &want);
+            generate_lending(((uint32_t)1 << bit) + more - 1, MOST_TASKS, 265, 32, &want);
 }
 
 /* ---- Long hyper-periods, few */
@@ -1219,6 +1378,14 @@ static void long_spans(void)
         plan_and_walk(&set, &(struct answer){0});
         walk_under(&set, (const uint32_t[]){2, 2}, 2, &(struct answer){0});
     }
+    /* 20,000,000 ticks: a load of L, of which the last job is unfinished there; and a miss there, of a load one more. */
+    timed_shape(&shape, (const uint32_t[][3]){{10000000, 6000000, 0}, {5000000, 2000000, 4999999}}, 2);
+    flatten(&shape, &set);
+    plan_and_walk(&set, &(struct answer){0});
+    walk_under(&set, (const uint32_t[]){1, 1}, 2, &(struct answer){0});
+    timed_shape(&shape, (const uint32_t[][3]){{10000000, 10000000, 0}, {10000000, 1, 9999999}}, 2);
+    flatten(&shape, &set);
+    walk_under(&set, (const uint32_t[]){1, 1}, 2, &(struct answer){0});
     /* Energies of 1,000,000 for 10,000,000 jobs: the largest that a task can have. */
     plain_shape(&shape, 2, 2);
     shape.period[0] = 1;
@@ -1335,7 +1502,7 @@ static void random_calls(uint64_t sets)
 static void random_generate(void)
 {
     uint32_t tasks = one_in(16) ? MOST_TASKS : (uint32_t)draw(1, one_in(2) ? MOST_TASKS : 4);
-    size_t set_len = 9 + 7 * tasks, results_len = RESULT_BYTES;
+    size_t set_len = 9 + 8 * tasks, results_len = RESULT_BYTES;
     struct answer want;
 
     switch (draw(0, 9)) {
@@ -1358,7 +1525,7 @@ static void random_generated_set(void)
     struct answer want;
     struct list set;
 
-    generate_lending((uint32_t)draw(0, UINT32_MAX), tasks, 9 + 7 * tasks, RESULT_BYTES, &want);
+    generate_lending((uint32_t)draw(0, UINT32_MAX), tasks, 9 + 8 * tasks, RESULT_BYTES, &want);
     set = list_of(want.set, want.set_words);
     plan_and_walk(&set, &want);
     count.generated_planned += want.code == 0;
@@ -1382,6 +1549,7 @@ static void edge_calls(void)
     cases_of_others();
     cases_of_idle();
     cases_of_margin();
+    cases_of_firsts();
     cases_of_generator();
     case_of_one_list();
     for (uint32_t rates = 2; rates <= 8; rates += 3) {
@@ -1392,6 +1560,8 @@ static void edge_calls(void)
         edge_plans(rates, 1);
         edge_plans(rates, 4);
         edge_plans(rates, 32);
+        edge_firsts(rates, 2);
+        edge_firsts(rates, 32);
     }
     edge_words(3, 32);
     edge_counts();
@@ -1401,6 +1571,7 @@ static void edge_calls(void)
     edge_idle_sets();
     edge_margins();
     edge_load();
+    edge_small_walks();
     edge_generated_tasks();
     edge_seeds();
 }

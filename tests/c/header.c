@@ -9,17 +9,17 @@
 #if SEEDSPELL_REFUSED_TEXT_DEPARTS != 1 || SEEDSPELL_REFUSED_CHIP_ENERGY_TOO_HIGH != 9
 #error "refusals 1 and 9, which no call from C gives, are of texts"
 #endif
-#if SEEDSPELL_LIST_VERSION != 2
-#error "the lists here have the idle energy as their second word"
+#if SEEDSPELL_LIST_VERSION != 3
+#error "the lists here have the idle energy as their second word, and a first release behind each task's cycles"
 #endif
 
-#define WORDS 17
+#define WORDS 19
 #define ROOM 3                          /* of the plan list, a word more than S has tasks */
 #define WORK 243                        /* W of S */
-#define GENERATED 23                    /* words of a generated set of 2 tasks */
+#define GENERATED 25                    /* words of a generated set of 2 tasks */
 #define MOST SEEDSPELL_GENERATED_WORDS
 
-static const uint32_t S[WORDS] = {100, 0, 3, 2, 4, 8, 2, 10, 12, 4, 9, 20, 15, 20, 7, 15, 30};
+static const uint32_t S[WORDS] = {100, 0, 3, 2, 4, 8, 2, 10, 12, 0, 4, 9, 20, 15, 20, 0, 7, 15, 30};
 static uint32_t set[WORDS], plan[ROOM], work[WORK], generated[MOST];
 static uint8_t results[SEEDSPELL_RESULT_BYTES];
 static int failures;
@@ -62,13 +62,16 @@ int main(void)
     expect("slack 0", plan_set(ROOM, WORK, sizeof results), SEEDSPELL_REFUSED_BAD_SET_WORD, 0);
     change(1, 1001);
     expect("an idle energy of 1,001", plan_set(ROOM, WORK, sizeof results), SEEDSPELL_REFUSED_BAD_SET_WORD, 1);
+    change(9, 10);
+    expect("a first release at the period's end", plan_set(ROOM, WORK, sizeof results),
+           SEEDSPELL_REFUSED_BAD_SET_WORD, 9);
     change(4, 2);
     expect("rates 2 and 2", plan_set(ROOM, WORK, sizeof results), SEEDSPELL_REFUSED_RATE_NOT_ABOVE, 4);
     change(1, 1);
     expect("6 idle ticks for an energy of 4", plan_set(ROOM, WORK, sizeof results),
-           SEEDSPELL_REFUSED_ENERGY_BELOW_IDLE, 9);
+           SEEDSPELL_REFUSED_ENERGY_BELOW_IDLE, 10);
     change(7, 9999999);
-    expect("a long hyper-period", plan_set(ROOM, WORK, sizeof results), SEEDSPELL_REFUSED_HYPER_PERIOD_TOO_LONG, 12);
+    expect("a long hyper-period", plan_set(ROOM, WORK, sizeof results), SEEDSPELL_REFUSED_HYPER_PERIOD_TOO_LONG, 13);
     change(8, 81);
     expect("81 cycles in 10 ticks", plan_set(ROOM, WORK, sizeof results), SEEDSPELL_REFUSED_NO_PLAN_FITS, 0);
     change(0, 100);
@@ -81,6 +84,12 @@ int main(void)
     expect("the walk of the plan", walk_plan(2), 0, 0);
     if (results[0] != 1) {
         printf("tests/header: the walk of the plan misses\n");
+        failures++;
+    }
+    change(9, 9);
+    expect("the walk with a first release", walk_plan(2), 0, 0);
+    if (results[0] != 1 || results[8] + results[16] != 60) {
+        printf("tests/header: the walk with a first release does not go to 60\n");
         failures++;
     }
     expect("33 tasks", generate(33, GENERATED, sizeof results), SEEDSPELL_REFUSED_BAD_SET_WORD, 0);

@@ -20,7 +20,7 @@ static uint64_t common_divisor(uint64_t a, uint64_t b)
 
 static const uint32_t *task_words(const struct sums *s, uint64_t t)
 {
-    return s->set + 4 + s->rates + t * (2 + s->rates);
+    return s->set + 4 + s->rates + t * (3 + s->rates);
 }
 
 /* All rates for the tasks from t on, with what those before it take: their ticks, and their jobs' energy. */
@@ -39,7 +39,7 @@ static void go_on(struct sums *s, uint64_t t, uint64_t ticks, uint64_t energy)
     for (uint64_t r = 0; r < s->rates; r++) {
         uint64_t rate = s->set[3 + r], then = ticks + jobs * ((task[1] + rate - 1) / rate);
         if (then <= s->span)                            /* a plan that does not fit misses a deadline */
-            go_on(s, t + 1, then, energy + jobs * task[2 + r]);
+            go_on(s, t + 1, then, energy + jobs * task[3 + r]);
     }
 }
 

@@ -1,5 +1,5 @@
-/* Document 01's checks, planner and walk, with document 02's idle energy, and its generator, read as they stand there.
-   Slow on purpose. */
+/* Document 01's checks, planner and walk, with document 02's idle energy and first releases, and its generator, read as
+   they stand there. Slow on purpose. */
 
 #include <stdio.h>
 #include <stdlib.h>
@@ -10,7 +10,7 @@
 #define LONGEST 10000000u               /* the hyper-period is at most this */
 
 struct task {
-    uint64_t period, cycles;
+    uint64_t period, cycles, first;     /* first: the tick A of the first release */
     uint64_t energy[MOST_RATES + 1];    /* at rate number 1 to M; nothing at 0 */
 };
 
@@ -63,6 +63,7 @@ static uint64_t check_2(const uint32_t *set, size_t set_len, struct task_set *s)
     for (uint64_t t = 0; t < s->tasks; t++) {
         s->task[t].period = next_word(&from, 1, 10000000);
         s->task[t].cycles = next_word(&from, 1, 4000000000u);
+        s->task[t].first = next_word(&from, 0, s->task[t].period - 1);  /* 'A below the period' */
         for (uint64_t r = 1; r <= s->rates; r++)
             s->task[t].energy[r] = next_word(&from, 1, 1000000);
     }
@@ -81,7 +82,7 @@ static uint64_t check_3(const struct task_set *s)
 /* The place at which a task begins, with its period. */
 static uint64_t place_of(const struct task_set *s, uint64_t t)
 {
-    return 4 + s->rates + t * (2 + s->rates);
+    return 4 + s->rates + t * (3 + s->rates);
 }
 
 static uint64_t job_time(const struct task_set *s, uint64_t t, uint64_t r)
@@ -101,7 +102,7 @@ static uint64_t check_10(const struct task_set *s)
     for (uint64_t t = 0; t < s->tasks; t++)
         for (uint64_t r = 1; r <= s->rates; r++)
             if (s->task[t].energy[r] < waiting(s, t, r))
-                return refusal(10, place_of(s, t) + 1 + r);
+                return refusal(10, place_of(s, t) + 2 + r);
     return 0;
 }
 
@@ -457,12 +458,25 @@ struct job {
     uint64_t task, count, deadline, left;
 };
 
+/* 'Releases fall at A plus multiples of the period' */
 static int is_due(const struct task_set *s, uint64_t t, uint64_t tick)
 {
-    return (uint32_t)tick % (uint32_t)s->task[t].period == 0;
+    uint64_t first = s->task[t].first;
+
+    return tick >= first && (uint32_t)(tick - first) % (uint32_t)s->task[t].period == 0;
 }
 
-/* The task that misses at a tick, the lowest-numbered; 0 for none. */
+/* 'It goes to 2 x L'; 'if all are 0 it ends at L as before'. */
+static uint64_t last_tick(const struct task_set *s)
+{
+    for (uint64_t t = 0; t < s->tasks; t++)
+        if (s->task[t].first > 0)
+            return 2 * s->span;
+    return s->span;
+}
+
+/* The task that misses at a tick, the lowest-numbered; 0 for none. A job is due when the next one of its task is; what is
+   unfinished at the last tick and due later is no miss. */
 static uint64_t missing(const struct task_set *s, const struct job *job, uint64_t tick)
 {
     for (uint64_t t = 0; t < s->tasks; t++)
@@ -499,15 +513,15 @@ static int is_preempted(const struct job *before, const struct job *runs)
     return another && before->left > 0;
 }
 
-/* Goes tick by tick from 0 to L. */
+/* Goes tick by tick from 0 to the last. */
 static void walk(const struct task_set *s, const uint32_t *plan, uint64_t *value)
 {
     struct job job[MOST_TASKS] = {{0}}, before = {0};   /* before: as the tick before left it; nothing left where there was none */
-    uint64_t busy = 0, idle = 0, preemptions = 0;
+    uint64_t busy = 0, idle = 0, preemptions = 0, end = last_tick(s);
 
     for (uint64_t t = 0; t < s->tasks; t++)
         job[t].task = t;
-    for (uint64_t tick = 0; tick <= s->span; tick++) {
+    for (uint64_t tick = 0; tick <= end; tick++) {
         uint64_t late = missing(s, job, tick);
         struct job *runs;
         if (late != 0) {
@@ -517,7 +531,7 @@ static void walk(const struct task_set *s, const uint32_t *plan, uint64_t *value
             value[3] = 0;
             return;
         }
-        if (tick == s->span)
+        if (tick == end)
             break;                      /* 'At L the check is made and nothing is released.' */
         release(s, plan, tick, job);
         runs = to_run(s, job);
@@ -547,11 +561,15 @@ void expect_walk(const uint32_t *set, size_t set_len, const uint32_t *plan, size
     if (answer->code != 0)
         return;
     answer->span = s.span;
+    answer->end = last_tick(&s);
     answer->code = check_8(&s, plan, plan_len);
     if (answer->code == 0 && results_len < RESULT_BYTES)
         answer->code = refusal(6, RESULT_BYTES);
-    if (answer->code == 0)
-        walk(&s, plan, answer->value);
+    if (answer->code != 0)
+        return;
+    for (uint64_t t = 0; t < s.tasks; t++)
+        answer->load += task_load(&s, t, plan[t]);
+    walk(&s, plan, answer->value);
 }
 
 /* ---- The load generator, note 1 of document 02 */
@@ -577,8 +595,9 @@ static void generate_task(uint64_t *state, uint32_t *task)
 
     task[0] = periods[entry];
     task[1] = (uint32_t)cycles;
+    task[2] = 0;                        /* A, '0 .. from the generator' */
     for (uint64_t j = 1; j <= 5; j++)
-        task[1 + j] = (uint32_t)(factor * j * j);
+        task[2 + j] = (uint32_t)(factor * j * j);
 }
 
 /* 'The set has slack 100 and five rates, 100 x j for rate j', and of H 'the generator's hold 0 there'. */
@@ -593,12 +612,12 @@ static void generate(uint32_t seed, uint32_t tasks, uint32_t *set)
         set[2 + j] = 100 * j;
     set[8] = tasks;
     for (uint32_t t = 0; t < tasks; t++)
-        generate_task(&state, &set[9 + 7 * t]);
+        generate_task(&state, &set[9 + 8 * t]);
 }
 
 static size_t generated_words(uint32_t tasks)
 {
-    return 9 + 7 * (size_t)tasks;
+    return 9 + 8 * (size_t)tasks;
 }
 
 /* 'Errors: 2 with place 0 for N outside 1 to 32, then 6.' */

@@ -1,5 +1,5 @@
-/* What each C call owes, worked out from document 01, and from document 02 for the generator (note 1) and the idle
-   energy H (note 4), in the plainest way there is.
+/* What each C call owes, worked out from document 01, and from document 02 for the generator (note 1), the idle energy H
+   (note 4) and first releases (note 6), in the plainest way there is.
 
    It shares no code with the archive or with the benchmarks' planner, so that one misreading is not made twice. It changes
    nothing that it is given: it only says what the call must return and leave. */
@@ -13,7 +13,7 @@
 #define MOST_TASKS 32
 #define MOST_RATES 8
 #define RESULT_BYTES 32
-#define GENERATED_WORDS (9 + 7 * 33)    /* of a generated list with one task more than allowed, should one come up */
+#define GENERATED_WORDS (9 + 8 * 33)    /* of a generated list with one task more than allowed, should one come up */
 #define FEW_PLANS 700                   /* up to this many plans, the planner's choice goes through all */
 #define MANY_PLANS 1000000
 
@@ -29,6 +29,8 @@ struct answer {
     /* Of which kind the call is: for the counts, and for whoever draws sets. */
     uint64_t span;                      /* the hyper-period L where the set passes checks 2, 3 and 4, and of the planner
                                            10 too, else 0 */
+    uint64_t end;                       /* of the walk: its last tick, where there is a span */
+    uint64_t load;                      /* of the walk, where it is made: its plan's load */
     uint64_t waiting;                   /* of the planner, where it plans: the energy of L idle ticks, H x L */
     uint64_t least_load;                /* of the planner: the load with every task at its least */
     uint64_t plans;                     /* of the planner: M to the power N, or MANY_PLANS where that is more */

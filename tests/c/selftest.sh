@@ -251,10 +251,10 @@ plant 10-last-task-first reference.c 'for (uint64_t t = 0; t < s->tasks; t++)
             if (s->task[t].energy[r] < waiting(s, t, r))' 'for (uint64_t t = s->tasks; t-- > 0;)
         for (uint64_t r = 1; r <= s->rates; r++)
             if (s->task[t].energy[r] < waiting(s, t, r))'
-plant 10-one-place-early reference.c 'return refusal(10, place_of(s, t) + 1 + r);' 'return refusal(10, place_of(s, t) + r);'
-plant 10-one-place-late reference.c 'return refusal(10, place_of(s, t) + 1 + r);' 'return refusal(10, place_of(s, t) + 2 + r);'
-plant 10-with-its-period reference.c 'return refusal(10, place_of(s, t) + 1 + r);' 'return refusal(10, place_of(s, t));'
-plant 10-with-the-task reference.c 'return refusal(10, place_of(s, t) + 1 + r);' 'return refusal(10, t + 1);'
+plant 10-one-place-early reference.c 'return refusal(10, place_of(s, t) + 2 + r);' 'return refusal(10, place_of(s, t) + 1 + r);'
+plant 10-one-place-late reference.c 'return refusal(10, place_of(s, t) + 2 + r);' 'return refusal(10, place_of(s, t) + 3 + r);'
+plant 10-with-its-period reference.c 'return refusal(10, place_of(s, t) + 2 + r);' 'return refusal(10, place_of(s, t));'
+plant 10-with-the-task reference.c 'return refusal(10, place_of(s, t) + 2 + r);' 'return refusal(10, t + 1);'
 plant 10-before-3 reference.c 'if (refused == 0)
         refused = check_3(s);
     if (refused == 0 && call == PLANNER)
@@ -319,10 +319,59 @@ plant ties-to-higher-task reference.c 'job[t].deadline < earliest->deadline))' '
 plant highest-task-missed reference.c 'for (uint64_t t = 0; t < s->tasks; t++)
         if (job[t].left != 0' 'for (uint64_t t = s->tasks; t-- > 0;)
         if (job[t].left != 0'
-plant no-check-at-the-end reference.c 'if (late != 0) {' 'if (late != 0 && tick < s->span) {'
+plant no-check-at-the-end reference.c 'if (late != 0) {' 'if (late != 0 && tick < end) {'
 plant finished-is-preempted reference.c 'return another && before->left > 0;' 'return another;'
 plant preempted-by-task reference.c 'is_preempted(&before, runs);' 'is_preempted(&job[before.task], runs);'
 plant idle-one-less reference.c 'value[2] = idle;' 'value[2] = idle - (idle > 0);'
+
+# First releases
+plant first-at-the-period reference.c 'next_word(&from, 0, s->task[t].period - 1);' 'next_word(&from, 0, s->task[t].period);'
+plant first-to-2-below reference.c 'next_word(&from, 0, s->task[t].period - 1);' 'next_word(&from, 0, s->task[t].period > 1 ? s->task[t].period - 2 : 0);'
+plant first-to-any-tick reference.c 'next_word(&from, 0, s->task[t].period - 1);' 'next_word(&from, 0, UINT32_MAX);'
+plant first-by-task-1 reference.c 'next_word(&from, 0, s->task[t].period - 1);' 'next_word(&from, 0, s->task[0].period - 1);'
+plant first-from-1 reference.c 'next_word(&from, 0, s->task[t].period - 1);' 'next_word(&from, 1, s->task[t].period - 1);'
+plant first-by-half-a-word reference.c 's->task[t].first = next_word(&from, 0, s->task[t].period - 1);' 'next_word(&from, 0, UINT32_MAX);
+        if (!from.at_fault && (uint16_t)set[from.at - 1] >= s->task[t].period) {
+            from.at--;
+            from.at_fault = 1;
+        }
+        s->task[t].first = from.at_fault ? 0 : (uint16_t)set[from.at - 1];'
+plant no-first-word reference.c 's->task[t].first = next_word(&from, 0, s->task[t].period - 1);' 's->task[t].first = 0;'
+plant first-before-cycles reference.c 's->task[t].cycles = next_word(&from, 1, 4000000000u);
+        s->task[t].first = next_word(&from, 0, s->task[t].period - 1);' 's->task[t].first = next_word(&from, 0, s->task[t].period - 1);
+        s->task[t].cycles = next_word(&from, 1, 4000000000u);'
+plant planned-to-l-and-first reference.c 'return load <= s->span;' 'return load <= s->span + s->task[0].first;'
+plant planned-for-2-l reference.c 'answer->value[2] = s->span;' 'answer->value[2] = s->task[0].first > 0 ? 2 * s->span : s->span;'
+plant first-does-not-count reference.c 'uint64_t first = s->task[t].first;' 'uint64_t first = 0;'
+plant released-at-multiples reference.c '(uint32_t)(tick - first) %' '(uint32_t)tick %'
+plant released-at-first-then-multiples reference.c 'return tick >= first && (uint32_t)(tick - first) % (uint32_t)s->task[t].period == 0;' 'return tick == first || (tick > first && tick % s->task[t].period == 0);'
+plant released-a-period-late reference.c 'return tick >= first &&' 'return tick >= first + (first > 0) * s->task[t].period &&'
+plant released-one-tick-late reference.c 'uint64_t first = s->task[t].first;' 'uint64_t first = s->task[t].first + (s->task[t].first > 0);'
+plant deadline-from-tick-0 reference.c 'job[t].deadline = tick + s->task[t].period;' 'job[t].deadline = (tick / s->task[t].period + 1) * s->task[t].period;'
+plant first-put-to-deadline reference.c 'job[t].deadline = tick + s->task[t].period;' 'job[t].deadline = tick + s->task[t].period + s->task[t].first;'
+plant walked-to-l reference.c 'return 2 * s->span;' 'return s->span;'
+plant walked-to-2-l-always reference.c 'return 2 * s->span;
+    return s->span;' 'return 2 * s->span;
+    return 2 * s->span;'
+plant walked-to-3-l reference.c 'return 2 * s->span;' 'return 3 * s->span;'
+plant walked-to-l-and-first reference.c 'return 2 * s->span;' 'return s->span + s->task[t].first;'
+plant walked-to-2-l-and-first reference.c 'return 2 * s->span;' 'return 2 * s->span + s->task[t].first;'
+plant walked-to-2-l-by-task-1 reference.c 'for (uint64_t t = 0; t < s->tasks; t++)
+        if (s->task[t].first > 0)' 'for (uint64_t t = 0; t < 1; t++)
+        if (s->task[t].first > 0)'
+plant walked-to-2-l-if-all-above reference.c 'if (s->task[t].first > 0)
+            return 2 * s->span;
+    return s->span;' 'if (s->task[t].first == 0)
+            return s->span;
+    return 2 * s->span;'
+plant missed-up-to-l reference.c 'if (late != 0) {' 'if (late != 0 && tick <= s->span) {'
+plant no-check-at-2-l reference.c 'if (late != 0) {' 'if (late != 0 && (tick < end || end == s->span)) {'
+plant unfinished-at-2-l-missed reference.c 'if (job[t].left != 0 && is_due(s, t, tick))' 'if (job[t].left != 0 && (is_due(s, t, tick) || tick == last_tick(s)))'
+plant unfinished-asked-late reference.c 'preemptions += (uint64_t)is_preempted(&before, runs);' 'static uint64_t ran_at;
+        if (ran_at + 1 == tick)
+            before.left = job[before.task].left;
+        ran_at = tick;
+        preemptions += (uint64_t)is_preempted(&before, runs);'
 
 # The generator
 plant draw-before-the-step reference.c '*state = *state * 1664525 % WRAP;
@@ -350,7 +399,7 @@ plant sum-before-mod-1000 reference.c '1 + next_draw(state) % 1000;' '(1 + next_
 plant energy-to-9 reference.c '2 + next_draw(state) % 9;' '2 + next_draw(state) % 8;'
 plant energy-from-1 reference.c '2 + next_draw(state) % 9;' '1 + next_draw(state) % 9;'
 plant energy-as-the-rate reference.c '(factor * j * j);' '(factor * j);'
-plant energy-drawn-by-rate reference.c 'task[1 + j] = (uint32_t)(factor * j * j);' 'task[1 + j] = (uint32_t)((j == 1 ? factor : 2 + next_draw(state) % 9) * j * j);'
+plant energy-drawn-by-rate reference.c 'task[2 + j] = (uint32_t)(factor * j * j);' 'task[2 + j] = (uint32_t)((j == 1 ? factor : 2 + next_draw(state) % 9) * j * j);'
 plant cycles-drawn-first reference.c 'uint64_t entry = next_draw(state) % 8;
     uint64_t cycles = 1 + next_draw(state) % 1000;' 'uint64_t cycles = 1 + next_draw(state) % 1000;
     uint64_t entry = next_draw(state) % 8;'
@@ -361,10 +410,13 @@ plant a-step-before-the-first reference.c 'uint64_t state = seed;' 'uint64_t sta
 plant seed-goes-on reference.c 'uint64_t state = seed;' 'static uint64_t last;
     uint64_t state = seed == 0 ? last : seed;
     last = seed;'
-plant each-task-from-the-seed reference.c 'generate_task(&state, &set[9 + 7 * t]);' 'state = seed + t, generate_task(&state, &set[9 + 7 * t]);'
+plant each-task-from-the-seed reference.c 'generate_task(&state, &set[9 + 8 * t]);' 'state = seed + t, generate_task(&state, &set[9 + 8 * t]);'
 plant generated-slack-1000 reference.c 'set[0] = 100;' 'set[0] = 1000;'
 plant generated-idle-of-1 reference.c 'set[1] = 0;' 'set[1] = 1;'
 plant generated-idle-untouched standin.c 'memcpy(set, answer.set, answer.set_words * sizeof *set);' 'if (answer.code == 0) answer.set[1] = set[1];
+    memcpy(set, answer.set, answer.set_words * sizeof *set);'
+plant generated-first-of-1 reference.c 'task[2] = 0; ' 'task[2] = 1; '
+plant generated-first-untouched standin.c 'memcpy(set, answer.set, answer.set_words * sizeof *set);' 'if (answer.code == 0) answer.set[11] = set[11];
     memcpy(set, answer.set, answer.set_words * sizeof *set);'
 plant generated-rates-of-10 reference.c 'set[2 + j] = 100 * j;' 'set[2 + j] = 10 * j;'
 plant generated-n-of-0 reference.c 'if (tasks < 1 || tasks > 32)' 'if (tasks > 32)'

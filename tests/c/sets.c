@@ -56,6 +56,7 @@ void flatten(const struct shape *shape, struct list *list)
     for (uint32_t t = 0; t < shape->tasks; t++) {
         *to++ = shape->period[t];
         *to++ = shape->cycles[t];
+        *to++ = shape->first[t];
         for (uint32_t r = 0; r < shape->rates; r++)
             *to++ = shape->energy[t][r];
     }
@@ -279,6 +280,12 @@ static void draw_idle(struct shape *shape)
         sink_energy(shape);
 }
 
+void draw_firsts(struct shape *shape)
+{
+    for (uint32_t t = 0; t < shape->tasks; t++)
+        shape->first[t] = one_in(4) ? 0 : one_in(4) ? shape->period[t] - 1 : draw_word(0, shape->period[t] - 1);
+}
+
 void draw_shape(struct shape *shape)
 {
     uint32_t span = draw_span();
@@ -292,6 +299,8 @@ void draw_shape(struct shape *shape)
     if (one_in(3))
         fill_up(shape, span);
     draw_idle(shape);
+    if (one_in(3))
+        draw_firsts(shape);
 }
 
 /* ---- Lists that are no sets */
@@ -355,6 +364,10 @@ void draw_long(struct list *list)
     for (uint32_t t = 0; t < shape.tasks; t++)
         if (!one_in(3))
             shape.period[t] = draw_word(1, one_in(2) ? 10000000 : 10000);
+    if (one_in(2))
+        draw_firsts(&shape);
+    else
+        memset(shape.first, 0, sizeof shape.first);
     flatten(&shape, list);
 }
 
@@ -379,10 +392,12 @@ static void print_text(const uint32_t *set)
     for (uint32_t r = 0; r < rates; r++)
         printf(" %" PRIu32, set[3 + r]);
     printf(")\n");
-    for (uint32_t t = 0; t < tasks; t++, task += 2 + rates) {
+    for (uint32_t t = 0; t < tasks; t++, task += 3 + rates) {
         printf("(task (period %" PRIu32 ") (cycles %" PRIu32 ") (energy", task[0], task[1]);
         for (uint32_t r = 0; r < rates; r++)
-            printf(" %" PRIu32, task[2 + r]);
+            printf(" %" PRIu32, task[3 + r]);
+        if (task[2] > 0)
+            printf(") (from %" PRIu32, task[2]);
         printf("))\n");
     }
 }

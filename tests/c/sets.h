@@ -6,7 +6,7 @@
 #include <stddef.h>
 #include <stdint.h>
 
-#define MOST_WORDS 400                  /* 9 rates and 33 tasks, one more than allowed of each, and some to spare */
+#define MOST_WORDS 440                  /* 9 rates and 33 tasks, one more than allowed of each, and some to spare */
 #define MOST_PLAN 48
 #define SHORT_SPAN 2000                 /* hyper-periods up to this are walked quickly */
 
@@ -14,7 +14,7 @@
 struct shape {
     uint32_t slack, idle, rates, tasks;
     uint32_t rate[9];
-    uint32_t period[33], cycles[33], energy[33][9];
+    uint32_t period[33], cycles[33], first[33], energy[33][9];
 };
 
 struct list {
@@ -30,11 +30,15 @@ int one_in(uint64_t n);
 /* The list that stands for a set. */
 void flatten(const struct shape *shape, struct list *list);
 
-/* Every job time 1 at rate 1, periods alike, no idle energy: a set whose words can be tried one by one. */
+/* Every job time 1 at rate 1, periods alike, no idle energy, all released together: a set whose words can be tried one
+   by one. */
 void plain_shape(struct shape *shape, uint32_t rates, uint32_t tasks);
 
 /* A set with a hyper-period of at most SHORT_SPAN that passes checks 2, 3 and 4, and as a rule 10. */
 void draw_shape(struct shape *shape);
+
+/* Gives a set first releases, each 0, the period - 1 or anything between. */
+void draw_firsts(struct shape *shape);
 
 /* Gives a set an idle energy and puts what its jobs' ticks then cost to every energy: what is left without that stays,
    but where it would pass 1,000,000. */
