@@ -32,9 +32,11 @@ static int in_range(const uint32_t *set, size_t at)
         high = 32;
     } else {
         size_t rates = set[2], k = at - (4 + rates);
-        if (k / (2 + rates) >= set[3 + rates])
+        if (k / (3 + rates) >= set[3 + rates])
             return 0;                   /* left over */
-        k %= 2 + rates;
+        k %= 3 + rates;
+        if (k == 2)
+            return word < set[at - 2];  /* a first release is below its period */
         high = k == 0 ? 10000000 : k == 1 ? 4000000000u : 1000000;
     }
     return low <= word && word <= high;
@@ -50,7 +52,7 @@ static uint64_t check_words(const uint32_t *set, size_t set_len)
     if (set_len < 3)
         return refusal(2, set_len);
     rates = set[2];
-    if (set_len < 4 + rates || set_len < 4 + rates + set[3 + rates] * (2 + rates))
+    if (set_len < 4 + rates || set_len < 4 + rates + set[3 + rates] * (3 + rates))
         return refusal(2, set_len);
     return 0;
 }
@@ -77,10 +79,10 @@ static inline uint64_t check_energies(const uint32_t *set)
     uint32_t tasks = set[3 + rates];
     uint64_t idle = set[1];
 
-    for (uint32_t t = 0; t < tasks; t++, at += 2 + rates)
+    for (uint32_t t = 0; t < tasks; t++, at += 3 + rates)
         for (size_t r = 1; r <= rates; r++)
-            if (set[at + 1 + r] < idle * job_time(set[at + 1], set[2 + r]))
-                return refusal(10, at + 1 + r);
+            if (set[at + 2 + r] < idle * job_time(set[at + 1], set[2 + r]))
+                return refusal(10, at + 2 + r);
     return 0;
 }
 
@@ -103,7 +105,7 @@ static inline uint64_t check_span(const uint32_t *set, uint32_t (*divisor)(uint3
     uint32_t tasks = set[3 + rates];
     uint64_t running = 1;
 
-    for (uint32_t t = 0; t < tasks; t++, at += 2 + rates) {
+    for (uint32_t t = 0; t < tasks; t++, at += 3 + rates) {
         running = running / divisor((uint32_t)running, set[at]) * set[at];
         if (running > LONGEST)
             return refusal(4, at);

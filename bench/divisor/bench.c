@@ -169,7 +169,7 @@ static int met_pairs(uint32_t tasks)
         const uint32_t *task = sets[s].word + 4 + sets[s].word[2];
         uint32_t running = 1;
 
-        for (uint32_t t = 0; t < tasks; t++, task += 2 + sets[s].word[2]) {
+        for (uint32_t t = 0; t < tasks; t++, task += 3 + sets[s].word[2]) {
             pairs[count++] = (struct pair){running, *task};
             running = running / (uint32_t)(plain_remainders(running, *task) >> 8) * *task;
         }
@@ -180,7 +180,7 @@ static int met_pairs(uint32_t tasks)
 /* ---- The sets that are made here. */
 
 static const struct list example = {
-    {100, 0, 3, 2, 4, 8, 2, 10, 12, 4, 9, 20, 15, 20, 7, 15, 30}, 17,
+    {100, 0, 3, 2, 4, 8, 2, 10, 12, 0, 4, 9, 20, 15, 20, 0, 7, 15, 30}, 19,
 };
 
 /* A set of two rates with these periods. */
@@ -194,8 +194,8 @@ static void make_set(struct list *list, const uint32_t *period, uint32_t tasks)
     *at++ = tasks;
     for (uint32_t t = 0; t < tasks; t++) {
         *at++ = period[t];
-        for (int i = 0; i < 3; i++)
-            *at++ = 1;
+        for (int i = 0; i < 4; i++)
+            *at++ = i != 1;             /* cycles, the first release, two energies */
     }
     list->len = (size_t)(at - list->word);
 }

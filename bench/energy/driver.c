@@ -16,7 +16,7 @@
 #include "../measure.h"
 
 #define MOST_TASKS 32
-#define MOST_WORDS (4 + 8 + MOST_TASKS * (2 + 8))
+#define MOST_WORDS (4 + 8 + MOST_TASKS * (3 + 8))
 #define MOST_WORK (33 * 128001)         /* W of 32 tasks at slack 1 */
 
 static uint32_t set[MOST_WORDS], plan[MOST_TASKS], work[MOST_WORK];

@@ -114,10 +114,10 @@ def split_tasks(drawn):
 
 
 def words_of(tasks, idle):
-    """The word list, with slack 1 in its place."""
+    """The word list, with slack 1 in its place; all tasks are released together."""
     words = [1, idle, len(RATES), *RATES, len(tasks)]
     for period, cycles, energies in tasks:
-        words += [period, cycles, *energies]
+        words += [period, cycles, 0, *energies]
     return words
 
 

@@ -38,7 +38,7 @@ typedef uint64_t planner(const uint32_t *, size_t, uint32_t *, size_t, uint32_t 
 
 #define MOST_TASKS 32
 #define MOST_RATES 8
-#define MOST_WORDS (4 + MOST_RATES + MOST_TASKS * (2 + MOST_RATES))
+#define MOST_WORDS (4 + MOST_RATES + MOST_TASKS * (3 + MOST_RATES))
 #define MOST_WORK (33 * 128001)         /* W of 32 tasks at slack 1 */
 #define SPARE 8                         /* words lent beyond those needed */
 #define MOST_SETS 64
@@ -93,6 +93,7 @@ static void random_set(struct list *list, uint32_t tasks, uint32_t rates, uint32
         uint32_t p = period[between(0, 7)];
         *at++ = p;
         *at++ = p * 800 / tasks / 100 * between(60, 130);
+        *at++ = 0;                      /* the first release, at which the planner does not look */
         for (uint32_t r = 0; r < rates; r++)
             at[r] = between(1, 1000000);
         qsort(at, rates, sizeof *at, ascending);
@@ -109,12 +110,12 @@ static void add_idle(struct list *list, uint32_t idle)
     uint32_t *set = list->set, rates = set[2], *task = set + 4 + rates;
 
     set[1] = idle;
-    for (uint32_t t = 0; t < set[3 + rates]; t++, task += 2 + rates)
+    for (uint32_t t = 0; t < set[3 + rates]; t++, task += 3 + rates)
         for (uint32_t r = 1; r <= rates; r++) {
             uint32_t rate = set[2 + r];
-            task[1 + r] += idle * ((task[1] + rate - 1) / rate);
-            if (task[1 + r] > 1000000)
-                task[1 + r] = 1000000;
+            task[2 + r] += idle * ((task[1] + rate - 1) / rate);
+            if (task[2 + r] > 1000000)
+                task[2 + r] = 1000000;
         }
 }
 
@@ -132,6 +133,7 @@ static void widest_set(struct list *list, uint32_t tasks, uint32_t rates, uint32
     for (uint32_t t = 0; t < tasks; t++) {
         *at++ = t == 0 ? 8000 : 8192000;
         *at++ = 4000000000u;
+        *at++ = 0;
         for (uint32_t r = 0; r < rates; r++)
             *at++ = t == 0 ? large : 1;
     }
@@ -146,6 +148,7 @@ static void limit_set(struct list *list, uint32_t tasks, uint32_t rates, uint32_
     for (uint32_t t = 0; t < tasks; t++) {
         *at++ = 10000000;
         *at++ = 4000000000u;
+        *at++ = 9999999;
         for (uint32_t r = 0; r < rates; r++)
             *at++ = 1000000;
     }

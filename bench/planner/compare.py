@@ -7,7 +7,8 @@ target/bench/planner/records-plain or records-archive. The sets have small
 slacks, for which the stored records' 16,384 working words are too few, so that
 tables are wide. As many words are lent as needed, now and then one fewer. Four
 sets are made so that a cost passes 32 bits. Half of the random ones have an idle
-energy, mostly one that their energies allow.
+energy, mostly one that their energies allow, and half first releases, at which no
+planner looks.
 """
 
 import subprocess
@@ -18,8 +19,9 @@ sys.dont_write_bytecode = True
 sys.path.insert(0, str(Path(__file__).resolve().parent.parent.parent / 'tests'))
 
 import reference as r
+from records.firsts import some_firsts
 from records.planner import largest, some_large, some_planned
-from records.shared import FEW_PLANS, Draw, costed, needed, period_of
+from records.shared import FEW_PLANS, Draw, costed, energies_of, needed, period_of
 
 
 def some_set(draw):
@@ -35,9 +37,10 @@ def some_set(draw):
         # The fastest rate costs next to nothing, the others as much as there is.
         M, N = words[2], words[3 + words[2]]
         for task in range(1, N + 1):
-            at = period_of(M, task) + 2
+            at = energies_of(M, task)
             words[at:at + M] = [1_000_000 - draw.between(0, 9) for _ in range(M - 1)] + [1]
-    return with_idle(draw, words) if draw.between(0, 1) else words
+    words = with_idle(draw, words) if draw.between(0, 1) else words
+    return some_firsts(draw, words) if draw.between(0, 1) else words
 
 
 def with_idle(draw, words):
@@ -47,8 +50,8 @@ def with_idle(draw, words):
     M, N = words[2], words[3 + words[2]]
     energies = []                       # place, and the ticks of such a job
     for task in range(1, N + 1):
-        at = period_of(M, task) + 2
-        energies += [(at + k, -(-words[at - 1] // words[3 + k])) for k in range(M)]
+        cycles = words[period_of(M, task) + 1]
+        energies += [(energies_of(M, task) + k, -(-cycles // words[3 + k])) for k in range(M)]
     most = min(1_000, min(words[at] // ticks for at, ticks in energies))
     how = draw.between(1, 4)
     if how == 1:

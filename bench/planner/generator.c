@@ -13,7 +13,7 @@ uint64_t seedspell_generate(uint32_t seed, uint32_t n, uint32_t *set, size_t set
                             uint8_t *results, size_t results_len)
 {
     static const uint32_t period[] = {10, 20, 25, 40, 50, 100, 200, 400};
-    size_t needed = 9 + 7 * (size_t)n;
+    size_t needed = 9 + 8 * (size_t)n;
 
     if (n < 1 || n > 32)
         return (uint64_t)SEEDSPELL_REFUSED_BAD_SET_WORD << 32;
@@ -31,6 +31,7 @@ uint64_t seedspell_generate(uint32_t seed, uint32_t n, uint32_t *set, size_t set
         uint32_t factor;
         *set++ = period[draw(&seed) % 8];
         *set++ = 1 + draw(&seed) % 1000;
+        *set++ = 0;
         factor = 2 + draw(&seed) % 9;
         for (uint32_t j = 1; j <= 5; j++)
             *set++ = factor * j * j;

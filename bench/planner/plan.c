@@ -50,12 +50,12 @@ static void fill_options(struct problem *p, const uint32_t *set)
 {
     const uint32_t *task = set + 4 + p->rates;
 
-    for (uint32_t t = 0; t < p->tasks; t++, task += 2 + p->rates) {
+    for (uint32_t t = 0; t < p->tasks; t++, task += 3 + p->rates) {
         uint64_t jobs = p->span / task[0];
         for (uint32_t r = 1; r <= p->rates; r++) {
             uint64_t time = job_time(task[1], set[2 + r]), load = jobs * time;
             p->load[t * STRIDE + r] = load > p->span ? p->span + 1 : (uint32_t)load;
-            p->energy[t * STRIDE + r] = jobs * (task[1 + r] - p->idle * time);
+            p->energy[t * STRIDE + r] = jobs * (task[2 + r] - p->idle * time);
         }
     }
 }

@@ -2,8 +2,8 @@
    same texts and sets, the same run, in turn, the best of many repetitions.
    Before that both are held to equal answers, in what they return and in every
    word and byte lent, on the document's example, the longest text, cut, damaged
-   and random texts, texts that name a chip or an idle energy among them, and on
-   cut, damaged and random lists; where they differ the run ends with 1.
+   and random texts, texts that name a chip, an idle energy or first releases among
+   them, and on cut, damaged and random lists; where they differ the run ends with 1.
 
    One line a case: name, bytes of a text (the mean where there are several),
    nanoseconds a call of each, and the archive's time over the plain one's.
@@ -28,8 +28,8 @@ writer bench_write, plain_write;
 
 #define MOST_TASKS 32
 #define MOST_RATES 8
-#define MOST_WORDS (4 + MOST_RATES + MOST_TASKS * (2 + MOST_RATES))
-#define MOST_BYTES 5000
+#define MOST_WORDS (4 + MOST_RATES + MOST_TASKS * (3 + MOST_RATES))
+#define MOST_BYTES 6000
 #define SPARE 8                         /* words and bytes lent beyond those needed */
 #define MOST_SETS 64
 
@@ -56,7 +56,7 @@ static uint64_t compared;
 /* ---- The sets and texts. */
 
 static const struct list example_set = {
-    {100, 0, 3, 2, 4, 8, 2, 10, 12, 4, 9, 20, 15, 20, 7, 15, 30}, 17,
+    {100, 0, 3, 2, 4, 8, 2, 10, 12, 0, 4, 9, 20, 15, 20, 0, 7, 15, 30}, 19,
 };
 
 static const char example_text[] =
@@ -102,8 +102,11 @@ static void random_set(struct list *list, uint32_t tasks, uint32_t rates)
     at += rates;
     *at++ = tasks;
     for (uint32_t t = 0; t < tasks; t++) {
-        *at++ = some_number(10000000);
+        uint32_t period = some_number(10000000);
+
+        *at++ = period;
         *at++ = some_number(4000000000u);
+        *at++ = between(0, 1) ? some_number(period) - 1 : 0;
         for (uint32_t r = 0; r < rates; r++)
             *at++ = some_number(1000000);
     }
@@ -124,6 +127,7 @@ static void longest_set(struct list *list)
     for (uint32_t t = 0; t < MOST_TASKS; t++) {
         *at++ = 10000000;
         *at++ = 4000000000u;
+        *at++ = 9999999;
         for (uint32_t r = 0; r < MOST_RATES; r++)
             *at++ = 1000000;
     }
@@ -144,7 +148,7 @@ static void longest_text(struct text *text)
         at += sprintf(at, "(task (period%s) (cycles%s) (energy", ten, ten);
         for (int r = 0; r < MOST_RATES; r++)
             at += sprintf(at, "%s", ten);
-        at += sprintf(at, "))\n");
+        at += sprintf(at, ") (from%s))\n", ten);
     }
     text->len = (size_t)(at - (char *)text->byte);
 }
@@ -163,8 +167,11 @@ static void chip_text(struct text *text, const char *chip, const uint32_t *idle,
     for (uint32_t t = 0; t < tasks; t++) {
         uint32_t period = some_number(10000000);
 
-        at += sprintf(at, "(task (period %" PRIu32 ") (cycles %" PRIu32 "))\n", period,
+        at += sprintf(at, "(task (period %" PRIu32 ") (cycles %" PRIu32 ")", period,
                       some_number(most_cycles));
+        if (between(0, 1))
+            at += sprintf(at, " (from %" PRIu32 ")", some_number(period) - 1);
+        at += sprintf(at, ")\n");
     }
     text->len = (size_t)(at - (char *)text->byte);
 }
@@ -234,7 +241,7 @@ static uint64_t same_write(const struct list *list, size_t room, struct text *re
    with a byte more, and with fewer words lent than needed. */
 static void compare_texts(const struct text *text)
 {
-    static const uint8_t other[] = "0159 ()\n\raciprtx:/\x80\xff";
+    static const uint8_t other[] = "0159 ()\n\racefimoprtx:/\x80\xff";
     static struct text damaged;
     uint64_t words = same_read(text, MOST_WORDS);
 
@@ -348,8 +355,8 @@ static void compare_chips(void)
     }
 }
 
-/* The idle line where it may stand, twice, and where it may not. */
-static void compare_idle(void)
+/* The idle line and a first release where they may stand, twice, and where they may not. */
+static void compare_forms(void)
 {
     static const char *const text[] = {
         "(slack 1)\n(idle 0)\n(rates 1 2)\n(task (period 1) (cycles 1) (energy 1 2))\n",
@@ -360,6 +367,15 @@ static void compare_idle(void)
         "(slack 1)\n(rates 1 2)\n(task (period 1) (cycles 1) (energy 1 2))\n(idle 7)\n",
         "(idle 7)\n(slack 1)\n(rates 1 2)\n(task (period 1) (cycles 1) (energy 1 2))\n",
         "(slack 1)\n(idle)\n(rates 1 2)\n(task (period 1) (cycles 1) (energy 1 2))\n",
+        "(slack 1)\n(rates 1 2)\n(task (period 1) (cycles 1) (energy 1 2) (from 0))\n",
+        "(slack 1)\n(rates 1 2)\n(task (period 1) (cycles 1) (energy 1 2) (from 4294967295))\n",
+        "(slack 1)\n(rates 1 2)\n(task (period 1) (cycles 1) (energy 1 2) (from 7) (from 7))\n",
+        "(slack 1)\n(rates 1 2)\n(task (period 1) (cycles 1) (from 7) (energy 1 2))\n",
+        "(slack 1)\n(rates 1 2)\n(task (period 1) (cycles 1) (energy 1 2)) (from 7)\n",
+        "(slack 1)\n(rates 1 2)\n(task (period 1) (cycles 1) (energy 1 2) (from))\n",
+        "(slack 1)\n(chip xscale)\n(task (period 1) (cycles 1) (from 7))\n",
+        "(slack 1)\n(chip xscale)\n(task (period 1) (cycles 1) (energy 1 2))\n",
+        "(slack 1)\n(chip ppc405lp)\n(task (period 1) (cycles 1) (from 7) (from 7))\n",
     };
     static struct text copy;
 
@@ -393,7 +409,7 @@ static void compare(const struct text *longest)
         compare_round(&list);
     }
     compare_chips();
-    compare_idle();
+    compare_forms();
     printf("%" PRIu64 " calls answered alike\n", compared);
 }
 

@@ -18,7 +18,7 @@
 
 #define MOST_TASKS 32
 #define MOST_RATES 8
-#define MOST_WORDS (4 + MOST_RATES + MOST_TASKS * (2 + MOST_RATES))
+#define MOST_WORDS (4 + MOST_RATES + MOST_TASKS * (3 + MOST_RATES))
 #define MOST_ENERGY 1000000
 
 /* Rates in cycles a tick, which is a millisecond, and the power in mW at each and
@@ -94,6 +94,11 @@ static inline int spaced(struct reader *r, uint32_t *word)
     return LITERAL(r, " ") && number(r, word);
 }
 
+static inline int next_is(const struct reader *r, char byte)
+{
+    return r->at < r->end && *r->at == (uint8_t)byte;
+}
+
 /* The energies of a job by the chip's tables; whether one is over the largest. */
 static inline int work_out(const struct chip *chip, uint32_t cycles, uint32_t *energies)
 {
@@ -108,6 +113,18 @@ static inline int work_out(const struct chip *chip, uint32_t cycles, uint32_t *e
     return over;
 }
 
+/* The end of a task's line, behind its cycles or energies: a space says that there
+   is a first release. */
+static inline int task_end(struct reader *r, uint32_t *first)
+{
+    *first = 0;
+    if (!LITERAL(r, ")"))
+        return 0;
+    if (next_is(r, ' ') && (!LITERAL(r, " (from ") || !number(r, first) || !LITERAL(r, ")")))
+        return 0;
+    return LITERAL(r, ")\n");
+}
+
 /* A task's line. `chip` is NULL where the text has rates; `over` is set where an
    energy that is worked out is over the largest. */
 static int task(struct reader *r, uint32_t *words, uint32_t rates, const struct chip *chip,
@@ -117,20 +134,15 @@ static int task(struct reader *r, uint32_t *words, uint32_t rates, const struct 
         || !LITERAL(r, ") (cycles ") || !number(r, &words[1]))
         return 0;
     if (chip != NULL) {
-        *over = work_out(chip, words[1], words + 2);
-        return LITERAL(r, "))\n");
+        *over = work_out(chip, words[1], words + 3);
+        return task_end(r, &words[2]);
     }
     if (!LITERAL(r, ") (energy"))
         return 0;
     for (uint32_t k = 0; k < rates; k++)
-        if (!spaced(r, &words[2 + k]))
+        if (!spaced(r, &words[3 + k]))
             return 0;
-    return LITERAL(r, "))\n");
-}
-
-static inline int next_is(const struct reader *r, char byte)
-{
-    return r->at < r->end && *r->at == (uint8_t)byte;
+    return task_end(r, &words[2]);
 }
 
 /* The idle line, from its name on, with the bracket of the line behind it, where
@@ -190,7 +202,7 @@ static int script(struct reader *r, uint32_t *words, size_t *count, uint32_t *de
 
         if (!task(r, at, rates, chip, &over))
             return 0;
-        at += 2 + rates;
+        at += 3 + rates;
         tasks++;
         if (over && *dear == 0)
             *dear = tasks;
@@ -245,6 +257,7 @@ static size_t first_bad(const uint32_t *set, size_t len, int *is_whole)
     for (size_t t = 0; t < tasks; t++) {
         WORD(1, 10000000);
         WORD(1, 4000000000u);
+        WORD(0, set[at - 2] - 1);
         for (size_t r = 0; r < rates; r++) {
             WORD(1, 1000000);
         }
@@ -273,13 +286,17 @@ static inline unsigned digits(uint32_t v)
 static size_t bytes_needed(const uint32_t *set, size_t len)
 {
     size_t rates = set[2], tasks = set[3 + rates];
-    /* the fixed bytes of the lines, and a space before each rate and energy */
-    size_t bytes = 17 + rates + tasks * (36 + rates);
+    /* the fixed bytes of the lines, and a space before each rate and energy; the
+       digit of a first release of 0, which is not written, is taken off here */
+    size_t bytes = 17 + rates + tasks * (35 + rates);
 
     if (set[1] != 0)
         bytes += 8 + digits(set[1]);
     for (size_t at = 0; at < len; at++)
         bytes += digits(set[at]);
+    for (size_t at = 6 + rates; at < len; at += 3 + rates)
+        if (set[at] != 0)
+            bytes += 1 + 8;             /* and here it is put back, with ` (from ` and `)` */
     return bytes - digits(set[1]) - digits(set[2]) - digits(set[3 + rates]);
 }
 
@@ -336,13 +353,17 @@ uint64_t WRITER(const uint32_t *set, size_t set_len, uint8_t *text, size_t text_
     at = put_spaced(at, set + 3, rates);
     at = PUT(at, ")\n");
     task = set + 4 + rates;
-    for (size_t t = 0; t < tasks; t++, task += 2 + rates) {
+    for (size_t t = 0; t < tasks; t++, task += 3 + rates) {
         at = PUT(at, "(task (period ");
         at = put_number(at, task[0]);
         at = PUT(at, ") (cycles ");
         at = put_number(at, task[1]);
         at = PUT(at, ") (energy");
-        at = put_spaced(at, task + 2, rates);
+        at = put_spaced(at, task + 3, rates);
+        if (task[2] != 0) {
+            at = PUT(at, ") (from ");
+            at = put_number(at, task[2]);
+        }
         at = PUT(at, "))\n");
     }
     return needed;

@@ -9,7 +9,7 @@
 
    One line a case and call: name; the call of the archive, `walk` for the
    product's seedspell_walk, which checks a set, works out its job times and walks
-   to its hyper-period, or `inner` for the walk itself, which is given periods, job
+   to its hyper-period, or with first releases to twice that, or `inner` for the walk itself, which is given periods, job
    times, first releases and the last tick, as plain C is; N; L, the last tick; the
    mean gap between ticks with a release; nanoseconds a tick of the archive, of
    plain C tick by tick and of plain C from event to event; the archive's time over
@@ -73,10 +73,10 @@ enum { WALK, INNER, TICKS, EVENTS, WAYS };
 
 struct tasks {
     uint32_t count;
-    uint32_t end;               /* the last tick: by WALK the hyper-period */
+    uint32_t end;               /* the last tick: by WALK the hyper-period, or twice that */
     uint32_t period[MOST_TASKS];
     uint32_t time[MOST_TASKS];
-    uint32_t first[MOST_TASKS]; /* releases: by WALK all 0 */
+    uint32_t first[MOST_TASKS]; /* releases: by WALK below the periods */
 };
 
 struct list {
@@ -419,6 +419,7 @@ static void make_list(struct list *list, const struct tasks *t)
         uint32_t number = 1 + i % RATES;
         *at++ = t->period[i];
         *at++ = t->time[i] * rate[number - 1] - i;
+        *at++ = t->first[i];
         for (uint32_t j = 0; j < RATES; j++)
             *at++ = 1 + j;
         list->plan[i] = number;
@@ -441,6 +442,17 @@ static int far_case(const char *name, int repetitions)
 {
     works[0].tasks.end = FARTHEST;
     return measure(name, BY_INNER, 1, 1, (repetitions + 4) / 5);
+}
+
+/* The same tasks with first releases: the product's walk goes to 2 x SPAN then. */
+static int from_case(const char *name, int repetitions)
+{
+    struct tasks *t = &works[0].tasks;
+
+    t->end = 2 * SPAN;
+    for (uint32_t i = 0; i < t->count; i++)
+        t->first[i] = t->period[i] / 2;
+    return own_case(name, BY_WALK | BY_INNER, repetitions);
 }
 
 /* By itself a task has its period for hyper-period, so it is walked to SPAN by the
@@ -467,6 +479,7 @@ static int own_cases(int repetitions)
         make_long(t, count);
         if (!own_case("few-long", BY_WALK | BY_INNER, repetitions)
             || !family_case(&few, count, repetitions) || !far_case(few.name, repetitions)
+            || (count > 1 && !from_case("few-from", repetitions))
             || !family_case(&some, count, repetitions)
             || !family_case(&many, count, repetitions) || !far_case(many.name, repetitions)
             || (count > 1 && !family_case(&dense, count, repetitions)))
@@ -480,14 +493,14 @@ static int own_cases(int repetitions)
 
 /* ---- Generated sets. */
 
-/* Periods and job times of a set under a plan. */
+/* Periods and job times of a generated set under a plan; its tasks are released together. */
 static void make_tasks(struct tasks *t, const struct list *list, uint32_t span)
 {
     uint32_t rates = list->set[2];
     const uint32_t *rate = list->set + 3, *task = rate + rates + 1;
 
     *t = (struct tasks){.count = (uint32_t)list->plan_len, .end = span};
-    for (uint32_t i = 0; i < t->count; i++, task += 2 + rates) {
+    for (uint32_t i = 0; i < t->count; i++, task += 3 + rates) {
         uint32_t chosen = rate[list->plan[i] - 1];
         t->period[i] = task[0];
         t->time[i] = (task[1] + chosen - 1) / chosen;

@@ -28,7 +28,7 @@ uint64_t bench_walk(const uint32_t *period, const uint32_t *time, const uint32_t
 uint64_t seedspell_walk(const uint32_t *set, size_t set_len, const uint32_t *plan, size_t plan_len,
                         uint8_t *results, size_t results_len)
 {
-    uint32_t period[MOST_TASKS], time[MOST_TASKS], first[MOST_TASKS] = {0}, span = 0;
+    uint32_t period[MOST_TASKS], time[MOST_TASKS], first[MOST_TASKS], span = 0, end;
     uint64_t values[4], refused = check_set(set, set_len, common_divisor, &span);
     const uint32_t *task;
 
@@ -39,11 +39,15 @@ uint64_t seedspell_walk(const uint32_t *set, size_t set_len, const uint32_t *pla
     if (results_len < sizeof values)
         return refusal(SEEDSPELL_REFUSED_RECEIVING_LIST_SHORT, sizeof values);
     task = set + 4 + set[2];
-    for (size_t i = 0; i < plan_len; i++, task += 2 + set[2]) {
+    end = span;
+    for (size_t i = 0; i < plan_len; i++, task += 3 + set[2]) {
         period[i] = task[0];
         time[i] = (uint32_t)job_time(task[1], set[2 + plan[i]]);
+        first[i] = task[2];
+        if (first[i] > 0)
+            end = 2 * span;
     }
-    standin_walk((uint32_t)plan_len, period, time, first, span, values);
+    standin_walk((uint32_t)plan_len, period, time, first, end, values);
     memcpy(results, values, sizeof values);
     return 0;
 }
