@@ -37,7 +37,7 @@ list_of() {
         }
         $1 == "task" {
             tasks++
-            lines = lines $3 " " $5
+            lines = lines $3 " " $5 " " ($6 == "from" ? $7 : 0)
             for (r = 1; r <= rates; r++)
                 lines = lines " " mw[r] * int(($5 + mhz[r] * 1000 - 1) / (mhz[r] * 1000))
             lines = lines "\n"
@@ -58,22 +58,30 @@ text_of() {
         NR == 2 { sub(/^[0-9]+/, ""); print "(rates" $0 ")" }
         NR > 3 {
             front = "(task (period " $1 ") (cycles " $2 ") (energy"
-            sub(/^[0-9]+ [0-9]+/, "")
-            print front $0 "))"
+            end = $3 > 0 ? ") (from " $3 "))" : "))"
+            sub(/^[0-9]+ [0-9]+ [0-9]+/, "")
+            print front $0 end
         }' "$1"
 }
 
 # lines_of SHEET: what the program prints, put together from a sheet.
 lines_of() {
     awk '
-        /^ +[0-9]+ +[0-9]+ +[0-9]+$/ { rates = rates "(rate " $1 " " $2 ")\n" }
-        /^hyper-period/ { gsub(/[^0-9 ]/, ""); span = $1; busy = $2; idle = $3; preempted = $4 }
+        /^ +[0-9]+ +[0-9]+ +[0-9]+ +[0-9]+$/ { rates = rates "(rate " $1 " " $2 ")\n" }
+        /^hyper-period/ { gsub(/[^0-9 ]/, ""); span = $1; load = busy = $2; idle = $3; preempted = $4 }
+        /^walked/ { gsub(/[^0-9 ]/, ""); busy = $2; idle = $3; preempted = $4 }
         /^unit/ { unit = $2 }
         /^energy/ { energy = $2 }
         END {
-            printf "(plan (unit %s) (load %s %s) (energy %s))\n", unit, busy, span, energy
+            printf "(plan (unit %s) (load %s %s) (energy %s))\n", unit, load, span, energy
             printf "%s(walk (busy %s) (idle %s) (preempted %s))\n", rates, busy, idle, preempted
         }' "$1"
+}
+
+# hold_sheet NAME LIST: on the list's sheet stands what the program prints for the text of that name.
+hold_sheet() {
+    target/examples/sheet 1000 <"$2" >"$out/$1.sheet" || fail "the sheet of $1 ends with $?"
+    lines_of "$out/$1.sheet" | diff "$cases/$1.out" - >&2 || fail "the sheet of $1 has another plan"
 }
 
 # ---- the list of each text is the one that has a stored sheet; with its rates and energies, and on the sheet, it has
@@ -93,9 +101,15 @@ for chip in xscale ppc405lp; do
         ./plan "$out/$chip-$text.text" | diff "$cases/$chip-idle-0.out" - >&2 ||
             fail "$chip.text with an idle energy of 0 has another plan as $chip-$text.text"
     done
-    target/examples/sheet 1000 <"$list" >"$out/$chip.sheet" || fail "the sheet of $chip.text ends with $?"
-    lines_of "$out/$chip.sheet" | diff "$cases/$chip.out" - >&2 || fail "the sheet of $chip.text has another plan"
+    hold_sheet "$chip" "$list"
 done
+# The same with first releases, of which the sheet's walk goes to two hyper-periods.
+list=examples/sheet/cases/chip-xscale-from.in
+list_of "$cases/xscale-from.in" | diff "$list" - >&2 || fail "$list is not the list of xscale-from.in"
+text_of "$list" >"$out/xscale-from-given.text"
+./plan "$out/xscale-from-given.text" | diff "$cases/xscale-from.out" - >&2 ||
+    fail "xscale-from.in with its rates and energies has another plan"
+hold_sheet xscale-from "$list"
 
 echo "examples/chips: $held texts as stored, $failures departures"
 [ "$failures" -eq 0 ]

@@ -17,7 +17,7 @@
 
 #define MOST_TASKS 32
 #define RATES 5                                         /* of every generated set */
-#define TASK_WORDS (2 + RATES)                          /* period, cycles and energies */
+#define TASK_WORDS (3 + RATES)                          /* period, cycles, first release and energies */
 
 static uint32_t set[SEEDSPELL_GENERATED_WORDS];
 

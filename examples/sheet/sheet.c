@@ -22,12 +22,12 @@
 
 #include "../../include/seedspell.h"
 
-#if SEEDSPELL_LIST_VERSION != 2
-#error "the sheet builder reads lists with the idle energy behind the slack"
+#if SEEDSPELL_LIST_VERSION != 3
+#error "the sheet builder reads lists with a first release behind each task's cycles"
 #endif
 
 #define MOST_TASKS 32
-#define MOST_WORDS (4 + 8 + MOST_TASKS * (2 + 8))       /* of a set with 8 rates and 32 tasks */
+#define MOST_WORDS (4 + 8 + MOST_TASKS * (3 + 8))       /* of a set with 8 rates and 32 tasks */
 #define DAY UINT64_C(86400000000)                       /* in microseconds */
 #define LONGEST_TICK 1000000000
 
@@ -51,10 +51,30 @@ static uint32_t tasks(void)
     return set[3 + rates()];
 }
 
-/* The words of task number k: its period, its cycles, and its energy at rate number r at place 1 + r. */
+/* The words of a task: its period, its cycles, its first release, and its energies. */
+static size_t task_words(void)
+{
+    return 3 + rates();
+}
+
+/* Those of task number k; its energy at rate number r stands at place 2 + r of them. */
 static const uint32_t *task(size_t k)
 {
-    return set + 4 + rates() + (k - 1) * (2 + rates());
+    return set + 4 + rates() + (k - 1) * task_words();
+}
+
+/* The tick at which the first job of task number k is released. */
+static uint32_t first_release(size_t k)
+{
+    return task(k)[2];
+}
+
+static int released_together(void)
+{
+    for (size_t k = 1; k <= tasks(); k++)
+        if (first_release(k) > 0)
+            return 0;
+    return 1;
 }
 
 static _Noreturn void give_up(const char *why)
@@ -155,17 +175,28 @@ static void print_place(size_t at)
     } else if (at == 3 + (size_t)rates()) {
         printf("the number of tasks");
     } else {
-        k = (at - 4 - rates()) / (2 + rates()) + 1;
-        of_task = (at - 4 - rates()) % (2 + rates());
+        k = (at - 4 - rates()) / task_words() + 1;
+        of_task = (at - 4 - rates()) % task_words();
         if (k > tasks())
             printf("a word after those of the last task");
         else if (of_task == 0)
             printf("the period of task %zu", k);
         else if (of_task == 1)
             printf("the cycles of task %zu", k);
+        else if (of_task == 2)
+            printf("the first release of task %zu", k);
         else
-            printf("the energy of task %zu at rate number %zu", k, of_task - 1);
+            printf("the energy of task %zu at rate number %zu", k, of_task - 2);
     }
+}
+
+/* The range of the first release at a place: its task's period stands two places before it. */
+static const char *range_of_first(size_t at)
+{
+    static char range[64];
+
+    snprintf(range, sizeof range, "0 to %" PRIu32 " ticks, less than the period of the task", set[at - 2] - 1);
+    return range;
 }
 
 /* The range of the word at a place. */
@@ -183,15 +214,17 @@ static const char *range_of(size_t at)
         return "1 to 1000000 cycles a tick";
     if (at == 3 + (size_t)rates())
         return "1 to 32";
-    of_task = (at - 4 - rates()) % (2 + rates());
+    of_task = (at - 4 - rates()) % task_words();
     if (of_task == 0)
         return "1 to 10000000 ticks";
+    if (of_task == 2)
+        return range_of_first(at);
     return of_task == 1 ? "1 to 4000000000 cycles" : "1 to 1000000 microjoules";
 }
 
 static int is_left_over(size_t at)
 {
-    return at >= 3 && at > 3 + (size_t)rates() && (at - 4 - rates()) / (2 + rates()) >= tasks();
+    return at >= 3 && at > 3 + (size_t)rates() && (at - 4 - rates()) / task_words() >= tasks();
 }
 
 static void explain_word(size_t at)
@@ -221,7 +254,7 @@ static uint64_t job_time(size_t k, size_t r)
 /* An energy below what waiting would draw; all words are in their ranges here. */
 static void explain_energy(size_t at)
 {
-    size_t k = (at - 4 - rates()) / (2 + rates()) + 1, r = (at - 4 - rates()) % (2 + rates()) - 1;
+    size_t k = (at - 4 - rates()) / task_words() + 1, r = (at - 4 - rates()) % task_words() - 2;
     uint64_t time = job_time(k, r);
 
     printf("Place %zu, ", at);
@@ -300,9 +333,10 @@ static void print_boot_table(void)
 {
     const uint32_t *settings = set + 3;                 /* the set's own rates: M entries, 0 to M - 1 */
 
-    printf("BOOT TABLE\ntask  rate  clock setting (cycles a tick)\n");
+    printf("BOOT TABLE\ntask  rate  first release (tick)  clock setting (cycles a tick)\n");
     for (uint32_t k = 1; k <= tasks(); k++)
-        printf("%4" PRIu32 "  %4" PRIu32 "  %" PRIu32 "\n", k, plan[k - 1], clock_setting(settings, plan[k - 1]));
+        printf("%4" PRIu32 "  %4" PRIu32 "  %20" PRIu32 "  %" PRIu32 "\n", k, plan[k - 1], first_release(k),
+               clock_setting(settings, plan[k - 1]));
 }
 
 /* The energy of the plan's jobs over the hyper-period. */
@@ -311,7 +345,7 @@ static uint64_t jobs_energy(uint64_t span)
     uint64_t energy = 0;
 
     for (uint32_t k = 1; k <= tasks(); k++)
-        energy += span / task(k)[0] * task(k)[1 + plan[k - 1]];
+        energy += span / task(k)[0] * task(k)[2 + plan[k - 1]];
     return energy;
 }
 
@@ -351,6 +385,17 @@ static void print_bound(uint64_t unit, uint64_t energy)
                energy * set[0] % (1000 + set[0]) == 0 ? "" : ", rounded down");
 }
 
+/* The ticks of a hyper-period, and what the walk counted. Where tasks are released together that is one hyper-period;
+   else it is two, from the first releases on, and a job may be unfinished at their end. */
+static void print_ticks(uint64_t load, uint64_t span, const uint64_t *walked)
+{
+    printf("hyper-period  ticks: %" PRIu64 ", busy: %" PRIu64 ", idle: %" PRIu64, span, load, span - load);
+    if (!released_together())
+        printf("\nwalked        ticks: %" PRIu64 ", busy: %" PRIu64 ", idle: %" PRIu64, walked[1] + walked[2], walked[1],
+               walked[2]);
+    printf(", preemptions: %" PRIu64 "\n", walked[3]);
+}
+
 /* A job takes a tick at least and 1,000,000 microjoules at most, a tick without one takes less, and a day has at most
    8.64e10 ticks: so a day's energy is at most 8.64e16 microjoules. */
 static void print_battery_page(const uint64_t *planned, const uint64_t *walked, uint64_t tick)
@@ -361,8 +406,7 @@ static void print_battery_page(const uint64_t *planned, const uint64_t *walked, 
 
     printf("\nBATTERY PAGE\n");
     printf("tick          %" PRIu64 " us\n", tick);
-    printf("hyper-period  ticks: %" PRIu64 ", busy: %" PRIu64 ", idle: %" PRIu64 ", preemptions: %" PRIu64 "\n", span, load, walked[2],
-           walked[3]);
+    print_ticks(load, span, walked);
     printf("load          %" PRIu64 ".%02" PRIu64 " %% of the hyper-period\n", per_cent / 100, per_cent % 100);
     printf("unit          %" PRIu64 " uJ\n", unit);
     printf("jobs          %" PRIu64 " uJ a hyper-period\n", jobs_energy(span));
@@ -373,6 +417,17 @@ static void print_battery_page(const uint64_t *planned, const uint64_t *walked, 
     printf("              %" PRIu64 ".%06" PRIu64 " J a day\n", per_day / 1000000, per_day % 1000000);
     if (idle_energy() == 0)
         printf("not counted   what waiting draws: the set has 0 for it\n");
+}
+
+/* Whether the walk says what the plan does. With all tasks released together it is busy for the load; else it goes on
+   for two hyper-periods, in which the jobs take twice the load, and what is not done of them by then is due later. */
+static int is_borne_out(const uint64_t *planned, const uint64_t *walked)
+{
+    uint64_t load = planned[1], span = planned[2], busy = walked[1], ticks = walked[1] + walked[2];
+
+    if (walked[0] != 1)
+        return 0;
+    return released_together() ? busy == load && ticks == span : busy <= 2 * load && ticks == 2 * span;
 }
 
 /* Ends the run, once all that was printed has reached standard output: until here it may only have been collected. */
@@ -406,10 +461,10 @@ int main(int argc, char **argv)
        plan's N words and no more, where the planner had room for MOST_TASKS. */
     returned = seedspell_walk(set, set_len, plan, tasks(), results, sizeof results);
     read_results(results, walked);
-    if (returned != 0 || walked[0] != 1 || walked[1] != planned[1] || walked[1] + walked[2] != planned[2])
+    if (returned != 0 || !is_borne_out(planned, walked))
         give_up("the walk does not bear out the plan: host and archive do not belong together");
-    /* And the energy is that of the jobs, by the set's own words, and of the ticks that the walk found idle. */
-    if (planned[3] != jobs_energy(planned[2]) + idle_energy() * walked[2])
+    /* And the energy is that of the jobs, by the set's own words, and of the ticks of a hyper-period that they leave. */
+    if (planned[3] != jobs_energy(planned[2]) + idle_energy() * (planned[2] - planned[1]))
         give_up("the energy is not that of jobs and waiting: host and archive do not belong together");
 
     print_boot_table();
