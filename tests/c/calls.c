@@ -66,7 +66,7 @@ static struct {
     uint64_t planned, kept, missed;
     uint64_t with_idle, idle_ticks, nothing_left, one_low, walked_low;
     uint64_t bad_first[ENTRIES], first_at_period[ENTRIES], planned_from;
-    uint64_t kept_from, work_left, kept_over, missed_from, missed_after, missed_at_twice;
+    uint64_t kept_from, planned_kept_from, work_left, kept_over, missed_from, missed_after, missed_at_twice;
     uint64_t unit_1, unit_above_1, highest_last, full_load, one_over, alike, both_ways[2], preempted, full_walk, missed_at_end;
     uint64_t long_span;
     uint64_t judged_1, judged_above_1, above_least, margin_used, margin_of_several, margin_with_idle;
@@ -82,7 +82,7 @@ struct row {
 static const struct row rows[] = {
     {"calls of seedspell_plan", &count.calls[PLAN], 80000},
     {"  refused 2: bad word", &count.refused[PLAN][2], 10000},
-    {"    of these a first release", &count.bad_first[PLAN], 3000},
+    {"    of these a first release", &count.bad_first[PLAN], 2000},
     {"      just the period", &count.first_at_period[PLAN], 100},
     {"  refused 3: rate not above", &count.refused[PLAN][3], 1000},
     {"  refused 10: energy below idle", &count.refused[PLAN][10], 3000},
@@ -113,7 +113,7 @@ static const struct row rows[] = {
     {"        with an idle energy", &count.margin_with_idle, 500},
     {"calls of seedspell_walk", &count.calls[WALK], 80000},
     {"  refused 2: bad word", &count.refused[WALK][2], 10000},
-    {"    of these a first release", &count.bad_first[WALK], 3000},
+    {"    of these a first release", &count.bad_first[WALK], 2000},
     {"      just the period", &count.first_at_period[WALK], 100},
     {"  refused 3: rate not above", &count.refused[WALK][3], 1000},
     {"  refused 4: hyper-period", &count.refused[WALK][4], 1000},
@@ -124,6 +124,7 @@ static const struct row rows[] = {
     {"    without idle ticks", &count.full_walk, 2000},
     {"    with an energy below idle", &count.walked_low, 1000},
     {"    with first releases", &count.kept_from, 5000},
+    {"      of the planner's plans", &count.planned_kept_from, 5000},
     {"      and work left at 2 x L", &count.work_left, 2000},
     {"      and a load over L", &count.kept_over, 300},
     {"  missed", &count.missed, 20000},
@@ -1446,6 +1447,20 @@ static void unsettle(struct call *c, size_t tasks)
     }
 }
 
+/* The planner's plan under other first releases: it keeps every deadline, whichever they are. */
+static void walk_from_others(const struct shape *planned, const uint32_t *plan)
+{
+    struct shape shape = *planned;
+    struct list set;
+    struct answer want;
+
+    draw_firsts(&shape);
+    flatten(&shape, &set);
+    walk_under(&set, plan, shape.tasks, &want);
+    demand(want.code == 0 && want.value[0] == 1, "a plan that misses from other first releases");
+    count.planned_kept_from += want.end > want.span;
+}
+
 static void random_set(void)
 {
     struct shape shape;
@@ -1461,8 +1476,10 @@ static void random_set(void)
     if (one_in(4))
         unsettle(&c, tasks);
     try_call(&c, &planned);
-    if (planned.code == 0)
+    if (planned.code == 0) {
         walk_under(&set, planned.plan, tasks, &want);
+        walk_from_others(&shape, planned.plan);
+    }
     start_call(&c, WALK, &set, set.len);
     random_plan(&set, c.plan, tasks);
     if (one_in(4))
