@@ -753,7 +753,7 @@ def read_text(data, room):
             # 'the first byte such that no well-formed text begins with the
             # bytes up to and including it'
             return refused(1, offset)
-    ended = {head for head, *state in states if is_end((head, *state))}
+    ended = {state[0] for state in states if is_end(state)}
     if not ended:
         return refused(1, len(data))    # 'the text's length if it ends early'
 

@@ -1362,14 +1362,14 @@ FIRST_WORKED = [
     (((5, 6, 2),), ('missed', 7, 1)),
     # Jobs at 3 and 8, due at 8 and 13, and none at 5.
     (((5, 4, 3),), ('kept', 6, 4, 0)),
-    # A is one less than the period: at 4 and 9, and one tick of the second is left for it.
+    # A is one less than the period: jobs at 4 and 9, and one tick for the second.
     (((5, 5, 4),), ('kept', 6, 4, 0)),
     (((1, 1, 0),), ('kept', 1, 0, 0)),
     (((2, 1, 1),), ('kept', 2, 2, 0)),
     (((2, 3, 1),), ('missed', 3, 1)),
     # One A above 0 takes all tasks to 2 x L: task 1 has jobs at 0, 2, 4 and 6, task 2 at 3 and 7.
     (((2, 1, 0), (4, 1, 3)), ('kept', 6, 2, 0)),
-    # Before L, which is 10; and after it, where L is 8.
+    # Before L, which is 10; then after it; and after it where L is 8.
     (((2, 3, 1), (10, 1, 0)), ('missed', 3, 1)),
     (((10, 1, 0), (5, 6, 4)), ('missed', 9, 2)),
     (((10, 1, 0), (10, 11, 4)), ('missed', 14, 2)),
@@ -1377,9 +1377,9 @@ FIRST_WORKED = [
     # At 2 x L itself, which is 8. Ticks 0 to 3: task 1. 4 and 5: task 2, whose deadline is 7. 6 and
     # 7: task 1, which has two ticks left at 8.
     (((4, 4, 0), (4, 2, 3)), ('missed', 8, 1)),
-    # In time there.
+    # The same with two ticks less, in time.
     (((4, 2, 0), (4, 2, 3)), ('kept', 7, 1, 0)),
-    # Two are late at 2 x L, and the lower number is named.
+    # Two are late at 8, which is L here, and the lower number is named; then one is.
     (((4, 4, 0), (4, 2, 3), (8, 1, 0)), ('missed', 8, 1)),
     (((8, 1, 0), (4, 4, 0), (4, 2, 3)), ('missed', 8, 2)),
     # Released later, and yet due earlier: task 2 breaks task 1 at 1, 3, 7 and 9.

@@ -57,12 +57,12 @@ def first_ranges():
         check('c-first-%d-of-%d' % (A, p), put(with_periods((p,)), 8, A),
               None if good else refused(2, 8))
     # Of two bad words the first, in the order of their places.
-    low, high = with_bad(S, 9), with_bad(S, 9, 15)
+    bad = with_bad(S, 9)
     for label, words, place in (
-            ('both', high, 9), ('cycles', put(low, 8, 0), 8), ('period', put(low, 7, 0), 7),
-            ('energy', put(low, 10, 0), 9), ('energy-before', put(with_bad(S, 15), 12, 0), 12),
-            ('count', put(low, 6, 33), 6), ('short', low[:-1], 9), ('cut', low[:10], 9),
-            ('long', low + [1], 9), ('rates', put(low, 4, 2), 9), ('idle', put(low, IDLE_AT, 9), 9)):
+            ('both', with_bad(S, 9, 15), 9), ('cycles', put(bad, 8, 0), 8), ('period', put(bad, 7, 0), 7),
+            ('energy', put(bad, 10, 0), 9), ('energy-before', with_bad(S, 12, 15), 12),
+            ('count', put(bad, 6, 33), 6), ('short', bad[:-1], 9), ('cut', bad[:10], 9),
+            ('long', bad + [1], 9), ('rates', put(bad, 4, 2), 9), ('idle', put(bad, IDLE_AT, 9), 9)):
         check('c-first-and-%s' % label, words, refused(2, place))
         planner('p-first-and-%s' % label, words, *NONE, refused(2, place))
     # 2 before 4 and before 8, and after it 3, 10, 4 and 8 as they were.
