@@ -385,8 +385,8 @@ static void print_bound(uint64_t unit, uint64_t energy)
                energy * set[0] % (1000 + set[0]) == 0 ? "" : ", rounded down");
 }
 
-/* The ticks of a hyper-period, and what the walk counted. Where tasks are released together that is one hyper-period;
-   else it is two, from the first releases on, and a job may be unfinished at their end. */
+/* The ticks of a hyper-period, and what the walk counted. Where tasks are released together it goes through one
+   hyper-period; else through two, and a job may be unfinished at their end. */
 static void print_ticks(uint64_t load, uint64_t span, const uint64_t *walked)
 {
     printf("hyper-period  ticks: %" PRIu64 ", busy: %" PRIu64 ", idle: %" PRIu64, span, load, span - load);
