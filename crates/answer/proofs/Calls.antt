@@ -7,7 +7,7 @@ use native.Mathlib.Omega.{arith}
 use lib.ListN.{length, take, drop}
 use lib.Seq.{take-at}
 use Rattle.selection.specs.Plan.{Fitting}
-use Rattle.layout.specs.Words.{taskCount}
+use Rattle.layout.specs.Words.{taskCount, first}
 use Rattle.layout.specs.declared.Layout.the-variants.{Ordinary}
 use Rattle.taskset.specs.Quantities.{problem, workNeeded}
 use Rattle.taskset.specs.Refusals.{number, second, Accepts, Refuses, _▹_, wordChecks, idleChecks, hyperCheck, workCheck}
@@ -21,7 +21,7 @@ use Rattle.taskset.specs.declared.CopyAnswer.the-variants.{Wrote, Refused as No
 use Rattle.taskset.specs.declared.PlannerAnswer.the-variants.{Planned, Refused as NotPlanned}
 use Rattle.taskset.specs.declared.WalkAnswer.the-variants.{Kept, Missed, Refused as NotWalked}
 use Rattle.taskset.proofs.Checks.{accepts-but-last, accepts-next, refuses-next, refuses-before, passed, not-both}
-use Rattle.taskset.proofs.DemandThree.{outcome-kept, sound-plan}
+use Rattle.taskset.proofs.DemandThree.{outcome-kept, sound-plan, own-firsts}
 use Rattle.taskset.proofs.Copied.{copied, count-is, front-is}
 use Rattle.text.specs.Text.{Script, words}
 use Rattle.text.specs.Calls.{ReaderGives}
@@ -36,7 +36,7 @@ use Rattle.answer.specs.Answer.{workLent, planLent, setLent, Read, Print
 use Rattle.answer.specs.Answer.{RespondGives, Responds}
 use Rattle.answer.specs.Steps as steps
 use Rattle.answer.specs.Steps.{PlannedSet, PrintsSet, PutSet, PutAnswer}
-use Rattle.answer.proofs.Outputs.{is-plan, plan-length, promise, owes, output-short}
+use Rattle.answer.proofs.Outputs.{is-set, is-plan, plan-length, promise, owes, output-short}
 
 -- ---- a plan and its walk
 module _ {s P : List ℕ} {unit load hyper energy : ℕ} (given : PlannedSet s P unit load hyper energy) where
@@ -54,7 +54,10 @@ module _ {s P : List ℕ} {unit load hyper energy : ℕ} (given : PlannedSet s P
 
   -- The two other answers of the walk do not occur.
   pub not-missed : (t k : ℕ) → Walked s P (Missed t k) → ⊥
-  not-missed t k w = w .owes .from-0 (promise s (given .accepts) P unit load hyper energy (given .selected) .keeps .for-ever)
+  not-missed t k w =
+      w .owes .from-these
+      (promise s (given .accepts) P unit load hyper energy (given .selected) .keeps-from (first Ordinary s)
+      (own-firsts s (is-set s (given .accepts))))
 
   accepted : Accepts (walkChecks s P)
   accepted =

@@ -61,7 +61,7 @@ RespondGives t d d′ (Wrote n) =
 RespondGives t d d′ (NotCopied r) =
     (out : List ℕ) × Prints t out × Refuses (outputChecks (length out) (length d)) (number r) (second r) × (d′ ≡ d)
 
--- WHAT AN OUTPUT OWES (demand 3, and note 5's margin): the lines of a plan its promise, by the unit and the energy that
+-- WHAT AN OUTPUT OWES (demand 3, with notes 5 and 6): the lines of a plan its promise, by the unit and the energy that
 -- stand in them; and a refusal of the planner's is 7 exactly when the checks before 7 pass and no plan keeps every
 -- deadline for ever.
 abbrev pub Owes : {t out : List ℕ} → Prints t out → Type 0

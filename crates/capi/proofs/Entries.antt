@@ -29,11 +29,10 @@ module _ (s P d : List ℕ) where
   refused : (r : Refusal) (x : ℕ) → x ≡ code r → Refuses (walkEntryChecks s P (length d)) (number r) (second r) → WalkEntry s P d d x
   refused r x e h = record {
     gives = inr (r, h, e, tt, refl);
+    kept = λ z. absurd (code-positive r (sym e ∙ z));
+    missed = λ z. absurd (code-positive r (sym e ∙ z));
     keeps-kept = λ z. absurd (code-positive r (sym e ∙ z));
-    missed-not = λ z. absurd (code-positive r (sym e ∙ z));
-    counted = λ z. absurd (code-positive r (sym e ∙ z));
     kept-iff-keeps = λ z. absurd (code-positive r (sym e ∙ z));
-    busy-is-load = λ z. absurd (code-positive r (sym e ∙ z));
   }
 
   -- A refusal of the walk's checks is the entry's.
@@ -63,11 +62,10 @@ module _ (s P d : List ℕ) where
         let idle : resultAt d′ 2 ≡ i = ap (λ (x : List ℕ). resultAt x 2) e ∙ result-value (1 ∷ b ∷ i ∷ p ∷ []) (drop 32 d) 2 (omega arith) (omega (arith, w .owes .counted)) in
         record {
           gives = inl (Kept b i p, accepts (w .answers .0), w .answers, refl, e);
+          kept = λ z h. rw (busy, idle) (w .owes);
+          missed = λ z h. absurd (omega arith);
           keeps-kept = λ z k. one;
-          missed-not = λ z h. absurd (omega arith);
-          counted = λ z h. omega (arith, w .owes .counted);
           kept-iff-keeps = λ z zero. ((λ h. w .owes .together zero .0), (λ k. one));
-          busy-is-load = λ z zero h. busy ∙ w .owes .together zero .1;
         }
 
     pub entry-missed : (t k : ℕ) → Walked s P (Missed t k) → d′ ≡ resultBytes (0 ∷ t ∷ k ∷ 0 ∷ []) ++ drop 32 d → WalkEntry s P d d′ 0
@@ -75,9 +73,8 @@ module _ (s P d : List ℕ) where
         let none : resultAt d′ 0 ≡ 0 = ap (λ (x : List ℕ). resultAt x 0) e ∙ result-value (0 ∷ t ∷ k ∷ 0 ∷ []) (drop 32 d) 0 (omega arith) (omega arith) in
         record {
           gives = inl (Missed t k, accepts (w .answers .0), w .answers, refl, e);
+          kept = λ z h. absurd (omega arith);
+          missed = λ z h. w .owes;
           keeps-kept = λ z k. absurd (w .owes .from-these k);
-          missed-not = λ z h. w .owes;
-          counted = λ z h. absurd (omega arith);
           kept-iff-keeps = λ z zero. ((λ h. absurd (omega arith)), (λ q. absurd (w .owes .from-0 (q .for-ever))));
-          busy-is-load = λ z zero h. absurd (omega arith);
         }

@@ -8,10 +8,10 @@ use Rattle.schedule.specs.Walk.{KeepsForEver}
 use Rattle.selection.specs.Plan.{Fitting, planLoad}
 use Rattle.layout.specs.Words.{rateCount, taskCount}
 use Rattle.layout.specs.declared.Layout.the-variants.{Ordinary}
-use Rattle.taskset.specs.Quantities.{hyperPeriod, problem, walkTasks, lastTick}
+use Rattle.taskset.specs.Quantities.{hyperPeriod, problem, walkTasks}
 use Rattle.taskset.specs.Refusals.{number, second, Check, Accepts, Refuses, _▹_, roomCheck, noneCheck, readyChecks, walkChecks}
 use Rattle.taskset.specs.Calls.{code, plannerValues, walkValues, PlannerGives, WalkAnswers}
-use Rattle.taskset.specs.DemandThree.{Keeps, margin, PlanPromise, NoneKeeps, Together, MissedOwes}
+use Rattle.taskset.specs.DemandThree.{Keeps, margin, PlanPromise, NoneKeeps, Together, KeptOwes, MissedOwes}
 use Rattle.taskset.specs.declared.Refusal.{Refusal}
 use Rattle.taskset.specs.declared.CopyAnswer.{CopyAnswer}
 use Rattle.taskset.specs.declared.CopyAnswer.the-variants.{Wrote, Refused as NotCopied}
@@ -62,17 +62,16 @@ walkEntryChecks s P size = walkChecks s P ▹ roomCheck resultSize size
 abbrev pub WalkEntryGives : (s P results results′ : List ℕ) → ℕ → Type 0
 WalkEntryGives s P results = EntryGives (walkEntryChecks s P (length results)) (WalkAnswers s P) walkValues (Unit {0}) results
 
--- The entry's contract: the above; and again over the bytes, where 0 is returned. From the first releases of the list: a
--- plan that keeps every deadline for ever has a first value of 1; with 0 it does not, nor with all released together; and
--- with 1 the second and the third value add up to the last tick. With every first release 0: the first value is 1 if and
--- only if the plan keeps every deadline for ever, and then the second is its load.
+-- The entry's contract: the above; and again over the bytes, where 0 is returned: with a first value of 1 what 'kept'
+-- owes, with the second and the third value for its counts; with 0 what 'missed' owes; a plan that keeps every deadline
+-- for ever from the list's first releases has 1; and with every first release 0, those that have 1 are just those that
+-- keep every deadline for ever.
 pub record WalkEntry (s P results results′ : List ℕ) (returned : ℕ) : Type 0 where
   pub gives : WalkEntryGives s P results results′ returned
+  pub kept : returned ≡ 0 → resultAt results′ 0 ≡ 1 → KeptOwes s P (resultAt results′ 1) (resultAt results′ 2)
+  pub missed : returned ≡ 0 → resultAt results′ 0 ≡ 0 → MissedOwes s P
   pub keeps-kept : returned ≡ 0 → KeepsForEver (walkTasks Ordinary s P) → resultAt results′ 0 ≡ 1
-  pub missed-not : returned ≡ 0 → resultAt results′ 0 ≡ 0 → MissedOwes s P
-  pub counted : returned ≡ 0 → resultAt results′ 0 ≡ 1 → resultAt results′ 1 + resultAt results′ 2 ≡ lastTick Ordinary s
   pub kept-iff-keeps : returned ≡ 0 → Together s → (resultAt results′ 0 ≡ 1) ↔ Keeps s P
-  pub busy-is-load : returned ≡ 0 → Together s → resultAt results′ 0 ≡ 1 → resultAt results′ 1 ≡ planLoad (problem s) P
 
 -- THE PLANNER FROM C. Its own checks but 7, then the result bytes, then 7. The lengths are those of the plan list, the
 -- working list and the result bytes.
@@ -89,7 +88,7 @@ PlanEntryGives s plan work results plan′ work′ =
     ((plan′ ≡ plan) × (work′ ≡ work)) results
 
 -- The entry's contract: the above; and demand 3 again over the plan words and the bytes. Where 0 is returned, every
--- plan word is a rate number, and the plan keeps its promise, and note 5's, with the unit that the first value is and
+-- plan word is a rate number, and the plan keeps its promise, with notes 5 and 6, with the unit that the first value is and
 -- the energy that the fourth is; the second value is its load, the third the hyper-period. Margin and energy are so
 -- small that a host can work with them in 64 bits. And 7 is returned if and only if no cause before it holds and no plan
 -- keeps every deadline for ever.

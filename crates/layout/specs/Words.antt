@@ -160,8 +160,8 @@ kindAt layout s q =
 -- RANGES. "the slack G in thousandths (1 to 1,000); the rate count M (2 to 8); M rates in cycles per tick (1 to
 -- 1,000,000); the task count N (1 to 32); then for each task the period p in ticks (1 to 10,000,000), the cycles c of
 -- one job (1 to 4,000,000,000), and M energies in microjoules per job (1 to 1,000,000)": whether the word at place q,
--- of a kind, is in its range; and "H in microjoules per tick, 0 to 1,000"; and "A below the period", which stands two
--- places before it. A word that is left over may be nothing.
+-- of a kind, is in its range; and "H in microjoules per tick, 0 to 1,000"; and "A below the period", the word two places
+-- before. A word that is left over may be nothing.
 unfoldable pub allows : List ℕ → ℕ → Kind → Bool
 allows s q Slack = between 1 1000 (word s q)
 allows s q Idle = between 0 mostIdle (word s q)

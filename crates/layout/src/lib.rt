@@ -87,8 +87,7 @@ pub fn task_kind(layout: Layout, k: usize) -> Kind
     }
 }
 
-// The place of a task's period, where q is that of its first release. A list may be asked of at any place: before the
-// third it is the first.
+// The place of a task's period, where q is that of its first release; 0 where q is below 2, at which none stands.
 fn own_period(q: usize) -> usize
     ensures { λ r. ⌜ r ≡ q - 2 ⌝ }
 {

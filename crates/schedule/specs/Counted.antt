@@ -68,7 +68,7 @@ abbrev pub IsKept : Outcome → Type 0
 IsKept (missed t i) = ⊥
 IsKept (kept b i p) = Unit {0}
 
--- WORKED EXAMPLES: document 01's marked walks of the set S, over the periods and job times of its tasks, and two more.
+-- WORKED EXAMPLES: document 01's marked walks of the set S, over the periods and job times of its tasks, and others.
 
 -- Plan 1 1: job times 6 and 10. "missed, tick 15, task 2."
 pub walk-of-1-1 : walk (periodic 10 6 ∷ periodic 15 10 ∷ []) 30 ≡ missed 15 2

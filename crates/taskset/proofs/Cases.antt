@@ -21,14 +21,14 @@ use Rattle.selection.proofs.Fastest.{fastest-fits, fastest-least}
 use Rattle.selection.proofs.Table.{leastOf, firstOf, via, best}
 use Rattle.selection.proofs.Choose.{spend, cell}
 use Rattle.selection.proofs.Compute.{trace, leastEnergy, choose, usedFrom, usedExponent, planned-is}
-use Rattle.layout.specs.Words.{slack, rateCount, taskCount, first, headKinds, extraKinds, kindIn, headKind, taskKind, kindAt, allows}
+use Rattle.layout.specs.Words.{slack, rateCount, taskCount, headKinds, extraKinds, kindIn, headKind, taskKind, kindAt, allows}
 use Rattle.layout.specs.declared.Layout.the-variants.{Ordinary}
-use Rattle.taskset.specs.Quantities.{allZero, hyperPeriod, problem, walkTasks, jobsEnergy, reportedEnergy, workNeeded}
+use Rattle.taskset.specs.Quantities.{hyperPeriod, problem, walkTasks, jobsEnergy, reportedEnergy, workNeeded}
 use Rattle.taskset.specs.Refusals.{number, second, Check, Accepts, _▹_, wordChecks, idleChecks, hyperCheck}
 use Rattle.taskset.specs.Refusals.{workCheck, roomCheck, noneCheck, planCheck, readyChecks, plannerChecks}
 use Rattle.taskset.specs.Refusals.{walkChecks}
 use Rattle.taskset.specs.Calls.{code, plannerValues, walkValues, SetAfter, PlannerGives, WalkAnswers}
-use Rattle.taskset.specs.DemandThree.{Keeps, margin, IsLeast, PlanPromise}
+use Rattle.taskset.specs.DemandThree.{Keeps, margin, IsLeast, PlanPromise, Together}
 use Rattle.taskset.specs.declared.Refusal.{Refusal}
 use Rattle.taskset.specs.declared.Refusal.the-variants.{BadWord, NotAbove, TooLong, WorkShort, TooShort, NoPlan, BadPlan, BelowIdle}
 use Rattle.taskset.specs.declared.Checked.{Checked}
@@ -40,7 +40,6 @@ use Rattle.taskset.proofs.Verdict.{isBad, isFall, isOver, isBelow, hasB
 use Rattle.taskset.proofs.Verdict.{checkedOf, coveredOf, checked-answers, covered-answers}
 use Rattle.taskset.proofs.PlanVerdict.{isUnfit, planVerdict, PlanSays, plan-verdict-says}
 use Rattle.taskset.proofs.Sets.{IsSet, set-of, falling}
-use Rattle.taskset.proofs.Released.{zero-each}
 use Rattle.taskset.proofs.DemandThree.{answer-owes, walk-owes}
 use Rattle.taskset.proofs.Margin.{allowance, margin-reached}
 
@@ -222,10 +221,9 @@ module _ (s : List ℕ) where
           refuses-next walked (planCheck Ordinary s P) k (walk-answered (Good m n l) e .0) bad
 
 -- With every first release 0, a plan whose walk is kept keeps every deadline for ever.
-kept-keeps : (s P : List ℕ) (busy idle preempted : ℕ) → allZero (first Ordinary s) (taskCount Ordinary s) ≡ true
-    → WalkAnswers s P (Kept busy idle preempted) → Keeps s P
+kept-keeps : (s P : List ℕ) (busy idle preempted : ℕ) → Together s → WalkAnswers s P (Kept busy idle preempted) → Keeps s P
 kept-keeps s P busy idle preempted zero w =
-    walk-owes s P (Kept busy idle preempted) w .together (zero-each (first Ordinary s) (taskCount Ordinary s) zero) .0
+    walk-owes s P (Kept busy idle preempted) w .together zero .0
 
 -- ---- a plan given, with just the words needed lent, and its promise
 abbrev Given : (s P : List ℕ) (unit load hyper energy : ℕ) → Type 0
@@ -243,8 +241,7 @@ module _ (s P : List ℕ) (unit load hyper energy : ℕ) (size : length P ≤ ta
       (given plan work (length-replicate (taskCount Ordinary s) 0) (length-replicate (workNeeded s) 0)))
 
   -- A plan whose walk is kept, with an energy that is just the margin below: it has the least.
-  least-by-margin : (Q : List ℕ) (busy idle preempted : ℕ) → allZero (first Ordinary s) (taskCount Ordinary s) ≡ true
-      → WalkAnswers s Q (Kept busy idle preempted)
+  least-by-margin : (Q : List ℕ) (busy idle preempted : ℕ) → Together s → WalkAnswers s Q (Kept busy idle preempted)
       → energy ≡ reportedEnergy s Q + margin s unit → IsLeast s Q (reportedEnergy s Q)
   least-by-margin Q busy idle preempted zero w = margin-reached s P unit energy promised Q (kept-keeps s Q busy idle preempted zero w)
 

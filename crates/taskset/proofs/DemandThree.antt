@@ -23,13 +23,13 @@ use Rattle.layout.specs.Words.{slack, idle, rateCount, taskCount, first}
 use Rattle.taskset.specs.Quantities.{hyperPeriod, problem, endlessTasks, tasksWith, walkTasks, lastTick, reportedEnergy}
 use Rattle.taskset.specs.Refusals.{number, second, Check, Accepts, Refuses, _▹_, NoneOk, PlanFault, IsBadPlan, noneCheck, readyChecks, walkChecks}
 use Rattle.taskset.specs.Calls.{plannerValues, Selected, PlannerGives, outcomeValues, walkOf, WalkAnswers}
-use Rattle.taskset.specs.DemandThree.{Keeps, margin, PlanPromise, NoneKeeps, PlannerOwes, Together, WalkOwes}
+use Rattle.taskset.specs.DemandThree.{Keeps, margin, PlanPromise, NoneKeeps, AreFirsts, PlannerOwes, Together, WalkOwes}
 use Rattle.taskset.specs.declared.PlannerAnswer.{PlannerAnswer}
 use Rattle.taskset.specs.declared.PlannerAnswer.the-variants.{Planned, Refused as NotPlanned}
 use Rattle.taskset.specs.declared.WalkAnswer.{WalkAnswer}
 use Rattle.taskset.specs.declared.WalkAnswer.the-variants.{Kept, Missed, Refused as NotWalked}
 use Rattle.taskset.proofs.Checks.{no-plan-fault, Without, without-by, accepts-but-last, refuses-next, refuses-cases, refuses-last, passed, not-both}
-use Rattle.layout.proofs.Whole.{slack-in}
+use Rattle.layout.proofs.Whole.{slack-in, first-in}
 use Rattle.layout.specs.declared.Layout.the-variants.{Ordinary}
 use Rattle.taskset.proofs.Sets.{IsSet, set-of, regular, walk-load, keeps-iff-load}
 use Rattle.taskset.proofs.Released.{load-keeps, together-last, together-tasks}
@@ -50,6 +50,10 @@ module _ (s : List ℕ) (set : IsSet Ordinary s) where
   -- And then it does whatever the first releases.
   pub keeps-with : (Q : List ℕ) → Keeps s Q → (a : ℕ → ℕ) → KeepsForEver (tasksWith Ordinary s a Q)
   keeps-with Q k a = load-keeps Ordinary s set a Q (keeps-iff-fits Q .0 k .fits)
+
+  -- The list's own first releases are such a choice.
+  pub own-firsts : AreFirsts s (first Ordinary s)
+  own-firsts t h = first-in Ordinary s (set .whole) t h
 
   -- The plan selected, with 2 ^ a the unit used, of a set that passes 10. Selection bounds what every plan costs over
   -- H × L, and every plan that keeps its deadlines costs that besides, this one too: so both bounds go over.

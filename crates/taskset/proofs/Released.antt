@@ -70,12 +70,12 @@ module _ (layout : Layout) (s : List ℕ) where
   last-fits set = omega (arith, last-most, set .hyper-range .1)
 
   -- ---- every one 0
-  module _ (zero : (t : ℕ) → t < taskCount layout s → first layout s t ≡ 0) where
+  module _ (zero : allZero (first layout s) (taskCount layout s) ≡ true) where
     pub together-last : lastTick layout s ≡ L
-    together-last = rw (all-zero (first layout s) (taskCount layout s) zero) refl
+    together-last = rw zero refl
 
     pub together-tasks : (P : List ℕ) → walkTasks layout s P ≡ endlessTasks layout s P
     together-tasks P =
         same-tasks (λ t. offset (first layout s t) (period layout s t) (jobTime layout s t (getD P t 0)))
         (λ t. periodic (period layout s t) (jobTime layout s t (getD P t 0))) 0 (taskCount layout s)
-        (λ t b c. rw (zero t (omega arith)) (offset-none (period layout s t) (jobTime layout s t (getD P t 0))))
+        (λ t b c. rw (zero-each (first layout s) (taskCount layout s) zero t (omega arith)) (offset-none (period layout s t) (jobTime layout s t (getD P t 0))))

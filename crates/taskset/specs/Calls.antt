@@ -5,8 +5,7 @@ use mathlib.Core.List.{List, [], _∷_, _++_}
 use lib.ListN.{length, take, drop, replicate}
 use Rattle.schedule.specs.Counted.{Outcome, missed, kept, walk}
 use Rattle.selection.specs.Plan.{planLoad, IsPlanned}
-use Rattle.layout.specs.Words.{slack, rateCount, taskCount}
-use Rattle.layout.specs.Words.{word, kindAt}
+use Rattle.layout.specs.Words.{word, slack, rateCount, taskCount, kindAt}
 use Rattle.layout.specs.declared.Kind.the-variants.{First}
 use Rattle.layout.specs.declared.Layout.{Layout}
 use Rattle.layout.specs.declared.Layout.the-variants.{Ordinary}
@@ -83,12 +82,6 @@ pub record HoldsPlan (n : ℕ) (P plan plan′ : List ℕ) : Type 0 where
 abbrev pub Cleared : ℕ → List ℕ → List ℕ → Type 0
 Cleared w work work′ = work′ ≡ replicate w 0 ++ drop w work
 
--- "The planner still answers for a common release" (document 02, note 6): it looks at no first release. Two lists that
--- differ in first releases alone have the same length, and the same word wherever that is not a first release.
-pub record DifferInFirsts (s s′ : List ℕ) : Type 0 where
-  pub size : length s ≡ length s′
-  pub same : (q : ℕ) → (kindAt Ordinary s q ≡ First → ⊥) → word s q ≡ word s′ q
-
 -- On refusal 'all' is "As before the call".
 abbrev pub PlannerGives : (s plan work plan′ work′ : List ℕ) → PlannerAnswer → Type 0
 PlannerGives s plan work plan′ work′ (Planned unit load hyper energy) =
@@ -97,6 +90,12 @@ PlannerGives s plan work plan′ work′ (Planned unit load hyper energy) =
     Cleared (workNeeded s) work work′
 PlannerGives s plan work plan′ work′ (NotPlanned r) =
     Refuses (plannerChecks s (length plan) (length work)) (number r) (second r) × (plan′ ≡ plan) × (work′ ≡ work)
+
+-- "The planner still answers for a common release" (document 02, note 6): it looks at no first release. Two lists that
+-- differ in first releases alone have the same length, and the same word wherever that is not a first release.
+pub record DifferInFirsts (s s′ : List ℕ) : Type 0 where
+  pub size : length s ≡ length s′
+  pub same : (q : ℕ) → (kindAt Ordinary s q ≡ First → ⊥) → word s q ≡ word s′ q
 
 -- THE WALK. "The walk takes a set and a plan and goes tick by tick from 0 to L", or with first releases "to 2 × L".
 abbrev pub outcomeValues : Outcome → List ℕ

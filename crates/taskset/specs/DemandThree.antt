@@ -2,7 +2,7 @@
 -- tasks under a plan.
 use Prim.Native.Nat.{ℕ, _+_, _-_, _*_, _≤_, _<_}
 use mathlib.Core.Path.{_≡_}
-use mathlib.Core.Bool.{false}
+use mathlib.Core.Bool.{true, false}
 use mathlib.Core.List.{List}
 use mathlib.Core.Logic.{_↔_}
 use lib.ListN.{length, take}
@@ -10,7 +10,7 @@ use Rattle.schedule.specs.Walk.{misses, KeepsForEver}
 use Rattle.selection.specs.Plan.{IsPlan, planLoad}
 use Rattle.layout.specs.Words.{slack, taskCount, period, first}
 use Rattle.layout.specs.declared.Layout.the-variants.{Ordinary}
-use Rattle.taskset.specs.Quantities.{problem, endlessTasks, tasksWith, walkTasks, lastTick, reportedEnergy}
+use Rattle.taskset.specs.Quantities.{allZero, problem, endlessTasks, tasksWith, walkTasks, lastTick, reportedEnergy}
 use Rattle.taskset.specs.Refusals.{number, Accepts, readyChecks}
 use Rattle.taskset.specs.declared.PlannerAnswer.{PlannerAnswer}
 use Rattle.taskset.specs.declared.PlannerAnswer.the-variants.{Planned, Refused as NotPlanned}
@@ -64,9 +64,9 @@ PlannerOwes s plan work plan′ (Planned unit load hyper energy) =
     PlanPromise s (take (taskCount Ordinary s) plan′) unit energy
 PlannerOwes s plan work plan′ (NotPlanned r) = (number r ≡ 7) ↔ (Accepts (readyChecks s (length plan) (length work)) × NoneKeeps s)
 
--- Every first release is 0.
+-- "all are 0"
 abbrev pub Together : List ℕ → Type 0
-Together s = (t : ℕ) → t < taskCount Ordinary s → first Ordinary s t ≡ 0
+Together s = allZero (first Ordinary s) (taskCount Ordinary s) ≡ true
 
 -- What the walk owes with 'kept': it "means just that stretch", no deadline up to the last tick is missed, and every tick
 -- of it is busy or idle; and "If all are 0", the plan keeps every deadline for ever, and busy is its load.

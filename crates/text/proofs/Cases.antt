@@ -452,11 +452,11 @@ alike n = bytes "(slack 1)\n(rates 1 2)\n" ++ joined (λ (k : ℕ). bytes "(task
 -- "A ninth rate, a 33rd task or a digit that passes the largest number is refusal 1 at that byte." "Empty text: refusal
 -- 1, offset 0." After the largest number only a bracket may follow, after a first digit 0 no other, and a text that
 -- ends before its first task ends early. With chips: an unknown name departs at the first letter that no name has there,
--- an energy form under a chip at its first letter, since a first release may stand there, a missing one under rates at the bracket in its place, and
--- where a chip and a line of rates both stand, the second at the first byte that no text has. An idle line that stands
--- twice, or not behind the slack's, departs at its first letter, and one without a number where the number should be. A
--- first release departs at its first letter where it stands in front of the energies, and at its space where it stands
--- twice.
+-- an energy form under a chip at its first letter, since a first release may stand there, a missing one under rates at
+-- the bracket in its place, and where a chip and a line of rates both stand, the second at the first byte that no text
+-- has. An idle line that stands twice, or not behind the slack's, departs at its first letter, and one without a number
+-- where the number should be. A first release departs at its first letter where it stands in front of the energies, and
+-- at its space where it stands twice.
 pub record Departures : Type 0 where
   ninth-rate : FirstBad WellFormed (bytes "(slack 1)\n(rates 1 2 3 4 5 6 7 8 9)\n") 32
   task-33 : FirstBad WellFormed (alike 33) 1366

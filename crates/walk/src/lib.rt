@@ -49,15 +49,15 @@ fn column(set: &[u32], at: usize, step: usize, n: usize) -> [u32; 32]
     requires { ⌜ HasColumn (now set) at step n ⌝ }
     ensures { λ r. ⌜ Holds (columnAt (now (set .entry)) at step) n r ⌝ }
 {
-    let mut column = [0u32; 32];
+    let mut words = [0u32; 32];
     let mut q = at;
     let mut t: usize = 0;
     while t < n {
-        column[t] = set[q];
+        words[t] = set[q];
         q += step;
         t += 1;
     }
-    column
+    words
 }
 
 // The walk's last tick: the hyper-period where n first releases are all 0, else twice that.

@@ -27,18 +27,18 @@ fn rates_of(w: &[u32], m: usize) -> &[u32]
     requires { ⌜ WithRates (now w) m ⌝ }
     ensures { λ r. ⌜ now r ≡ listRates (now (w .entry)) ⌝ }
 {
-    let first = layout::rate_place(Layout::Ordinary, 1);
+    let start = layout::rate_place(Layout::Ordinary, 1);
     let end = layout::task_count_place(Layout::Ordinary, m);
-    &w[first..end]
+    &w[start..end]
 }
 
 fn energies_of(w: &[u32], m: usize, t: usize) -> &[u32]
     requires { ⌜ OfTask Ordinary m t (now w) ⌝ }
     ensures { λ r. ⌜ now r ≡ lineOf (now (w .entry)) t .energies ⌝ }
 {
-    let first = layout::energy_place(Layout::Ordinary, m, t, 1);
-    let end = first + m;
-    &w[first..end]
+    let start = layout::energy_place(Layout::Ordinary, m, t, 1);
+    let end = start + m;
+    &w[start..end]
 }
 
 // A space and a number. (Functions of their own: a byte string in a loop would be part of the loop's invariant.)

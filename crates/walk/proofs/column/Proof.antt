@@ -14,10 +14,10 @@ use Rattle.walk.proofs.column.Statement.{statement}
 use Rattle.walk.proofs.column.Tie as tie
 
 abbrev Inv-loop : tie.InvT-loop
-Inv-loop set at step n column₀ q₀ t₀ column q t = (t ≤ n) × (q ≡ at + t * step) × Holds (columnAt set at step) t column
+Inv-loop set at step n words₀ q₀ t₀ words q t = (t ≤ n) × (q ≡ at + t * step) × Holds (columnAt set at step) t words
 
 abbrev μ-loop : tie.MeasureT-loop
-μ-loop set at step n column₀ q₀ t₀ column q t = n - t
+μ-loop set at step n words₀ q₀ t₀ words q t = n - t
 
 -- The next place is in range of a word.
 next-fits : (s : List ℕ) (at step n t : ℕ) → HasColumn s at step n → t < n → at + t * step + step < 2 ^ 32
@@ -26,22 +26,22 @@ next-fits s at step n t h l = omega (arith, h .room, mul-le-mul-right step l, su
 loop-holds : tie.Need-loop-holds Inv-loop μ-loop
 loop-holds c = (omega arith, omega arith, holds-none _ _ refl)
 
-mul-column : tie.Need-mul-column Inv-loop μ-loop
-mul-column c =
+mul-words : tie.Need-mul-words Inv-loop μ-loop
+mul-words c =
     let a = c .before in
     omega (arith, a .loop .inv .1, next-fits _ _ _ _ (a .loop .t) (a .before .pre) (omega arith))
 
-shared-slice-read-column : tie.Need-shared-slice-read-column Inv-loop μ-loop
-shared-slice-read-column c =
+shared-slice-read-words : tie.Need-shared-slice-read-words Inv-loop μ-loop
+shared-slice-read-words c =
     let a = c .before .before in
     let h = a .before .pre .inside (a .loop .t) (omega arith) in
     omega (arith, a .loop .inv .1)
 
-mul-column-2 : tie.Need-mul-column-2 Inv-loop μ-loop
-mul-column-2 c = search needs
+mul-words-2 : tie.Need-mul-words-2 Inv-loop μ-loop
+mul-words-2 c = search needs
 
-array-write-column : tie.Need-array-write-column Inv-loop μ-loop
-array-write-column c = let a = c .before .before in omega (arith, a .before .pre .few)
+array-write-words : tie.Need-array-write-words Inv-loop μ-loop
+array-write-words c = let a = c .before .before in omega (arith, a .before .pre .few)
 
 add-q : tie.Need-add-q Inv-loop μ-loop
 add-q c =
@@ -67,7 +67,7 @@ returns c =
     let a = c .before in
     let g = a .before .args in
     let e : a .loop .t ≡ g .n = omega arith in
-    subst (λ (x : ℕ). Holds (columnAt (g .set .now) (g .at) (g .step)) x (a .loop .column)) e (a .loop .inv .2)
+    subst (λ (x : ℕ). Holds (columnAt (g .set .now) (g .at) (g .step)) x (a .loop .words)) e (a .loop .inv .2)
 
 pub column-spec : {M : Type 1} → statement M
 column-spec =
@@ -76,10 +76,10 @@ column-spec =
     Inv-loop
     μ-loop
     loop-holds
-    mul-column
-    shared-slice-read-column
-    mul-column-2
-    array-write-column
+    mul-words
+    shared-slice-read-words
+    mul-words-2
+    array-write-words
     add-q
     add-t
     loop-less

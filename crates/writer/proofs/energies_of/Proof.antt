@@ -27,8 +27,8 @@ part-result-end c = omega (arith, task-inside (c .before .before .pre))
 
 returns : tie.Need-returns
 returns c =
-    let first = c .before in
-    energies-are (first .before .before .pre) _ _ (first .energy-place .ensures) refl
+    let start = c .before in
+    energies-are (start .before .before .pre) _ _ (start .energy-place .ensures) refl
 
 pub energies-of-spec : {M : Type 1} → statement M
 energies-of-spec =
