@@ -61,9 +61,12 @@ module _ (s : List ℕ) (w : IsWhole Ordinary s) where
   unfolding scriptOf headKinds
   head-words = ap (λ (h : ℕ). slack s ∷ h ∷ []) (idle-shown (idle s) (listRates s))
 
+  first-said : (t : ℕ) → firstOf (lineOf s t .first) ≡ first Ordinary s t
+  first-said t = omega (arith, first-shown (first Ordinary s t))
+
   extra-words : (t : ℕ) → extraWords (lineOf s t) ≡ each (λ k. word s (place t + 2 + k)) 0 (extraSize Ordinary)
   unfolding extraKinds
-  extra-words t = ap (λ (a : ℕ). a ∷ []) (first-shown (first Ordinary s t) ∙ ap (word s) (sym (add-zero (place t + 2))))
+  extra-words t = ap (λ (a : ℕ). a ∷ []) (first-said t ∙ ap (word s) (sym (add-zero (place t + 2))))
 
   -- A task's words, of a script that has a line of rates.
   abbrev lineWords : ℕ → List ℕ
@@ -146,8 +149,8 @@ module _ (s : List ℕ) (w : IsWhole Ordinary s) where
       most = omega (arith, each-length (energy Ordinary s t) 1 m);
       each = each-all (energy Ordinary s t) Word 1 m (λ j a b. omega (arith, w .energy-range t j h a (omega arith) .1));
     };
-    first = maybe-ok (shown (first Ordinary s t))
-        (omega (arith, first-shown (first Ordinary s t), first-in Ordinary s w t h, w .period-range t h .1));
+    first = maybe-ok (lineOf s t .first)
+        (omega (arith, first-said t, first-in Ordinary s w t h, w .period-range t h .1));
   }
 
   pub script-of-list : ScriptOk (scriptOf s)
