@@ -77,7 +77,7 @@ busy-or-idle ks t (suc n) = omega (arith, one-of-two (ltb (ran ks t) (length ks)
 
 -- ---- at a tick at which every task releases a full job, a walk that does not miss there has nothing left
 -- a job never has more left than its task's job time, so that a task of job time 0 has nothing left
-abbrev Bounded : Job → Type 0
+abbrev pub Bounded : Job → Type 0
 Bounded j = j .left ≤ j .task .time
 
 released-bounded : (t : ℕ) (j : Job) (e : ℕ) → e ≤ j .task .time → Bounded j → Bounded (released t j e)
@@ -97,7 +97,7 @@ fresh-bounded : (ks : List Task) → All Bounded (map fresh ks)
 fresh-bounded [] = tt
 fresh-bounded (k ∷ ks) = (omega arith, fresh-bounded ks)
 
-before-bounded : (ks : List Task) → All Sporadic ks → (t : ℕ) → All Bounded (before ks t)
+pub before-bounded : (ks : List Task) → All Sporadic ks → (t : ℕ) → All Bounded (before ks t)
 before-bounded ks a zero = fresh-bounded ks
 before-bounded ks a (suc t) =
     work-bounded (map (release t) (before ks t)) (pick (map (release t) (before ks t)))

@@ -6,6 +6,7 @@ pub mod Capacity
 pub mod Done
 pub mod Periodic
 pub mod Offset
+pub mod Overload
 pub mod Finite
 pub mod Stretch
 pub mod Alike

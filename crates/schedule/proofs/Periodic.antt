@@ -79,7 +79,7 @@ module _ {L : ℕ} {k : Task} (r : Regular L k) where
       (eq-zero-or-pos (k .arrives u))) in
       rw (← suc-pred-eq-of-pos (r .positive)) (omega (arith, release-at t h))
 
-  periods : (m t : ℕ) → t % k .period ≡ 0 → over (k .arrives) t (m * k .period) ≡ m * k .time
+  pub periods : (m t : ℕ) → t % k .period ≡ 0 → over (k .arrives) t (m * k .period) ≡ m * k .time
   periods zero t h = rw (zero-mul (k .period), zero-mul (k .time)) refl
   periods (suc m) t h =
       let next : (t + k .period) % k .period ≡ 0 = add-mod-right t (k .period) ∙ h in

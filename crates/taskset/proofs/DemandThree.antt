@@ -19,7 +19,7 @@ use Rattle.schedule.specs.Counted.{Outcome, IsKept, walk, kept, missed}
 use Rattle.schedule.proofs.Finite.{kept-misses-none, keeps-kept, kept-iff-keeps, busy-and-idle, busy-is-load}
 use Rattle.selection.specs.Plan.{Fitting, IsPlan, IsPlanned, planLoad, planEnergy}
 use Rattle.selection.proofs.Bounds.{planned-within, within-margin}
-use Rattle.layout.specs.Words.{slack, idle, rateCount, taskCount, first}
+use Rattle.layout.specs.Words.{longestPeriod, slack, idle, rateCount, taskCount, first}
 use Rattle.taskset.specs.Quantities.{hyperPeriod, problem, endlessTasks, tasksWith, walkTasks, lastTick, reportedEnergy}
 use Rattle.taskset.specs.Refusals.{number, second, Check, Accepts, Refuses, _▹_, NoneOk, PlanFault, IsBadPlan, noneCheck, readyChecks, walkChecks}
 use Rattle.taskset.specs.Calls.{plannerValues, Selected, PlannerGives, outcomeValues, walkOf, WalkAnswers}
@@ -32,7 +32,7 @@ use Rattle.taskset.proofs.Checks.{no-plan-fault, Without, without-by, a
 use Rattle.layout.proofs.Whole.{slack-in, first-in}
 use Rattle.layout.specs.declared.Layout.the-variants.{Ordinary}
 use Rattle.taskset.proofs.Sets.{IsSet, set-of, regular, walk-load, keeps-iff-load}
-use Rattle.taskset.proofs.Released.{load-keeps, together-last, together-tasks}
+use Rattle.taskset.proofs.Released.{load-keeps, keeps-load, together-last, together-tasks}
 use Rattle.taskset.proofs.Idle.{Covered, covered-of, reported-is}
 
 -- A bound between two numbers holds with the same added to both.
@@ -50,6 +50,23 @@ module _ (s : List ℕ) (set : IsSet Ordinary s) where
   -- And then it does whatever the first releases.
   pub keeps-with : (Q : List ℕ) → Keeps s Q → (a : ℕ → ℕ) → KeepsForEver (tasksWith Ordinary s a Q)
   keeps-with Q k a = load-keeps Ordinary s set a Q (keeps-iff-fits Q .0 k .fits)
+
+  -- And whatever they are, no other plan does: a plan that keeps every deadline for ever from one choice of them does so
+  -- from every other, and with all tasks released together.
+  pub keeps-from-iff : (a : ℕ → ℕ) → AreFirsts s a → (Q : List ℕ) → IsPlan (problem s) Q
+      → KeepsForEver (tasksWith Ordinary s a Q) ↔ Keeps s Q
+  keeps-from-iff a h Q plan = (
+    λ k.
+        keeps-iff-fits Q .1 (record {
+          plan = plan;
+          fits = load-limit k;
+        }),
+    λ k. keeps-with Q k a,
+  )
+    where
+      load-limit : KeepsForEver (tasksWith Ordinary s a Q) → planLoad (problem s) Q ≤ hyperPeriod Ordinary s
+      load-limit =
+          keeps-load Ordinary s set a Q longestPeriod (λ t l. omega (arith, h t l, set .whole .period-range t l .1))
 
   -- The list's own first releases are such a choice.
   pub own-firsts : AreFirsts s (first Ordinary s)

@@ -1,5 +1,5 @@
--- Where first releases matter and where they do not: a load of at most L keeps every deadline for ever whatever they are;
--- and with every one 0 the walk's tasks are those of the endless walk, to L.
+-- Where first releases matter and where they do not: a load of at most L keeps every deadline for ever whatever they are,
+-- and a higher one does not, whatever they are; and with every one 0 the walk's tasks are those of the endless walk, to L.
 -- Assumes nothing.
 use Prim.Native.Nat.{ℕ, zero, suc, _*_, _≤_, _<_}
 use mathlib.Core.Path.{_≡_, refl, sym, _∙_}
@@ -15,10 +15,11 @@ use Rattle.numbers.specs.Numbers.{All}
 use Rattle.numbers.proofs.Tests.{bool-cases, and-true, below-more}
 use Rattle.numbers.proofs.Sums.{sum, total-over}
 use Rattle.schedule.specs.Walk.{KeepsForEver, periodic, offset}
-use Rattle.schedule.proofs.Demand.{Shares, load}
+use Rattle.schedule.proofs.Demand.{Shares, load, all-sporadic}
 use Rattle.schedule.proofs.Capacity.{fits-keeps}
 use Rattle.schedule.proofs.ByPlace.{all-tasks, same-tasks, sum-places}
 use Rattle.schedule.proofs.Offset.{offset-shares, offset-none}
+use Rattle.schedule.proofs.Overload.{Pays, offset-pays, keeps-pays}
 use Rattle.selection.specs.Plan.{planLoad}
 use Rattle.layout.specs.Words.{taskCount, period, first}
 use Rattle.layout.specs.declared.Layout.{Layout}
@@ -60,6 +61,16 @@ module _ (layout : Layout) (s : List ℕ) where
 
     pub load-keeps : planLoad (problemOf layout s) P ≤ L → KeepsForEver (tasksWith layout s a P)
     load-keeps fits = fits-keeps L (tasksWith layout s a P) (set .hyper-range .0) shares (omega (arith, load-is))
+
+    -- And back: A is at least every one of them.
+    pub keeps-load : (A : ℕ) → ((t : ℕ) → t < taskCount layout s → a t ≤ A) → KeepsForEver (tasksWith layout s a P)
+        → planLoad (problemOf layout s) P ≤ L
+    keeps-load A most keeps =
+        let pay : All (Pays L A) (tasksWith layout s a P)
+        = all-tasks (Pays L A) _ 0 (taskCount layout s)
+        (λ t b c. offset-pays L (a t) (period layout s t) _ (set .whole .period-range t (omega arith) .0)
+        (mod-eq-zero-of-dvd (period layout s t) (set .divides t (omega arith))) A (most t (omega arith))) in
+        omega (arith, load-is, keeps-pays L A (tasksWith layout s a P) (all-sporadic L (tasksWith layout s a P) shares) pay keeps)
 
   -- ---- the last tick
   pub last-most : lastTick layout s ≤ 2 * L
