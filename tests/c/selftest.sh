@@ -145,7 +145,9 @@ plant rate-entry-one-late reference.c 's->task[t].cycles, s->rate[r])' 's->task[
 plant energy-entry-one-early reference.c 's->task[t].period * s->task[t].energy[r]' 's->task[t].period * s->task[t].energy[r - 1]'
 plant rounded-to-nearest reference.c 'divided_up(reduced_energy(s, t, r), unit)' '(reduced_energy(s, t, r) + unit / 2) / unit'
 plant rounded-down reference.c 'divided_up(reduced_energy(s, t, r), unit)' 'reduced_energy(s, t, r) / unit'
-plant rounded-by-job reference.c 'divided_up(reduced_energy(s, t, r), unit)' 's->span / s->task[t].period * divided_up(left_of(s, t, r), unit)'
+plant rounded-by-job reference.c \
+    'divided_up(reduced_energy(s, t, r), unit)' \
+    's->span / s->task[t].period * divided_up(left_of(s, t, r), unit)'
 plant full-load-refused reference.c 'return load <= s->span;' 'return load < s->span;'
 plant load-one-over reference.c 'return load <= s->span;' 'return load <= s->span + 1;'
 plant ties-by-rate-first reference.c 'if (x->load != y->load)' 'if (0)'
@@ -165,13 +167,17 @@ plant load-given-as-energy reference.c 'answer->value[3] += task_energy(s, t, r)
 
 # Checks and their order
 plant slack-to-1001 reference.c 'next_word(&from, 1, 1000);' 'next_word(&from, 1, 1001);'
-plant energy-from-0 reference.c 's->task[t].energy[r] = next_word(&from, 1, 1000000);' 's->task[t].energy[r] = next_word(&from, 0, 1000000);'
+plant energy-from-0 reference.c \
+    's->task[t].energy[r] = next_word(&from, 1, 1000000);' \
+    's->task[t].energy[r] = next_word(&from, 0, 1000000);'
 plant rates-to-7 reference.c 'next_word(&from, 2, 8);' 'next_word(&from, 2, 7);'
 plant rates-from-1 reference.c 'next_word(&from, 2, 8);' 'next_word(&from, 1, 8);'
 plant tasks-to-31 reference.c 'next_word(&from, 1, 32);' 'next_word(&from, 1, 31);'
 plant period-below-end reference.c 'next_word(&from, 1, 10000000);' 'next_word(&from, 1, 9999999);'
 plant cycles-one-more reference.c 'next_word(&from, 1, 4000000000u);' 'next_word(&from, 1, 4000000001u);'
-plant energy-one-more reference.c 's->task[t].energy[r] = next_word(&from, 1, 1000000);' 's->task[t].energy[r] = next_word(&from, 1, 1000001);'
+plant energy-one-more reference.c \
+    's->task[t].energy[r] = next_word(&from, 1, 1000000);' \
+    's->task[t].energy[r] = next_word(&from, 1, 1000001);'
 plant left-over-allowed reference.c 'from.at_fault || from.at < from.len ?' 'from.at_fault ?'
 plant reads-past-the-set reference.c 'from->at == from->len ||' 'from->at == from->len + 1 ||'
 plant equal-rates-allowed reference.c 'if (!(s->rate[r] > s->rate[r - 1]))' 'if (!(s->rate[r] >= s->rate[r - 1]))'
@@ -185,7 +191,9 @@ plant work-one-more-asked reference.c 'if (work_len < words_needed(s))' 'if (wor
 plant plan-list-before-work reference.c 'if (work_len < words_needed(s))' 'if (plan_len >= s->tasks && work_len < words_needed(s))'
 plant plan-list-one-short reference.c 'if (plan_len < s->tasks)' 'if (plan_len + 1 < s->tasks)'
 plant results-31-allowed reference.c 'if (results_len < RESULT_BYTES)' 'if (results_len < RESULT_BYTES - 1)'
-plant results-before-7 reference.c 'answer->code = check_lent(&s, plan_len, work_len, results_len);' 'answer->code = least_load(&s) > s.span && work_len >= words_needed(&s) ? refusal(7, 0) : check_lent(&s, plan_len, work_len, results_len);'
+plant results-before-7 reference.c \
+    'answer->code = check_lent(&s, plan_len, work_len, results_len);' \
+    'answer->code = least_load(&s) > s.span && work_len >= words_needed(&s) ? refusal(7, 0) : check_lent(&s, plan_len, work_len, results_len);'
 plant plan-word-m-plus-1 reference.c 'plan[i] > s->rates)' 'plan[i] > s->rates + 1)'
 plant plan-word-0 reference.c 'if (plan[i] < 1 ||' 'if (plan[i] < 0 ||'
 plant long-plan-by-length reference.c 'lowest = s->tasks;' 'lowest = plan_len;'
@@ -206,9 +214,13 @@ plant no-idle-word reference.c 's->idle = next_word(&from, 0, 1000);' 's->idle =
 plant selected-as-given reference.c 'return energy > idle ? energy - idle : 0;' 'return energy;'
 plant idle-once-for-a-job reference.c 'idle = waiting(s, t, r);' 'idle = s->idle;'
 plant idle-put-in reference.c 'return energy > idle ? energy - idle : 0;' 'return energy + idle;'
-plant idle-once-for-a-task reference.c 'return s->span / s->task[t].period * left_of(s, t, r);' 'return task_energy(s, t, r) > waiting(s, t, r) ? task_energy(s, t, r) - waiting(s, t, r) : 0;'
+plant idle-once-for-a-task reference.c \
+    'return s->span / s->task[t].period * left_of(s, t, r);' \
+    'return task_energy(s, t, r) > waiting(s, t, r) ? task_energy(s, t, r) - waiting(s, t, r) : 0;'
 plant at-least-1-is-left reference.c 'return energy > idle ? energy - idle : 0;' 'return energy > idle ? energy - idle : 1;'
-plant rounded-before-idle reference.c 'divided_up(reduced_energy(s, t, r), unit)' 'divided_up(task_energy(s, t, r), unit) - s->span / s->task[t].period * waiting(s, t, r) / unit'
+plant rounded-before-idle reference.c \
+    'divided_up(reduced_energy(s, t, r), unit)' \
+    'divided_up(task_energy(s, t, r), unit) - s->span / s->task[t].period * waiting(s, t, r) / unit'
 plant first-unit-of-0 reference.c 'while (unit < energy)
         unit *= 2;' 'if (energy == 0)
         unit = 0;
@@ -220,13 +232,19 @@ plant idle-for-busy-ticks-too reference.c 's->idle * (s->span - answer->value[1]
 plant idle-for-busy-ticks reference.c 's->idle * (s->span - answer->value[1]);' 's->idle * answer->value[1];'
 plant idle-for-a-tick-more reference.c 's->idle * (s->span - answer->value[1]);' 's->idle * (s->span - answer->value[1] + 1);'
 plant idle-at-32-bits reference.c 's->idle * (s->span - answer->value[1]);' '(uint32_t)(s->idle * (s->span - answer->value[1]));'
-plant reduced-energy-reported reference.c 'answer->value[3] += s->idle * (s->span - answer->value[1]);' 'answer->value[3] -= s->idle * answer->value[1];'
+plant reduced-energy-reported reference.c \
+    'answer->value[3] += s->idle * (s->span - answer->value[1]);' \
+    'answer->value[3] -= s->idle * answer->value[1];'
 plant 10-at-equality reference.c 'if (s->task[t].energy[r] < waiting(s, t, r))' 'if (s->task[t].energy[r] <= waiting(s, t, r))'
 plant 10-from-2-below reference.c 'if (s->task[t].energy[r] < waiting(s, t, r))' 'if (s->task[t].energy[r] + 1 < waiting(s, t, r))'
 plant 10-by-h-alone reference.c 'if (s->task[t].energy[r] < waiting(s, t, r))' 'if (s->task[t].energy[r] < s->idle)'
-plant 10-by-full-ticks reference.c 'if (s->task[t].energy[r] < waiting(s, t, r))' 'if (s->task[t].energy[r] < s->idle * (s->task[t].cycles / s->rate[r]))'
+plant 10-by-full-ticks reference.c \
+    'if (s->task[t].energy[r] < waiting(s, t, r))' \
+    'if (s->task[t].energy[r] < s->idle * (s->task[t].cycles / s->rate[r]))'
 plant 10-at-32-bits reference.c 'if (s->task[t].energy[r] < waiting(s, t, r))' 'if (s->task[t].energy[r] < (uint32_t)waiting(s, t, r))'
-plant 10-of-rates-that-fit reference.c 'if (s->task[t].energy[r] < waiting(s, t, r))' 'if (s->task[t].energy[r] < waiting(s, t, r) && job_time(s, t, r) <= s->task[t].period)'
+plant 10-of-rates-that-fit reference.c \
+    'if (s->task[t].energy[r] < waiting(s, t, r))' \
+    'if (s->task[t].energy[r] < waiting(s, t, r) && job_time(s, t, r) <= s->task[t].period)'
 plant 10-of-the-lowest-rate reference.c 'for (uint64_t r = 1; r <= s->rates; r++)
             if (s->task[t].energy[r] < waiting(s, t, r))' 'for (uint64_t r = 1; r <= 1; r++)
             if (s->task[t].energy[r] < waiting(s, t, r))'
@@ -326,7 +344,9 @@ plant idle-one-less reference.c 'value[2] = idle;' 'value[2] = idle - (idle > 0)
 
 # First releases
 plant first-at-the-period reference.c 'next_word(&from, 0, s->task[t].period - 1);' 'next_word(&from, 0, s->task[t].period);'
-plant first-to-2-below reference.c 'next_word(&from, 0, s->task[t].period - 1);' 'next_word(&from, 0, s->task[t].period > 1 ? s->task[t].period - 2 : 0);'
+plant first-to-2-below reference.c \
+    'next_word(&from, 0, s->task[t].period - 1);' \
+    'next_word(&from, 0, s->task[t].period > 1 ? s->task[t].period - 2 : 0);'
 plant first-to-any-tick reference.c 'next_word(&from, 0, s->task[t].period - 1);' 'next_word(&from, 0, UINT32_MAX);'
 plant first-by-task-1 reference.c 'next_word(&from, 0, s->task[t].period - 1);' 'next_word(&from, 0, s->task[0].period - 1);'
 plant first-from-1 reference.c 'next_word(&from, 0, s->task[t].period - 1);' 'next_word(&from, 1, s->task[t].period - 1);'
@@ -344,11 +364,17 @@ plant planned-to-l-and-first reference.c 'return load <= s->span;' 'return load 
 plant planned-for-2-l reference.c 'answer->value[2] = s->span;' 'answer->value[2] = s->task[0].first > 0 ? 2 * s->span : s->span;'
 plant first-does-not-count reference.c 'uint64_t first = s->task[t].first;' 'uint64_t first = 0;'
 plant released-at-multiples reference.c '(uint32_t)(tick - first) %' '(uint32_t)tick %'
-plant released-at-first-then-multiples reference.c 'return tick >= first && (uint32_t)(tick - first) % (uint32_t)s->task[t].period == 0;' 'return tick == first || (tick > first && tick % s->task[t].period == 0);'
+plant released-at-first-then-multiples reference.c \
+    'return tick >= first && (uint32_t)(tick - first) % (uint32_t)s->task[t].period == 0;' \
+    'return tick == first || (tick > first && tick % s->task[t].period == 0);'
 plant released-a-period-late reference.c 'return tick >= first &&' 'return tick >= first + (first > 0) * s->task[t].period &&'
 plant released-one-tick-late reference.c 'uint64_t first = s->task[t].first;' 'uint64_t first = s->task[t].first + (s->task[t].first > 0);'
-plant deadline-from-tick-0 reference.c 'job[t].deadline = tick + s->task[t].period;' 'job[t].deadline = (tick / s->task[t].period + 1) * s->task[t].period;'
-plant first-put-to-deadline reference.c 'job[t].deadline = tick + s->task[t].period;' 'job[t].deadline = tick + s->task[t].period + s->task[t].first;'
+plant deadline-from-tick-0 reference.c \
+    'job[t].deadline = tick + s->task[t].period;' \
+    'job[t].deadline = (tick / s->task[t].period + 1) * s->task[t].period;'
+plant first-put-to-deadline reference.c \
+    'job[t].deadline = tick + s->task[t].period;' \
+    'job[t].deadline = tick + s->task[t].period + s->task[t].first;'
 plant walked-to-l reference.c 'return 2 * s->span;' 'return s->span;'
 plant walked-to-2-l-always reference.c 'return 2 * s->span;
     return s->span;' 'return 2 * s->span;
@@ -366,7 +392,9 @@ plant walked-to-2-l-if-all-above reference.c 'if (s->task[t].first > 0)
     return 2 * s->span;'
 plant missed-up-to-l reference.c 'if (late != 0) {' 'if (late != 0 && tick <= s->span) {'
 plant no-check-at-2-l reference.c 'if (late != 0) {' 'if (late != 0 && (tick < end || end == s->span)) {'
-plant unfinished-at-2-l-missed reference.c 'if (job[t].left != 0 && is_due(s, t, tick))' 'if (job[t].left != 0 && (is_due(s, t, tick) || tick == last_tick(s)))'
+plant unfinished-at-2-l-missed reference.c \
+    'if (job[t].left != 0 && is_due(s, t, tick))' \
+    'if (job[t].left != 0 && (is_due(s, t, tick) || tick == last_tick(s)))'
 plant unfinished-asked-late reference.c 'preemptions += (uint64_t)is_preempted(&before, runs);' 'static uint64_t ran_at;
         if (ran_at + 1 == tick)
             before.left = job[before.task].left;
@@ -399,7 +427,9 @@ plant sum-before-mod-1000 reference.c '1 + next_draw(state) % 1000;' '(1 + next_
 plant energy-to-9 reference.c '2 + next_draw(state) % 9;' '2 + next_draw(state) % 8;'
 plant energy-from-1 reference.c '2 + next_draw(state) % 9;' '1 + next_draw(state) % 9;'
 plant energy-as-the-rate reference.c '(factor * j * j);' '(factor * j);'
-plant energy-drawn-by-rate reference.c 'task[2 + j] = (uint32_t)(factor * j * j);' 'task[2 + j] = (uint32_t)((j == 1 ? factor : 2 + next_draw(state) % 9) * j * j);'
+plant energy-drawn-by-rate reference.c \
+    'task[2 + j] = (uint32_t)(factor * j * j);' \
+    'task[2 + j] = (uint32_t)((j == 1 ? factor : 2 + next_draw(state) % 9) * j * j);'
 plant cycles-drawn-first reference.c 'uint64_t entry = next_draw(state) % 8;
     uint64_t cycles = 1 + next_draw(state) % 1000;' 'uint64_t cycles = 1 + next_draw(state) % 1000;
     uint64_t entry = next_draw(state) % 8;'
@@ -410,7 +440,9 @@ plant a-step-before-the-first reference.c 'uint64_t state = seed;' 'uint64_t sta
 plant seed-goes-on reference.c 'uint64_t state = seed;' 'static uint64_t last;
     uint64_t state = seed == 0 ? last : seed;
     last = seed;'
-plant each-task-from-the-seed reference.c 'generate_task(&state, &set[9 + 8 * t]);' 'state = seed + t, generate_task(&state, &set[9 + 8 * t]);'
+plant each-task-from-the-seed reference.c \
+    'generate_task(&state, &set[9 + 8 * t]);' \
+    'state = seed + t, generate_task(&state, &set[9 + 8 * t]);'
 plant generated-slack-1000 reference.c 'set[0] = 100;' 'set[0] = 1000;'
 plant generated-idle-of-1 reference.c 'set[1] = 0;' 'set[1] = 1;'
 plant generated-idle-untouched standin.c 'memcpy(set, answer.set, answer.set_words * sizeof *set);' 'if (answer.code == 0) answer.set[1] = set[1];
@@ -442,7 +474,9 @@ plant generated-results-second reference.c 'if (set_len < generated_words(tasks)
     if (set_len < generated_words(tasks))'
 plant generated-one-more-asked reference.c 'if (set_len < generated_words(tasks))' 'if (set_len <= generated_words(tasks))'
 plant generated-6-with-too-few reference.c 'return refusal(6, generated_words(tasks));' 'return refusal(6, generated_words(tasks) - 1);'
-plant generated-6-with-what-lacks reference.c 'return refusal(6, generated_words(tasks));' 'return refusal(6, generated_words(tasks) - set_len);'
+plant generated-6-with-what-lacks reference.c \
+    'return refusal(6, generated_words(tasks));' \
+    'return refusal(6, generated_words(tasks) - set_len);'
 plant generated-31-bytes-allowed reference.c 'return results_len < RESULT_BYTES ?' 'return results_len < RESULT_BYTES - 1 ?'
 plant generated-length-one-short reference.c 'answer->value[0] = answer->set_words;' 'answer->value[0] = answer->set_words - 1;'
 plant generated-n-for-length reference.c 'answer->value[0] = answer->set_words;' 'answer->value[0] = tasks;'
@@ -450,13 +484,23 @@ plant generated-second-result reference.c 'answer->value[0] = answer->set_words;
     answer->value[1] = tasks;'
 
 # What is written
-plant plan-word-past-n standin.c 'memcpy(plan, answer.plan, answer.plan_words * sizeof *plan);' 'memcpy(plan, answer.plan, (answer.plan_words + 1) * sizeof *plan);'
+plant plan-word-past-n standin.c \
+    'memcpy(plan, answer.plan, answer.plan_words * sizeof *plan);' \
+    'memcpy(plan, answer.plan, (answer.plan_words + 1) * sizeof *plan);'
 plant plan-untouched standin.c 'memcpy(plan, answer.plan, answer.plan_words * sizeof *plan);' ''
-plant plan-from-0 standin.c 'memcpy(plan, answer.plan, answer.plan_words * sizeof *plan);' 'for (size_t t = 0; t < answer.plan_words; t++) plan[t] = answer.plan[t] - 1;'
-plant work-word-past-w standin.c 'memset(work, 0, answer.work_words * sizeof *work);' 'memset(work, 0, (answer.work_words + 1) * sizeof *work);'
-plant work-word-left standin.c 'memset(work, 0, answer.work_words * sizeof *work);' 'memset(work, 0, (answer.work_words - 1) * sizeof *work);'
+plant plan-from-0 standin.c \
+    'memcpy(plan, answer.plan, answer.plan_words * sizeof *plan);' \
+    'for (size_t t = 0; t < answer.plan_words; t++) plan[t] = answer.plan[t] - 1;'
+plant work-word-past-w standin.c \
+    'memset(work, 0, answer.work_words * sizeof *work);' \
+    'memset(work, 0, (answer.work_words + 1) * sizeof *work);'
+plant work-word-left standin.c \
+    'memset(work, 0, answer.work_words * sizeof *work);' \
+    'memset(work, 0, (answer.work_words - 1) * sizeof *work);'
 plant work-all-cleared standin.c 'memset(work, 0, answer.work_words * sizeof *work);' 'memset(work, 0, work_len * sizeof *work);'
-plant work-before-the-list standin.c 'memset(work, 0, answer.work_words * sizeof *work);' 'memset(work - 1, 0, (answer.work_words + 1) * sizeof *work);'
+plant work-before-the-list standin.c \
+    'memset(work, 0, answer.work_words * sizeof *work);' \
+    'memset(work - 1, 0, (answer.work_words + 1) * sizeof *work);'
 plant writes-when-refusing-7 standin.c 'if (answer.code != 0)
         return answer.code;' 'if (answer.code >> 32 == 7)
         work[0] = 0;
@@ -478,13 +522,19 @@ plant set-changed standin.c 'memset(work, 0, answer.work_words * sizeof *work);'
     ((uint32_t *)set)[set_len - 1] ^= 1;'
 plant walk-plan-changed standin.c 'expect_walk(set, set_len, plan, plan_len, results_len, &answer);' 'expect_walk(set, set_len, plan, plan_len, results_len, &answer);
     ((uint32_t *)plan)[plan_len] = 0;'
-plant generated-word-past standin.c 'memcpy(set, answer.set, answer.set_words * sizeof *set);' 'memcpy(set, answer.set, (answer.set_words + (answer.set_words > 0)) * sizeof *set);'
-plant generated-word-less standin.c 'memcpy(set, answer.set, answer.set_words * sizeof *set);' 'memcpy(set, answer.set, (answer.set_words - (answer.set_words > 0)) * sizeof *set);'
+plant generated-word-past standin.c \
+    'memcpy(set, answer.set, answer.set_words * sizeof *set);' \
+    'memcpy(set, answer.set, (answer.set_words + (answer.set_words > 0)) * sizeof *set);'
+plant generated-word-less standin.c \
+    'memcpy(set, answer.set, answer.set_words * sizeof *set);' \
+    'memcpy(set, answer.set, (answer.set_words - (answer.set_words > 0)) * sizeof *set);'
 plant generated-room-cleared standin.c 'memcpy(set, answer.set, answer.set_words * sizeof *set);' 'if (answer.code == 0) memset(set, 0, set_len * sizeof *set);
     memcpy(set, answer.set, answer.set_words * sizeof *set);'
 plant generated-when-refusing standin.c 'memcpy(set, answer.set, answer.set_words * sizeof *set);' 'if (answer.code >> 32 == 6 && set_len > 0) set[0] = 100;
     memcpy(set, answer.set, answer.set_words * sizeof *set);'
-plant generated-results-refusing standin.c 'if (answer.set_words > 0)' 'if (answer.set_words > 0 || (results_len >= 32 && answer.code >> 32 == 6))'
+plant generated-results-refusing standin.c \
+    'if (answer.set_words > 0)' \
+    'if (answer.set_words > 0 || (results_len >= 32 && answer.code >> 32 == 6))'
 plant generated-results-untouched standin.c 'if (answer.set_words > 0)' 'if (0)'
 plant generated-reads-its-room standin.c 'memcpy(set, answer.set, answer.set_words * sizeof *set);' 'if (answer.code == 0) answer.set[9] += set[9] == 0;
     memcpy(set, answer.set, answer.set_words * sizeof *set);'

@@ -23,10 +23,12 @@ use Rattle.chips.specs.declared.Chip.the-variants.{Ppc405lp}
 use Rattle.text.specs.Text.{bytes, scriptText, IsTextOf, words, scriptOf}
 use Rattle.text.proofs.Copies.{takes}
 use Rattle.text.proofs.Sizes.{words-length}
-use Rattle.text.proofs.Cases.{example, example-text, example-words, example-from, from-text, from-words, idle-910, idle-899, idle-line-910, idle-line-899}
+use Rattle.text.proofs.Cases.{example, example-text, example-words, example-from, from-text, from-words, idle-910}
+use Rattle.text.proofs.Cases.{idle-899, idle-line-910, idle-line-899}
 use Rattle.text.proofs.Cases.{ppc405lp, underChip, chips, ppc405lp-within, tooMuch, overs}
 use Rattle.lines.specs.Lines.{planLine, rateLines, walkLine}
-use Rattle.lines.proofs.Example.{printed, printed-lines, chip-printed, chip-lines, refused-9-2, idle-printed, idle-lines, refused-10-9, from-printed, from-lines}
+use Rattle.lines.proofs.Example.{printed, printed-lines, chip-printed, chip-lines, refused-9-2, idle-printed}
+use Rattle.lines.proofs.Example.{idle-lines, refused-10-9, from-printed, from-lines}
 use Rattle.answer.specs.Answer.{workLent, planLent, setLent, PrintsPlan, Read, Prints, unread, refused, planned}
 
 -- A case of the planner, where just the words needed are lent; more of them change nothing. P is its plan, with the four

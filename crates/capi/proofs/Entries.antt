@@ -58,8 +58,12 @@ module _ (s P d : List ℕ) where
         let set = walk-set s P (w .answers .0) in
         let few = last-fits Ordinary s set in
         let one : resultAt d′ 0 ≡ 1 = ap (λ (x : List ℕ). resultAt x 0) e ∙ result-value (1 ∷ b ∷ i ∷ p ∷ []) (drop 32 d) 0 (omega arith) (omega arith) in
-        let busy : resultAt d′ 1 ≡ b = ap (λ (x : List ℕ). resultAt x 1) e ∙ result-value (1 ∷ b ∷ i ∷ p ∷ []) (drop 32 d) 1 (omega arith) (omega (arith, w .owes .counted)) in
-        let idle : resultAt d′ 2 ≡ i = ap (λ (x : List ℕ). resultAt x 2) e ∙ result-value (1 ∷ b ∷ i ∷ p ∷ []) (drop 32 d) 2 (omega arith) (omega (arith, w .owes .counted)) in
+        let busy : resultAt d′ 1 ≡ b
+        = ap (λ (x : List ℕ). resultAt x 1) e ∙
+        result-value (1 ∷ b ∷ i ∷ p ∷ []) (drop 32 d) 1 (omega arith) (omega (arith, w .owes .counted)) in
+        let idle : resultAt d′ 2 ≡ i
+        = ap (λ (x : List ℕ). resultAt x 2) e ∙
+        result-value (1 ∷ b ∷ i ∷ p ∷ []) (drop 32 d) 2 (omega arith) (omega (arith, w .owes .counted)) in
         record {
           gives = inl (Kept b i p, accepts (w .answers .0), w .answers, refl, e);
           kept = λ z h. rw (busy, idle) (w .owes);

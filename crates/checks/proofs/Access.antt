@@ -5,7 +5,8 @@ use mathlib.Core.Path.{_≡_, refl, sym, subst}
 use mathlib.Core.List.{List}
 use native.Mathlib.Omega.{arith}
 use lib.ListN.{length}
-use Rattle.layout.specs.Words.{mostRates, mostTasks, extraSize, word, ratePlace, periodPlace, cyclesPlace, firstPlace, energyPlace, rate, period, cycles, first, energy}
+use Rattle.layout.specs.Words.{mostRates, mostTasks, extraSize, word, ratePlace, periodPlace, cyclesPlace, firstPlace}
+use Rattle.layout.specs.Words.{energyPlace, rate, period, cycles, first, energy}
 use Rattle.layout.specs.declared.Layout.{Layout}
 use Rattle.checks.specs.Steps.{OfTask}
 use Rattle.layout.proofs.Layouts.{first-in-extra}

@@ -22,7 +22,8 @@ pub record Cases : Type 0 where
   pub set-0-1 : generated 0 1 ≡ 100 ∷ 0 ∷ 5 ∷ 100 ∷ 200 ∷ 300 ∷ 400 ∷ 500 ∷ 1 ∷ 200 ∷ 257 ∷ 0 ∷ 7 ∷ 28 ∷ 63 ∷ 112 ∷ 175 ∷ []
   pub set-7-2 : generated 7 2
       ≡ 100 ∷ 0 ∷ 5 ∷ 100 ∷ 200 ∷ 300 ∷ 400 ∷ 500 ∷ 2 ∷ 10 ∷ 867 ∷ 0 ∷ 2 ∷ 8 ∷ 18 ∷ 32 ∷ 50 ∷ 200 ∷ 234 ∷ 0 ∷ 7 ∷ 28 ∷ 63 ∷ 112 ∷ 175 ∷ []
-  pub set-highest-seed : generated 4294967295 1 ≡ 100 ∷ 0 ∷ 5 ∷ 100 ∷ 200 ∷ 300 ∷ 400 ∷ 500 ∷ 1 ∷ 100 ∷ 312 ∷ 0 ∷ 8 ∷ 32 ∷ 72 ∷ 128 ∷ 200 ∷ []
+  pub set-highest-seed : generated 4294967295 1
+      ≡ 100 ∷ 0 ∷ 5 ∷ 100 ∷ 200 ∷ 300 ∷ 400 ∷ 500 ∷ 1 ∷ 100 ∷ 312 ∷ 0 ∷ 8 ∷ 32 ∷ 72 ∷ 128 ∷ 200 ∷ []
   -- Task counts of 0 and 33 are refused, also where the list is short, with place 0.
   pub no-task : Refuses (generatorChecks 7 0 0) 2 0
   pub tasks-33 : Refuses (generatorChecks 7 33 0) 2 0

@@ -21,9 +21,20 @@ pub record Edges : Type 0 where
   pub task-count : ends TaskCount 0 1 32 33 ≡ true
   pub period : ends Period 0 1 10000000 10000001 ≡ true
   pub cycles : ends Cycles 0 1 4000000000 4000000001 ≡ true
-  pub first : allows (7 ∷ 1 ∷ 0 ∷ []) 2 First && (allows (7 ∷ 1 ∷ 6 ∷ []) 2 First && not (allows (7 ∷ 1 ∷ 7 ∷ []) 2 First)) ≡ true
+  pub first :
+      allows (7 ∷ 1 ∷ 0 ∷ []) 2 First && (allows (7 ∷ 1 ∷ 6 ∷ []) 2 First && not (allows (7 ∷ 1 ∷ 7 ∷ []) 2 First)) ≡ true
   pub energy : ends Energy 0 1 1000000 1000001 ≡ true
 
 pub edges : Edges
 unfolding allows
-edges = record { slack = refl; idle = refl; rate-count = refl; rate = refl; task-count = refl; period = refl; cycles = refl; first = refl; energy = refl }
+edges = record {
+  slack = refl;
+  idle = refl;
+  rate-count = refl;
+  rate = refl;
+  task-count = refl;
+  period = refl;
+  cycles = refl;
+  first = refl;
+  energy = refl;
+}

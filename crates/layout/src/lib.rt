@@ -4,7 +4,9 @@
 ghost use mathlib.Core.Path.{_≡_};
 ghost use Prim.Native.Nat.{_-_, _^_, _<_, _≤_};
 ghost use lib.ListN.{length};
-ghost use Rattle.layout.specs.Words.{headSize, extraSize, mostRates, mostTasks, ratePlace, taskCountPlace, tasksPlace, taskSize, periodPlace, cyclesPlace, firstPlace, energyPlace, headKind, taskKind, allows};
+ghost use Rattle.layout.specs.Words.{headSize, extraSize, mostRates, mostTasks, ratePlace, taskCountPlace};
+ghost use Rattle.layout.specs.Words.{tasksPlace, taskSize, periodPlace, cyclesPlace, firstPlace, energyPlace};
+ghost use Rattle.layout.specs.Words.{headKind, taskKind, allows};
 
 // What a word of a set's list stands for.
 pub enum Kind {

@@ -6,7 +6,8 @@ use mathlib.Core.Path.{_≡_, refl, sym, ap, _∙_}
 use mathlib.Core.List.{List, [], _∷_}
 use mathlib.Core.Logic.{⊎-elim}
 use native.Mathlib.Omega.{arith}
-use native.Mathlib.Nat.{add-suc, add-zero, zero-add, mul-add, mul-zero, mul-suc, mul-assoc, mul-le-mul-left, div-mul-cancel, dvd-of-mod-eq-zero, zero-mod}
+use native.Mathlib.Nat.{add-suc, add-zero, zero-add, mul-add, mul-zero, mul-suc, mul-assoc, mul-le-mul-left}
+use native.Mathlib.Nat.{div-mul-cancel, dvd-of-mod-eq-zero, zero-mod}
 use borrow.Author.Tests.{le-leb}
 use Rattle.numbers.specs.Numbers.{All, over}
 use Rattle.numbers.proofs.Sums.{sum, over-join}

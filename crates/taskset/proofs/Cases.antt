@@ -337,7 +337,9 @@ pub record Cases : Type 0 where
       → PlannerGives (two-energies 0 33 33) plan work (2 ∷ []) (replicate 10 0) (Planned 32 5 10 33)
   allowances : (allowance (two-energies 0 33 33) 33 ≡ 16) × (margin (two-energies 0 33 33) 32 ≡ 31) × (allowance (two-energies 0 33 64) 64 ≡ 32)
   -- Document 02, note 6. "A below the period", of its own task: 1 and 3 with periods 2 and 4; 2 and 4 are "refusal 2".
-  first-1 : SetAfter (idleChecks Ordinary (with-firsts 2 4 1 3) ▹ hyperCheck Ordinary (with-firsts 2 4 1 3)) Ordinary (with-firsts 2 4 1 3) (Good 2 2 4)
+  first-1 :
+      SetAfter (idleChecks Ordinary (with-firsts 2 4 1 3) ▹ hyperCheck Ordinary (with-firsts 2 4 1 3)) Ordinary
+      (with-firsts 2 4 1 3) (Good 2 2 4)
   first-2 : Declined (with-firsts 2 4 2 3) (BadWord 8)
   first-4 : Declined (with-firsts 2 4 1 4) (BadWord 13)
   -- "The planner still answers for a common release": with S's second task from 7 on, its plan; the walk of it to 60.
@@ -466,7 +468,8 @@ cases =
       unit-32 = planned (two-energies 0 33 33) 2 1 10 refl (2 ∷ []) 5 32 5 33
           (le-by-compare _ _ tt) (le-by-compare _ _ tt) refl refl refl refl refl refl;
       allowances = (refl, refl, refl);
-      planned-from = planned (S-from 0 7) 3 2 30 refl (2 ∷ 1 ∷ []) 0 1 29 41 (le-by-compare _ _ tt) (le-by-compare _ _ tt) refl refl refl refl refl refl;
+      planned-from = planned (S-from 0 7) 3 2 30 refl (2 ∷ 1 ∷ []) 0 1 29 41
+          (le-by-compare _ _ tt) (le-by-compare _ _ tt) refl refl refl refl refl refl;
       walk-from = (walks (S-from 0 7) 3 2 30 refl (2 ∷ 1 ∷ []) refl, refl);
       first-1 = answered (with-firsts 2 4 1 3) (Good 2 2 4) refl;
       first-2 = set-refused (with-firsts 2 4 2 3) (BadWord 8) refl;
@@ -476,7 +479,8 @@ cases =
       not-for-ever = (
         (λ h. let late : true ≡ false = h 5 in absurd (true≢false late)),
         (λ k.
-            let together : WalkAnswers (with-firsts 2 2 0 0) (1 ∷ 1 ∷ []) (Missed 2 2) = (walks (with-firsts 2 2 0 0) 2 2 2 refl (1 ∷ 1 ∷ []) refl, refl) in
+            let together : WalkAnswers (with-firsts 2 2 0 0) (1 ∷ 1 ∷ []) (Missed 2 2)
+            = (walks (with-firsts 2 2 0 0) 2 2 2 refl (1 ∷ 1 ∷ []) refl, refl) in
             walk-owes (with-firsts 2 2 0 0) (1 ∷ 1 ∷ []) (Missed 2 2) together .from-0 (k .for-ever)),
       );
       walk-asked-before = (walks (with-firsts 2 4 1 1) 2 2 4 refl (1 ∷ 1 ∷ []) refl, refl);
@@ -487,7 +491,8 @@ cases =
       walk-chip = (walks chip-set 4 2 40 refl (2 ∷ 2 ∷ []) refl, refl);
       plan-3-3 = (refl, refl, kept-keeps (S 100) (3 ∷ 3 ∷ []) 12 18 0 refl (walks (S 100) 3 2 30 refl (3 ∷ 3 ∷ []) refl, refl));
       plan-3-3-stopped = λ unit p.
-          let other : Keeps (S 100) (2 ∷ 1 ∷ []) = kept-keeps (S 100) (2 ∷ 1 ∷ []) 29 1 1 refl (walks (S 100) 3 2 30 refl (2 ∷ 1 ∷ []) refl, refl) in
+          let other : Keeps (S 100) (2 ∷ 1 ∷ [])
+          = kept-keeps (S 100) (2 ∷ 1 ∷ []) 29 1 1 refl (walks (S 100) 3 2 30 refl (2 ∷ 1 ∷ []) refl, refl) in
           let bound : 1000 * 120 ≤ 1100 * 41 = p .within (2 ∷ 1 ∷ []) other in
           omega arith;
       returns = (refl, refl);

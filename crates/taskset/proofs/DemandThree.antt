@@ -137,7 +137,8 @@ module _ (s : List ℕ) (set : IsSet Ordinary s) where
 
       walk-is : walkOf s P ≡ walk ks (hyperPeriod Ordinary s)
       walk-is =
-          ap (λ (ts : List Task). walk ts (lastTick Ordinary s)) (together-tasks Ordinary s zero P) ∙ ap (walk ks) (together-last Ordinary s zero)
+          ap (λ (ts : List Task). walk ts (lastTick Ordinary s)) (together-tasks Ordinary s zero P) ∙
+          ap (walk ks) (together-last Ordinary s zero)
 
       pub walk-decides : IsKept (walkOf s P) ↔ KeepsForEver ks
       walk-decides = rw walk-is (kept-iff-keeps ks (hyperPeriod Ordinary s) (set .hyper-range .0) (regular Ordinary s set P))

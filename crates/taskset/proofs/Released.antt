@@ -23,7 +23,8 @@ use Rattle.schedule.proofs.Overload.{Pays, offset-pays, keeps-pays}
 use Rattle.selection.specs.Plan.{planLoad}
 use Rattle.layout.specs.Words.{taskCount, period, first}
 use Rattle.layout.specs.declared.Layout.{Layout}
-use Rattle.taskset.specs.Quantities.{hyperLimit, allZero, jobTime, hyperPeriod, taskLoad, problemOf, endlessTasks, tasksWith, walkTasks, lastTick}
+use Rattle.taskset.specs.Quantities.{hyperLimit, allZero, jobTime, hyperPeriod, taskLoad, problemOf, endlessTasks}
+use Rattle.taskset.specs.Quantities.{tasksWith, walkTasks, lastTick}
 use Rattle.taskset.proofs.Sets.{IsSet}
 
 -- ---- all are 0
@@ -89,4 +90,5 @@ module _ (layout : Layout) (s : List ℕ) where
     together-tasks P =
         same-tasks (λ t. offset (first layout s t) (period layout s t) (jobTime layout s t (getD P t 0)))
         (λ t. periodic (period layout s t) (jobTime layout s t (getD P t 0))) 0 (taskCount layout s)
-        (λ t b c. rw (zero-each (first layout s) (taskCount layout s) zero t (omega arith)) (offset-none (period layout s t) (jobTime layout s t (getD P t 0))))
+        (λ t b c. rw (zero-each (first layout s) (taskCount layout s) zero t (omega arith))
+        (offset-none (period layout s t) (jobTime layout s t (getD P t 0))))

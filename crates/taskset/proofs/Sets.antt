@@ -147,7 +147,8 @@ module _ (layout : Layout) (s : List ℕ) where
 
     pub walk-load : (P : List ℕ) → sum (load (hyperPeriod layout s)) (endlessTasks layout s P) ≡ planLoad (problemOf layout s) P
     walk-load P =
-        sum-places (load (hyperPeriod layout s)) (λ t. periodic (period layout s t) (jobTime layout s t (getD P t 0))) 0 (taskCount layout s) ∙
+        sum-places (load (hyperPeriod layout s)) (λ t. periodic (period layout s t) (jobTime layout s t (getD P t 0))) 0
+        (taskCount layout s) ∙
         sym (total-over (taskLoad layout s) (taskCount layout s) P)
 
     pub keeps-iff-load : (P : List ℕ) → KeepsForEver (endlessTasks layout s P) ↔ (planLoad (problemOf layout s) P ≤ hyperPeriod layout s)

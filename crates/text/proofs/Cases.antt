@@ -354,7 +354,15 @@ is-unjudged =
       tasks = record {
         least = omega arith;
         most = omega arith;
-        each = (record { period = omega arith; cycles = omega arith; energies = record { least = omega arith; most = omega arith; each = tt }; first = tt }, tt);
+        each = (
+          record {
+            period = omega arith;
+            cycles = omega arith;
+            energies = record { least = omega arith; most = omega arith; each = tt };
+            first = tt;
+          },
+          tt,
+        );
       };
     })
 

@@ -295,7 +295,8 @@ module _ (a p c : ℕ) where
           let w = offset-released a p c u (rw e some) in
           let z : (u + p) - a ≡ (u - a) + p = omega (arith, w .0) in record {
             reached = omega arith;
-            quiet = λ v x y. offset-between a p c v (λ q. absurd (omega (arith, w .0, multiples-apart p (u - a) (v - a) (omega (arith, w .0)) (w .1) q)));
+            quiet = λ v x y. offset-between a p c v (λ q.
+                absurd (omega (arith, w .0, multiples-apart p (u - a) (v - a) (omega (arith, w .0)) (w .1) q)));
             there = offset-there a p c (u + p) (omega (arith, w .0)) (ap (λ (x : ℕ). x % p) z ∙ add-mod-right (u - a) p ∙ w .1);
           };
     }

@@ -78,7 +78,8 @@ module _ (s P : List ℕ) (m n l : ℕ) (ready : SetAfter (walkChecks s P) Ordin
   few-rates = omega (arith, ready .1, set .whole .rates-range .1)
 
   -- Word k of each task stands in the list, a task's size apart, from that of the first task on.
-  module _ (k : ℕ) (inside : k < taskSize Ordinary m) (at step : ℕ) (start : at ≡ periodPlace Ordinary m 0 + k) (apart : step ≡ taskSize Ordinary m) where
+  module _ (k : ℕ) (inside : k < taskSize Ordinary m) (at step : ℕ)
+      (start : at ≡ periodPlace Ordinary m 0 + k) (apart : step ≡ taskSize Ordinary m) where
     place-is : (t : ℕ) → at + t * step ≡ periodPlace Ordinary (rateCount Ordinary s) t + k
     place-is t = rw (start, apart, ready .1) (omega arith)
 
@@ -86,7 +87,15 @@ module _ (s P : List ℕ) (m n l : ℕ) (ready : SetAfter (walkChecks s P) Ordin
     has-column = record {
       few = set-given .few;
       inside = λ t h. omega (arith, place-is t, in-list Ordinary s (set .whole) t k (omega (arith, ready .2)) (rw (ready .1) at inside));
-      room = rw (start, apart) (omega (arith, head-few Ordinary, extra-few Ordinary, few-rates, set-given .few, task-words Ordinary m n few-rates (set-given .few)));
+      room = rw (start, apart)
+          (omega (
+            arith,
+            head-few Ordinary,
+            extra-few Ordinary,
+            few-rates,
+            set-given .few,
+            task-words Ordinary m n few-rates (set-given .few),
+          ));
     }
 
     pub column-holds : (f : ℕ → ℕ) → ((t : ℕ) → word s (periodPlace Ordinary (rateCount Ordinary s) t + k) ≡ f t) → (r : List ℕ)
@@ -111,7 +120,8 @@ module _ (s P : List ℕ) (m n l : ℕ) (ready : SetAfter (walkChecks s P) Ordin
         period = λ i h. rw (periods .at i h) (set .whole .period-range i (omega (arith, ready .2)));
         time = λ i h.
             rw (times .at i h)
-            (job-time-positive Ordinary s set i (getD P i 0) (omega (arith, ready .2)) (plan .above i (omega (arith, ready .2))) (plan .below i (omega (arith, ready .2))));
+            (job-time-positive Ordinary s set i (getD P i 0) (omega (arith, ready .2))
+            (plan .above i (omega (arith, ready .2))) (plan .below i (omega (arith, ready .2))));
         first = λ i h.
             omega (
               arith,

@@ -14,7 +14,8 @@ use Rattle.layout.specs.Words.{ratePlace, taskCountPlace, taskSize, energyPlace
 use Rattle.layout.specs.declared.Layout.the-variants.{Ordinary}
 use Rattle.layout.proofs.Layouts.{idle-in-head}
 use Rattle.layout.proofs.Whole.{in-list}
-use Rattle.text.specs.Text.{bytes, decimal, spaced, firstText, taskText, idleText, clockText, scriptText, listRates, shown, lineOf, scriptOf}
+use Rattle.text.specs.Text.{bytes, decimal, spaced, firstText, taskText, idleText, clockText, scriptText, listRates}
+use Rattle.text.specs.Text.{shown, lineOf, scriptOf}
 use Rattle.text.proofs.Grammar.{energy-form}
 use Rattle.text.proofs.Sizes.{text-length}
 use Rattle.text.proofs.RoundTrip.{script-of-list}

@@ -24,7 +24,9 @@ is-letter-requires : tie.Need-is-letter-requires
 is-letter-requires c κs = search needs
 
 absent : tie.Need-returns
-absent c = sym (optional-none 105 readIdleLine _ _ (sym (c .before .is-letter .ensures) ∙ not-true (c .before .is-letter .result) (c .if1 .taken)))
+absent c =
+    sym (optional-none 105 readIdleLine _ _
+    (sym (c .before .is-letter .ensures) ∙ not-true (c .before .is-letter .result) (c .if1 .taken)))
 
 slice-aggregate-enclosed : tie.Need-slice-aggregate-enclosed
 slice-aggregate-enclosed c = search needs

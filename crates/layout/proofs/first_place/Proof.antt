@@ -8,7 +8,9 @@ period-place-requires : tie.Need-period-place-requires
 period-place-requires c κs = search needs
 
 add-result : tie.Need-add-result
-add-result c = omega (arith, head-few (c .before .args .layout), extra-few (c .before .args .layout), task-words (c .before .args .layout) (c .before .args .m) (c .before .args .t) (omega arith) (omega arith))
+add-result c =
+    let a = c .before .args in
+    omega (arith, head-few (a .layout), extra-few (a .layout), task-words (a .layout) (a .m) (a .t) (omega arith) (omega arith))
 
 returns : tie.Need-returns
 returns c = search needs

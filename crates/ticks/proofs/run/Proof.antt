@@ -212,8 +212,10 @@ goes-on c =
     let on = stretch-on (i .before .loop2 .inv) (i .loop2-test .taken) w in
     let made = made-fits (omega (arith, i .loop2-test .taken)) w in
     ⊎-elim
-    (λ ran. let job-left = ran .0 .taken in let state-is = ran .1 in rw state-is (made .1, made .0, rw (lt-ltb 0 (job .left) job-left) at on))
-    (λ idle. let none-left = idle .0 .left in let state-is = idle .1 in rw state-is (made .1, made .0, rw (le-ltb 0 (job .left) none-left) at on))
+    (λ ran. let job-left = ran .0 .taken in let state-is = ran .1 in
+    rw state-is (made .1, made .0, rw (lt-ltb 0 (job .left) job-left) at on))
+    (λ idle. let none-left = idle .0 .left in let state-is = idle .1 in
+    rw state-is (made .1, made .0, rw (le-ltb 0 (job .left) none-left) at on))
     (c .if4 .came)
 
 add-t : tie.Need-add-t Inv-loop μ-loop Inv-loop2 μ-loop2 Inv-ticks μ-ticks

@@ -32,7 +32,8 @@ mul-result c = search needs
 twice : tie.Need-returns Inv-loop μ-loop
 twice c =
     let a = c .before .before .before in
-    rw (some-above (λ t. getD (a .before .args .first .now) t 0) (a .before .args .n) (a .loop .t) (omega arith) (λ z. absurd (omega (arith, c .if1 .taken)))) refl
+    rw (some-above (λ t. getD (a .before .args .first .now) t 0) (a .before .args .n) (a .loop .t) (omega arith)
+    (λ z. absurd (omega (arith, c .if1 .taken)))) refl
 
 add-t : tie.Need-add-t Inv-loop μ-loop
 add-t c = search needs

@@ -34,25 +34,29 @@ periods-column : (x : tie.After-period-place) → let s = start (x .before) in
     HasColumn (set s) (x .period-place .result) (x .before .task-size .result) (s .args .tasks)
 periods-column x =
     let s = start (x .before) in
-    has-column (set s) (plan s) _ _ _ (s .pre) 0 (omega arith) _ _ (x .period-place .ensures ∙ sym (add-zero _)) (x .before .task-size .ensures)
+    has-column (set s) (plan s) _ _ _ (s .pre) 0 (omega arith) _ _
+    (x .period-place .ensures ∙ sym (add-zero _)) (x .before .task-size .ensures)
 
 periods : (x : tie.After-column) → let s = start (sized x) in Holds (period Ordinary (set s)) (s .args .tasks) (x .column .result)
 periods x =
     let s = start (sized x) in
-    column-holds (set s) (plan s) _ _ _ (s .pre) 0 (omega arith) _ _ (x .before .period-place .ensures ∙ sym (add-zero _)) (sized x .task-size .ensures)
+    column-holds (set s) (plan s) _ _ _ (s .pre) 0 (omega arith) _ _
+    (x .before .period-place .ensures ∙ sym (add-zero _)) (sized x .task-size .ensures)
     (period Ordinary (set s)) (λ t. ap (word (set s)) (add-zero _)) _ (x .column .ensures)
 
 firsts-column : (y : tie.After-first-place) → let s = start (sized (y .before .before)) in
     HasColumn (set s) (y .first-place .result) (sized (y .before .before) .task-size .result) (s .args .tasks)
 firsts-column y =
     let z = sized (y .before .before) in
-    has-column (set (start z)) (plan (start z)) _ _ _ (start z .pre) 2 (third-inside _) _ _ (y .first-place .ensures) (z .task-size .ensures)
+    has-column (set (start z)) (plan (start z)) _ _ _ (start z .pre) 2 (third-inside _) _ _
+    (y .first-place .ensures) (z .task-size .ensures)
 
 firsts : (y : tie.After-column2) → let s = start (sized (y .before .before .before)) in
     Holds (first Ordinary (set s)) (s .args .tasks) (y .column2 .result)
 firsts y =
     let z = sized (y .before .before .before) in
-    column-holds (set (start z)) (plan (start z)) _ _ _ (start z .pre) 2 (third-inside _) _ _ (y .before .first-place .ensures) (z .task-size .ensures)
+    column-holds (set (start z)) (plan (start z)) _ _ _ (start z .pre) 2 (third-inside _) _ _
+    (y .before .first-place .ensures) (z .task-size .ensures)
     (first Ordinary (set (start z))) (λ t. refl) _ (y .column2 .ensures)
 
 task-size-requires : tie.Need-task-size-requires

@@ -24,7 +24,8 @@ line c =
 
 same : (c : tie.After-energies-of) → line c ≡ taskText (lineOf (now (start c .args .w)) (start c .args .t))
 same c =
-    line-same (start c .pre .0) (c .before .before .before .period-of .ensures) (c .before .before .cycles-of .ensures) (c .energies-of .ensures)
+    line-same (start c .pre .0) (c .before .before .before .period-of .ensures)
+    (c .before .before .cycles-of .ensures) (c .energies-of .ensures)
     (c .before .first-of .ensures)
 
 fits : (c : tie.After-energies-of) → length (line c) ≤ length (now (start c .args .buf))
