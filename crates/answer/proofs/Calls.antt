@@ -101,14 +101,14 @@ more-room s p w p′ w′ m n l a b h =
 module _ (s plan work plan′ work′ : List ℕ) (lp : length plan ≡ planLent) (lw : length work ≡ workLent) where
   pub call-refused : (r : Refusal) → PlannerCall s plan work plan′ work′ (NotPlanned r)
       → Refuses (plannerChecks s planLent workLent) (number r) (second r)
-  call-refused r c = rw (lp, lw) at (c .gives .0)
+  call-refused r c = rw (lp, lw) at (c .gives .0 .0)
 
   pub call-planned : (n u l h e : ℕ) → n ≡ taskCount Ordinary s → PlannerCall s plan work plan′ work′ (Planned u l h e)
       → PlannedSet s (take n plan′) u l h e
   call-planned n u l h e count c =
-      let g = c .gives .1 in
+      let g = c .gives .0 .1 in
       let is : take n plan′ ≡ g .0 = ap (λ (k : ℕ). take k plan′) count ∙ g .2 .front in
-      record { accepts = rw (lp, lw) at (c .gives .0); selected = rw is (g .1) }
+      record { accepts = rw (lp, lw) at (c .gives .0 .0); selected = rw is (g .1) }
 
 -- ---- a text
 module _ (t set set′ : List ℕ) (lent : length set ≡ setLent) where

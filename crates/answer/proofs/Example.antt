@@ -41,7 +41,7 @@ module _ (s P out lent words words′ : List ℕ) (unit load hyper energy busy i
   accepts : Accepts (plannerChecks s planLent workLent)
   accepts =
       let before = plannerChecks s (length lent) (length words) in
-      let a = gives .0 in
+      let a = gives .0 .0 in
       let two = wordChecks Ordinary s in
       let ten = idleChecks Ordinary s in
       let set = ten ▹ hyperCheck Ordinary s in
@@ -58,7 +58,7 @@ module _ (s P out lent words words′ : List ℕ) (unit load hyper energy busy i
 
   prints : PrintsPlan s P out unit load hyper energy busy idle preempted
   prints =
-      let g = gives .1 in
+      let g = gives .0 .1 in
       let same : g .0 ≡ P = sym (g .2 .front) ∙ take-all (taskCount Ordinary s) P (omega arith) in
       record {
         accepts = accepts;
@@ -146,7 +146,7 @@ below : Refuses (plannerChecks (slow-or-fast 10 899) planLent workLent) 10 9
 below =
     let plan : List ℕ = replicate planLent 0 in
     let work : List ℕ = replicate workLent 0 in
-    let refuses : Refuses (plannerChecks (slow-or-fast 10 899) (length plan) (length work)) 10 9 = cases .idle-above plan work .0 in
+    let refuses : Refuses (plannerChecks (slow-or-fast 10 899) (length plan) (length work)) 10 9 = cases .idle-above plan work .0 .0 in
     subst (λ (w : ℕ). Refuses (plannerChecks (slow-or-fast 10 899) planLent w) 10 9) (length-replicate {A = ℕ} workLent 0)
     (subst (λ (p : ℕ). Refuses (plannerChecks (slow-or-fast 10 899) p (length work)) 10 9)
     (length-replicate {A = ℕ} planLent 0) refuses)

@@ -22,7 +22,7 @@ use Rattle.taskset.proofs.Checks.{accepts-but-last, accepts-next, refuses-uniqu
 use Rattle.taskset.proofs.Sets.{IsSet}
 use Rattle.layout.specs.declared.Layout.the-variants.{Ordinary}
 use Rattle.taskset.proofs.Unique.{planner-single, selected-unique, short-single, single-next, refusal-unique}
-use Rattle.taskset.proofs.DemandThree.{plan-given, walk-kept, refusal-owes, ready-set, ready-covered, ready-not-7}
+use Rattle.taskset.proofs.DemandThree.{plan-given, walk-kept, planner-plans, refusal-owes}
 use Rattle.taskset.proofs.Copied.{SameCopied, count-is, copied-one}
 use Rattle.text.specs.Text.{Script, WellFormed, FirstBad, words}
 use Rattle.text.proofs.Sizes.{text-length}
@@ -38,7 +38,7 @@ module _ (s : List ℕ) (accepts : Accepts (plannerChecks s planLent workLent)) 
   ready = accepts-but-last (readyChecks s planLent workLent) (noneCheck (Fitting (problem s))) accepts
 
   pub is-set : IsSet Ordinary s
-  is-set = ready-set s planLent workLent ready
+  is-set = planner-plans s planLent workLent .set ready
 
   pub tasks-few : taskCount Ordinary s ≤ mostTasks
   tasks-few = is-set .whole .tasks-range .1
@@ -52,7 +52,7 @@ module _ (s : List ℕ) (accepts : Accepts (plannerChecks s planLent workLent)) 
 
     -- Demand 3, with note 5's margin.
     pub promise : PlanPromise s P unit energy
-    promise = plan-given s is-set (ready-covered s planLent workLent ready) P unit load hyper energy selected
+    promise = plan-given s is-set (planner-plans s planLent workLent .covered ready) P unit load hyper energy selected
 
     -- After a plan the walk is kept, from whatever first releases: there is no other line.
     pub walk-is-kept : IsKept (walkOf s P)
@@ -64,7 +64,7 @@ owes t out (unread n k r e) = tt
 owes t out (refused s n k h r e) =
     let w = words s in
     let ready = readyChecks w planLent workLent in
-    let owed = refusal-owes w ready (ready-set w planLent workLent) (ready-not-7 w planLent workLent) n k r in
+    let owed = refusal-owes w ready (planner-plans w planLent workLent) n k r in
     (owed .0, (λ none. owed .1 none .0))
 owes t out (planned s P unit load hyper energy busy idle preempted h x) =
     promise (words s) (x .accepts) P unit load hyper energy (x .selected)

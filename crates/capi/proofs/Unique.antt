@@ -13,7 +13,8 @@ use Rattle.taskset.proofs.Checks.{AllSingle, not-both}
 use Rattle.taskset.proofs.Unique.{short-single, none-single, single-next, ready-single, walk-single, planner-unique, walk-unique, refusal-unique}
 use Rattle.draws.specs.Calls.{generatorChecks, GeneratorGives}
 use Rattle.draws.proofs.Unique.{generator-single, generator-unique}
-use Rattle.capi.specs.Entry.{resultBytes, resultSize, EntryGives, walkEntryChecks, WalkEntryGives, beforeSeven, planEntryChecks, PlanEntryGives, generateEntryChecks, generatorValues, GenerateEntryGives}
+use Rattle.capi.specs.Entry.{resultBytes, resultSize, EntryGives, walkEntryChecks, WalkEntryGives, beforeSeven}
+use Rattle.capi.specs.Entry.{planEntryChecks, PlanEntry, generateEntryChecks, generatorValues, GenerateEntryGives}
 
 -- ---- every entry. l₁ and l₂ are the other lists as two answers give them back: equal where the call's own answers make
 -- them so, and where both leave them as they were.
@@ -48,13 +49,14 @@ walk-entry-unique s P d d₁ d₂ x y g h =
     (λ l₁ l₂ a b p q. (walk-unique s P a b p q, refl)) (λ l₁ l₂ p q. refl) tt tt d d₁ d₂ x y g h in
     (u .0, u .2)
 
--- ---- the planner
-plan-entry-single : (s : List ℕ) (planLength workLength size : ℕ) → AllSingle (planEntryChecks s planLength workLength size)
-plan-entry-single s pl wl size =
-    single-next (beforeSeven s pl wl size) (noneCheck (Fitting (problem s)))
-    (single-next (readyChecks s pl wl) (roomCheck resultSize size) (ready-single s pl wl) (short-single resultSize size))
+-- ---- a call that plans
+plan-entry-single : (cs : List Check) → AllSingle cs → (s : List ℕ) (size : ℕ) → AllSingle (planEntryChecks cs s size)
+plan-entry-single cs single s size =
+    single-next (beforeSeven cs size) (noneCheck (Fitting (problem s)))
+    (single-next cs (roomCheck resultSize size) single (short-single resultSize size))
     (none-single (Fitting (problem s)))
 
+-- ---- the planner
 -- The plan list and the working list, as an answer gives them back.
 record Lent : Type 0 where
   plan : List ℕ
@@ -70,17 +72,18 @@ pub record SameEntry (x y : ℕ) (plan₁ work₁ results₁ plan₂ work₂ res
   pub results : results₁ ≡ results₂
 
 pub plan-entry-unique : (s plan work d plan₁ work₁ d₁ plan₂ work₂ d₂ : List ℕ) (x y : ℕ)
-    → PlanEntryGives s plan work d plan₁ work₁ d₁ x → PlanEntryGives s plan work d plan₂ work₂ d₂ y
+    → PlanEntry s plan work d plan₁ work₁ d₁ x → PlanEntry s plan work d plan₂ work₂ d₂ y
     → SameEntry x y plan₁ work₁ d₁ plan₂ work₂ d₂
 plan-entry-unique s plan work d plan₁ work₁ d₁ plan₂ work₂ d₂ x y g h =
-    let u = entry-unique {L = Lent} (planEntryChecks s (length plan) (length work) (length d))
-    (plan-entry-single s (length plan) (length work) (length d))
+    let ready = readyChecks s (length plan) (length work) in
+    let u = entry-unique {L = Lent} (planEntryChecks ready s (length d))
+    (plan-entry-single ready (ready-single s (length plan) (length work)) s (length d))
     (λ l. PlannerGives s plan work (l .plan) (l .work)) plannerValues (λ l. (l .plan ≡ plan) × (l .work ≡ work))
     (λ l₁ l₂ a b p q.
     let z = planner-unique s plan work (l₁ .plan) (l₁ .work) (l₂ .plan) (l₂ .work) a b p q in
     (z .answer, lent-same l₁ l₂ (z .plan) (z .work)))
     (λ l₁ l₂ p q. lent-same l₁ l₂ (p .0 ∙ sym (q .0)) (p .1 ∙ sym (q .1)))
-    (record { plan = plan₁; work = work₁ }) (record { plan = plan₂; work = work₂ }) d d₁ d₂ x y g h in
+    (record { plan = plan₁; work = work₁ }) (record { plan = plan₂; work = work₂ }) d d₁ d₂ x y (g .gives) (h .gives) in
     record { returned = u .0; plan = ap (λ (l : Lent). l .plan) (u .1); work = ap (λ (l : Lent). l .work) (u .1); results = u .2 }
 
 -- ---- the generator

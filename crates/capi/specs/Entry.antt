@@ -10,12 +10,12 @@ use Rattle.layout.specs.Words.{rateCount, taskCount}
 use Rattle.layout.specs.declared.Layout.the-variants.{Ordinary}
 use Rattle.taskset.specs.Quantities.{hyperPeriod, problem, walkTasks}
 use Rattle.taskset.specs.Refusals.{number, second, Check, Accepts, Refuses, _▹_, roomCheck, noneCheck, readyChecks, walkChecks}
-use Rattle.taskset.specs.Calls.{code, plannerValues, walkValues, PlannerGives, WalkAnswers}
+use Rattle.taskset.specs.Calls.{code, plannerValues, walkValues, RateNumber, PlannerGives, WalkAnswers}
 use Rattle.taskset.specs.DemandThree.{Keeps, margin, PlanPromise, NoneKeeps, Together, KeptOwes, MissedOwes}
 use Rattle.taskset.specs.declared.Refusal.{Refusal}
+use Rattle.taskset.specs.declared.PlannerAnswer.{PlannerAnswer}
 use Rattle.taskset.specs.declared.CopyAnswer.{CopyAnswer}
 use Rattle.taskset.specs.declared.CopyAnswer.the-variants.{Wrote, Refused as NotCopied}
-use Rattle.planner.specs.Answers.{RateNumber}
 use Rattle.draws.specs.Generated.{generated}
 use Rattle.draws.specs.Calls.{generatorChecks, GeneratorGives, PassesChecks}
 
@@ -73,27 +73,22 @@ pub record WalkEntry (s P results results′ : List ℕ) (returned : ℕ) : Type
   pub keeps-kept : returned ≡ 0 → KeepsForEver (walkTasks Ordinary s P) → resultAt results′ 0 ≡ 1
   pub kept-iff-keeps : returned ≡ 0 → Together s → (resultAt results′ 0 ≡ 1) ↔ Keeps s P
 
--- THE PLANNER FROM C. Its own checks but 7, then the result bytes, then 7. The lengths are those of the plan list, the
--- working list and the result bytes.
-abbrev pub beforeSeven : List ℕ → ℕ → ℕ → ℕ → List Check
-beforeSeven s planLength workLength size = readyChecks s planLength workLength ▹ roomCheck resultSize size
+-- A CALL THAT PLANS, FROM C. cs are its own checks but 7; then come the result bytes, then 7. size is how many of them are
+-- lent.
+abbrev pub beforeSeven : List Check → ℕ → List Check
+beforeSeven cs size = cs ▹ roomCheck resultSize size
 
-abbrev pub planEntryChecks : List ℕ → ℕ → ℕ → ℕ → List Check
-planEntryChecks s planLength workLength size = beforeSeven s planLength workLength size ▹ noneCheck (Fitting (problem s))
+abbrev pub planEntryChecks : List Check → List ℕ → ℕ → List Check
+planEntryChecks cs s size = beforeSeven cs size ▹ noneCheck (Fitting (problem s))
 
--- plan, work and results are the lists as lent, plan′, work′ and results′ as given back.
-abbrev pub PlanEntryGives : (s plan work results plan′ work′ results′ : List ℕ) → ℕ → Type 0
-PlanEntryGives s plan work results plan′ work′ =
-    EntryGives (planEntryChecks s (length plan) (length work) (length results)) (PlannerGives s plan work plan′ work′) plannerValues
-    ((plan′ ≡ plan) × (work′ ≡ work)) results
-
--- The entry's contract: the above; and demand 3 again over the plan words and the bytes. Where 0 is returned, every
--- plan word is a rate number, and the plan keeps its promise, with notes 5 and 6, with the unit that the first value is and
--- the energy that the fourth is; the second value is its load, the third the hyper-period. Margin and energy are so
--- small that a host can work with them in 64 bits. And 7 is returned if and only if no cause before it holds and no plan
--- keeps every deadline for ever.
-pub record PlanEntry (s plan work results plan′ work′ results′ : List ℕ) (returned : ℕ) : Type 0 where
-  pub gives : PlanEntryGives s plan work results plan′ work′ results′ returned
+-- The contract of its entry, where plan′ and results′ are the plan list and the result bytes as given back: the above;
+-- and demand 3 again over the plan words and the bytes. Where 0 is returned, every plan word is a rate number, and the
+-- plan keeps its promise, with notes 5 and 6, with the unit that the first value is and the energy that the fourth is;
+-- the second value is its load, the third the hyper-period. Margin and energy are so small that a host can work with
+-- them in 64 bits. And 7 is returned if and only if no cause before it holds and no plan keeps every deadline for ever.
+pub record PlansEntry (cs : List Check) (Gives : PlannerAnswer → Type 0) (Unchanged : Type 0) (s plan′ results results′ : List ℕ)
+    (returned : ℕ) : Type 0 where
+  pub gives : EntryGives (planEntryChecks cs s (length results)) Gives plannerValues Unchanged results results′ returned
   pub numbers : returned ≡ 0 → (t : ℕ) → t < taskCount Ordinary s → RateNumber (rateCount Ordinary s) (getD plan′ t 0)
   pub promise : returned ≡ 0
       → PlanPromise s (take (taskCount Ordinary s) plan′) (resultAt results′ 0) (resultAt results′ 3)
@@ -101,7 +96,13 @@ pub record PlanEntry (s plan work results plan′ work′ results′ : List ℕ)
   pub energy-fits : returned ≡ 0 → resultAt results′ 3 < 2 ^ 49
   pub load-is : returned ≡ 0 → resultAt results′ 1 ≡ planLoad (problem s) (take (taskCount Ordinary s) plan′)
   pub hyper-is : returned ≡ 0 → resultAt results′ 2 ≡ hyperPeriod Ordinary s
-  pub seven-iff : (returned ≡ 7 * 2 ^ 32) ↔ (Accepts (beforeSeven s (length plan) (length work) (length results)) × NoneKeeps s)
+  pub seven-iff : (returned ≡ 7 * 2 ^ 32) ↔ (Accepts (beforeSeven cs (length results)) × NoneKeeps s)
+
+-- THE PLANNER FROM C. plan, work and results are the lists as lent, plan′, work′ and results′ as given back.
+abbrev pub PlanEntry : (s plan work results plan′ work′ results′ : List ℕ) → ℕ → Type 0
+PlanEntry s plan work results plan′ work′ =
+    PlansEntry (readyChecks s (length plan) (length work)) (PlannerGives s plan work plan′ work′) ((plan′ ≡ plan) × (work′ ≡ work)) s
+    plan′ results
 
 -- THE GENERATOR FROM C (document 02, note 1). Its own checks, then the result bytes. The lengths are those of the set's
 -- list and of the result bytes.

@@ -18,7 +18,7 @@ use Rattle.layout.specs.declared.Layout.the-variants.{Ordinary}
 use Rattle.layout.proofs.Whole.{slack-in}
 use Rattle.taskset.specs.Quantities.{hyperLimit, hyperPeriod, problem, reportedEnergy, workNeeded}
 use Rattle.taskset.specs.Refusals.{number, second, IsShort, Check, Accepts, Refuses, noneCheck, readyChecks, plannerChecks}
-use Rattle.taskset.specs.Calls.{plannerValues, SetAfter, Selected, HoldsPlan, Cleared, PlannerGives}
+use Rattle.taskset.specs.Calls.{plannerValues, SetAfter, Selected, HoldsPlan, RateNumbers, Cleared, PlannerGives}
 use Rattle.taskset.specs.declared.Refusal.{Refusal}
 use Rattle.taskset.specs.declared.Refusal.the-variants.{NoPlan}
 use Rattle.taskset.specs.declared.Checked.the-variants.{Good, Refused as NotGood}
@@ -26,26 +26,28 @@ use Rattle.taskset.specs.declared.PlannerAnswer.{PlannerAnswer}
 use Rattle.taskset.specs.declared.PlannerAnswer.the-variants.{Planned, Refused as NotPlanned}
 use Rattle.taskset.proofs.Checks.{accepts-next, refuses-next, refuses-before, passed}
 use Rattle.taskset.proofs.Sets.{IsSet, falling, energy-small}
-use Rattle.taskset.proofs.DemandThree.{answer-owes, ready-set, ready-covered}
+use Rattle.taskset.proofs.DemandThree.{planner-plans, answer-owes}
 use Rattle.taskset.proofs.Idle.{Covered, reported-is}
 use Rattle.table.specs.Rows.{optionAt}
 use Rattle.choice.specs.declared.Request.{Request}
 use Rattle.choice.specs.declared.Choice.{Choice}
 use Rattle.choice.specs.Units.{Small}
 use Rattle.choice.specs.Choice.{arrays, ChoiceReady, Chose}
-use Rattle.planner.specs.Answers.{RateNumbers, PlannerCall}
+use Rattle.planner.specs.Answers.{PlannerCall}
 use Rattle.options.specs.Options.{LaidBoth, TasksGiven}
 
 -- What meets document 01's definition keeps what demand 3 asks of it.
 called : (s plan work plan′ work′ : List ℕ) (a : PlannerAnswer) → PlannerGives s plan work plan′ work′ a
     → RateNumbers s plan′ a → PlannerCall s plan work plan′ work′ a
-called s plan work plan′ work′ a g n = record { gives = g; numbers = n; owes = answer-owes s plan work plan′ work′ a g }
+called s plan work plan′ work′ a g n =
+    let plans = planner-plans s (length plan) (length work) in
+    record { gives = g; numbers = n; owes = answer-owes s (readyChecks s (length plan) (length work)) plans plan plan′ a (g .0) }
 
 -- A refusal leaves the lists as they were.
 refused : (s plan work : List ℕ) (r : Refusal)
     → Refuses (plannerChecks s (length plan) (length work)) (number r) (second r)
     → PlannerCall s plan work plan work (NotPlanned r)
-refused s plan work r h = called s plan work plan work (NotPlanned r) (h, refl, refl) tt
+refused s plan work r h = called s plan work plan work (NotPlanned r) ((h, refl), refl) tt
 
 -- A refusal by the checks before 7 is the call's.
 pub ready-refused : (s plan work : List ℕ) (r : Refusal)
@@ -72,10 +74,10 @@ module _ {s plan work : List ℕ} {m n l : ℕ} (prepared : Prepared s plan work
   good = prepared .after
 
   set : IsSet Ordinary s
-  set = ready-set s (length plan) (length work) (good .0)
+  set = planner-plans s (length plan) (length work) .set (good .0)
 
   covered : Covered Ordinary s
-  covered = ready-covered s (length plan) (length work) (good .0)
+  covered = planner-plans s (length plan) (length work) .covered (good .0)
 
   pub hyper-fits : l ≤ hyperLimit
   hyper-fits = omega (arith, good .3, set .hyper-range .1)
@@ -232,4 +234,4 @@ module _ {s plan work : List ℕ} {m n l : ℕ} (prepared : Prepared s plan work
             chosen-given {h} e =
                 let energy : c .energy + h * l ≡ reportedEnergy s (take n plan′) = rw (e, good .3) energy-is in
                 called s plan work plan′ work′ (Planned (c .unit) (c .load) l (c .energy + h * l))
-                (accepts, (take n plan′, selected energy, holds), cleared) (numbers (c .energy + h * l))
+                ((accepts, (take n plan′, selected energy, holds)), cleared) (numbers (c .energy + h * l))

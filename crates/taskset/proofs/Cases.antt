@@ -40,7 +40,7 @@ use Rattle.taskset.proofs.Verdict.{isBad, isFall, isOver, isBelow, hasB
 use Rattle.taskset.proofs.Verdict.{checkedOf, coveredOf, checked-answers, covered-answers}
 use Rattle.taskset.proofs.PlanVerdict.{isUnfit, planVerdict, PlanSays, plan-verdict-says}
 use Rattle.taskset.proofs.Sets.{IsSet, set-of, falling}
-use Rattle.taskset.proofs.DemandThree.{answer-owes, walk-owes}
+use Rattle.taskset.proofs.DemandThree.{planner-plans, answer-owes, walk-owes}
 use Rattle.taskset.proofs.Margin.{allowance, margin-reached}
 
 -- "The set list S", with slack G.
@@ -121,9 +121,11 @@ module _ (s : List ℕ) where
   -- A refusal of checks 2, 3, 10 or 4 is the planner's, whatever is lent.
   set-refused : (r : Refusal) → checked ≡ NotGood r → Declined s r
   set-refused r e plan work = (
-    refuses-early set (plannerChecks s (length plan) (length work)) (same (same (same (same nothing)))) (number r)
-        (second r) (answered (NotGood r) e),
-    refl,
+    (
+      refuses-early set (plannerChecks s (length plan) (length work)) (same (same (same (same nothing)))) (number r)
+          (second r) (answered (NotGood r) e),
+      refl,
+    ),
     refl,
   )
 
@@ -137,10 +139,12 @@ module _ (s : List ℕ) where
     -- Too few working words.
     work-short : (plan work : List ℕ) → length work < workNeeded s → PlannerGives s plan work plan work (NotPlanned (WorkShort (workNeeded s)))
     work-short plan work h = (
-      refuses-early (set ▹ workCheck (workNeeded s) (length work)) (plannerChecks s (length plan) (length work))
-          (same (same (same (same (same nothing))))) 5 (workNeeded s)
-          (refuses-next set (workCheck (workNeeded s) (length work)) (workNeeded s) passes (h, refl)),
-      refl,
+      (
+        refuses-early (set ▹ workCheck (workNeeded s) (length work)) (plannerChecks s (length plan) (length work))
+            (same (same (same (same (same nothing))))) 5 (workNeeded s)
+            (refuses-next set (workCheck (workNeeded s) (length work)) (workNeeded s) passes (h, refl)),
+        refl,
+      ),
       refl,
     )
 
@@ -163,19 +167,21 @@ module _ (s : List ℕ) where
         → PlannerGives s plan work P (replicate (workNeeded s) 0) (Planned unit load l energy)
     planned P a unit load energy some-rate fits size used chosen u w j plan work p q =
         let fit : Fitting (problem s) (fastest (problem s)) = fastest-fits (problem s) some-rate fits in (
-          accepts-next (readyChecks s (length plan) (length work)) (noneCheck (Fitting (problem s))) (enough plan work (omega arith) (omega arith))
-              (λ k h. h .1 (fastest (problem s)) fit),
           (
-            P,
-            record {
-              exponent = a;
-              planned = rw (← chosen, ← used) (planned-is (problem s) fit (slack s));
-              values-are = cc (u, w, j, answered (Good m n l) e .3);
-            },
-            record {
-              front = take-all (taskCount Ordinary s) P (omega arith);
-              rest = drop-of-length-le P {i = taskCount Ordinary s} (omega arith) ∙ sym (drop-of-length-le plan {i = taskCount Ordinary s} (omega arith));
-            },
+            accepts-next (readyChecks s (length plan) (length work)) (noneCheck (Fitting (problem s))) (enough plan work (omega arith) (omega arith))
+                (λ k h. h .1 (fastest (problem s)) fit),
+            (
+              P,
+              record {
+                exponent = a;
+                planned = rw (← chosen, ← used) (planned-is (problem s) fit (slack s));
+                values-are = cc (u, w, j, answered (Good m n l) e .3);
+              },
+              record {
+                front = take-all (taskCount Ordinary s) P (omega arith);
+                rest = drop-of-length-le P {i = taskCount Ordinary s} (omega arith) ∙ sym (drop-of-length-le plan {i = taskCount Ordinary s} (omega arith));
+              },
+            ),
           ),
           rw (drop-of-length-le work {i = workNeeded s} (omega arith)) (sym (append-nil (replicate (workNeeded s) 0))),
         )
@@ -184,9 +190,11 @@ module _ (s : List ℕ) where
     plan-short : (plan work : List ℕ) → workNeeded s ≤ length work → length plan < taskCount Ordinary s
         → PlannerGives s plan work plan work (NotPlanned (TooShort (taskCount Ordinary s)))
     plan-short plan work q p = (
-      refuses-before (readyChecks s (length plan) (length work)) (noneCheck (Fitting (problem s))) 6 (taskCount Ordinary s)
-          (refuses-next (upTo5 plan work) (roomCheck (taskCount Ordinary s) (length plan)) (taskCount Ordinary s) (work-enough plan work q) (p, refl)),
-      refl,
+      (
+        refuses-before (readyChecks s (length plan) (length work)) (noneCheck (Fitting (problem s))) 6 (taskCount Ordinary s)
+            (refuses-next (upTo5 plan work) (roomCheck (taskCount Ordinary s) (length plan)) (taskCount Ordinary s) (work-enough plan work q) (p, refl)),
+        refl,
+      ),
       refl,
     )
 
@@ -194,7 +202,8 @@ module _ (s : List ℕ) where
     no-plan : 1 ≤ rateCount Ordinary s → L < planLoad (problem s) (fastest (problem s))
         → (plan work : List ℕ) → taskCount Ordinary s ≤ length plan → workNeeded s ≤ length work → PlannerGives s plan work plan work (NotPlanned NoPlan)
     no-plan some-rate over plan work p q =
-        (refuses-next (readyChecks s (length plan) (length work)) (noneCheck (Fitting (problem s))) 0 (enough plan work q p) (refl, none-fits), refl, refl)
+        let refuses = refuses-next (readyChecks s (length plan) (length work)) (noneCheck (Fitting (problem s))) 0 (enough plan work q p) (refl, none-fits) in
+        ((refuses, refl), refl)
       where
         none-fits : (P : List ℕ) → Fitting (problem s) P → ⊥
         none-fits P f = omega (arith, fastest-least (problem s) some-rate (falling Ordinary s is-set) P (f .plan), f .fits)
@@ -237,8 +246,9 @@ module _ (s P : List ℕ) (unit load hyper energy : ℕ) (size : length P ≤ ta
       let plan : List ℕ = replicate (taskCount Ordinary s) 0 in
       let work : List ℕ = replicate (workNeeded s) 0 in
       subst (λ (R : List ℕ). PlanPromise s R unit energy) (take-all (taskCount Ordinary s) P size)
-      (answer-owes s plan work P work (Planned unit load hyper energy)
-      (given plan work (length-replicate (taskCount Ordinary s) 0) (length-replicate (workNeeded s) 0)))
+      (answer-owes s (readyChecks s (length plan) (length work)) (planner-plans s (length plan) (length work)) plan P
+      (Planned unit load hyper energy)
+      (given plan work (length-replicate (taskCount Ordinary s) 0) (length-replicate (workNeeded s) 0) .0))
 
   -- A plan whose walk is kept, with an energy that is just the margin below: it has the least.
   least-by-margin : (Q : List ℕ) (busy idle preempted : ℕ) → Together s → WalkAnswers s Q (Kept busy idle preempted)

@@ -114,6 +114,10 @@ without-by n (c ∷ cs) e =
     let b = and-true (not (eqb n (c .number))) (lacks n cs) e in
     ((λ h. true≢false (sym (eq-eqb n (c .number) h) ∙ not-true _ (b .0))), without-by n cs (b .1))
 
+pub without-next : (n : ℕ) (cs : List Check) (c : Check) → Without n cs → (n ≡ c .number → ⊥) → Without n (cs ▹ c)
+without-next n [] c w h = (h, tt)
+without-next n (d ∷ cs) c w h = (w .0, without-next n cs c (w .1) h)
+
 pub refuses-last : (cs : List Check) (c : Check) (n k : ℕ) → Without n cs → Refuses (cs ▹ c) n k → Accepts cs × c .cause k
 refuses-last [] c n k w r = ⊎-elim (λ h. (tt, h .1)) (λ h. absurd (h .1)) r
 refuses-last (d ∷ cs) c n k w r =

@@ -8,6 +8,7 @@ use native.Mathlib.Nat.{mul-add, mul-le-mul-right}
 use mathlib.Core.Path.{_≡_, refl, sym, ap, subst, _∙_}
 use mathlib.Core.Bool.{true, false, true≢false}
 use mathlib.Core.List.{List, [], _∷_}
+use mathlib.Core.Option.{some}
 use mathlib.Core.Logic.{inl, inr, ⊎-elim, _↔_}
 use native.Mathlib.Omega.{arith}
 use lib.ListN.{length, getD}
@@ -21,14 +22,16 @@ use Rattle.selection.specs.Plan.{Fitting, IsPlan, IsPlanned, planLoad, planEner
 use Rattle.selection.proofs.Bounds.{planned-within, within-margin}
 use Rattle.layout.specs.Words.{longestPeriod, slack, idle, rateCount, taskCount, first}
 use Rattle.taskset.specs.Quantities.{hyperPeriod, problem, endlessTasks, tasksWith, walkTasks, lastTick, reportedEnergy}
-use Rattle.taskset.specs.Refusals.{number, second, Check, Accepts, Refuses, _▹_, NoneOk, PlanFault, IsBadPlan, noneCheck, readyChecks, walkChecks}
-use Rattle.taskset.specs.Calls.{plannerValues, Selected, PlannerGives, outcomeValues, walkOf, WalkAnswers}
-use Rattle.taskset.specs.DemandThree.{Keeps, margin, PlanPromise, NoneKeeps, AreFirsts, PlannerOwes, Together, WalkOwes}
+use Rattle.taskset.specs.Refusals.{number, second, Check, Accepts, Refuses, _▹_, NoneOk, PlanFault, IsBadPlan, readyChecks, walkChecks}
+use Rattle.taskset.specs.Refusals.{wordCheck, rateCheck, idleCheck, hyperCheck, noneCheck}
+use Rattle.taskset.specs.Calls.{plannerValues, Selected, PlanGives, outcomeValues, walkOf, WalkAnswers}
+use Rattle.taskset.specs.DemandThree.{Keeps, margin, PlanPromise, NoneKeeps, AreFirsts, PlanOwes, Together, WalkOwes}
 use Rattle.taskset.specs.declared.PlannerAnswer.{PlannerAnswer}
 use Rattle.taskset.specs.declared.PlannerAnswer.the-variants.{Planned, Refused as NotPlanned}
 use Rattle.taskset.specs.declared.WalkAnswer.{WalkAnswer}
 use Rattle.taskset.specs.declared.WalkAnswer.the-variants.{Kept, Missed, Refused as NotWalked}
-use Rattle.taskset.proofs.Checks.{no-plan-fault, Without, without-by, accepts-but-last, refuses-next, refuses-cases, refuses-last, passed, not-both}
+use Rattle.taskset.proofs.Checks.{no-plan-fault, numbered, lacks, Without, without-by, accepts-but-last, refuses-next}
+use Rattle.taskset.proofs.Checks.{refuses-cases, refuses-last, passed, not-both}
 use Rattle.layout.proofs.Whole.{slack-in, first-in}
 use Rattle.layout.specs.declared.Layout.the-variants.{Ordinary}
 use Rattle.taskset.proofs.Sets.{IsSet, set-of, regular, walk-load, keeps-iff-load}
@@ -148,21 +151,40 @@ module _ (s : List ℕ) (set : IsSet Ordinary s) where
           busy-is-load ks (hyperPeriod Ordinary s) busy idle preempted (sym walk-is ∙ e) (set .hyper-range .0) (regular Ordinary s set P) ∙
           walk-load Ordinary s set P
 
--- A call whose checks are cs, 2, 3 and 4 among them, and 7 last, refuses with 7 exactly when all before it pass and no
--- plan keeps every deadline for ever.
-module _ (s : List ℕ) (cs : List Check) (sets : Accepts cs → IsSet Ordinary s) (others : Without 7 cs) where
+-- What the checks that a call which plans makes before 7 come to: the list is a set, with energies that cover idling, and
+-- 7 is not among them.
+pub record Plans (s : List ℕ) (cs : List Check) : Type 0 where
+  pub set : Accepts cs → IsSet Ordinary s
+  pub covered : Accepts cs → Covered Ordinary s
+  pub not-7 : Without 7 cs
+
+-- By computing: 2, 3, 4 and 10 are among them.
+pub plans-by : (s : List ℕ) (cs : List Check) → numbered 2 cs ≡ some (wordCheck Ordinary s) → numbered 3 cs ≡ some (rateCheck Ordinary s)
+    → numbered 4 cs ≡ some (hyperCheck Ordinary s) → numbered 10 cs ≡ some (idleCheck Ordinary s) → lacks 7 cs ≡ true → Plans s cs
+plans-by s cs two three four ten none = record {
+  set = λ a. set-of Ordinary s (passed 2 cs two a) (passed 3 cs three a) (passed 4 cs four a);
+  covered = λ a. covered-of Ordinary s (passed 10 cs ten a);
+  not-7 = without-by 7 cs none;
+}
+
+pub planner-plans : (s : List ℕ) (planLength workLength : ℕ) → Plans s (readyChecks s planLength workLength)
+planner-plans s pl wl = plans-by s (readyChecks s pl wl) refl refl refl refl refl
+
+-- A call with such checks, and 7 last, refuses with 7 exactly when all before it pass and no plan keeps every deadline for
+-- ever.
+module _ (s : List ℕ) (cs : List Check) (plans : Plans s cs) where
   abbrev last : Check
   last = noneCheck (Fitting (problem s))
 
   refused-7 : (k : ℕ) → Refuses (cs ▹ last) 7 k → Accepts cs × NoneKeeps s
   refused-7 k r =
-      let l = refuses-last cs last 7 k others r in
-      (l .0, none-fits-iff-none-keeps s (sets (l .0)) .0 (refl, l .1 .1))
+      let l = refuses-last cs last 7 k (plans .not-7) r in
+      (l .0, none-fits-iff-none-keeps s (plans .set (l .0)) .0 (refl, l .1 .1))
 
   pub refused-7-iff : Refuses (cs ▹ last) 7 0 ↔ (Accepts cs × NoneKeeps s)
   refused-7-iff = (
     refused-7 0,
-    λ h. refuses-next cs last 0 (h .0) (none-fits-iff-none-keeps s (sets (h .0)) .1 (h .1)),
+    λ h. refuses-next cs last 0 (h .0) (none-fits-iff-none-keeps s (plans .set (h .0)) .1 (h .1)),
   )
 
   -- So the number of any refusal is 7 in that case, then with 0, and in no other.
@@ -172,30 +194,14 @@ module _ (s : List ℕ) (cs : List Check) (sets : Accepts cs → IsSet Ordinary 
     λ w. ⊎-elim (λ x. absurd (not-both cs n k (w .0) x)) (λ x. (x .1, x .2 .0)) (refuses-cases cs last n k h),
   )
 
--- The planner's checks have 2, 3, 10 and 4 among them, and 7 last alone.
-pub ready-set : (s : List ℕ) (planLength workLength : ℕ) → Accepts (readyChecks s planLength workLength) → IsSet Ordinary s
-ready-set s pl wl a =
-    set-of Ordinary s (passed 2 (readyChecks s pl wl) refl a) (passed 3 (readyChecks s pl wl) refl a) (passed 4 (readyChecks s pl wl) refl a)
-
-pub ready-covered : (s : List ℕ) (planLength workLength : ℕ) → Accepts (readyChecks s planLength workLength) → Covered Ordinary s
-ready-covered s pl wl a = covered-of Ordinary s (passed 10 (readyChecks s pl wl) refl a)
-
-pub ready-not-7 : (s : List ℕ) (planLength workLength : ℕ) → Without 7 (readyChecks s planLength workLength)
-ready-not-7 s pl wl = without-by 7 (readyChecks s pl wl) refl
-
--- Whatever meets the planner's definition keeps what demand 3 asks of it.
-module _ (s plan work : List ℕ) where
-  abbrev before : List Check
-  before = readyChecks s (length plan) (length work)
-
-  pub answer-owes : (plan′ work′ : List ℕ) (a : PlannerAnswer) → PlannerGives s plan work plan′ work′ a → PlannerOwes s plan work plan′ a
-  answer-owes plan′ work′ (Planned unit load hyper energy) g =
-      let ready = accepts-but-last before (noneCheck (Fitting (problem s))) (g .0) in
+  -- Whatever meets the definition of what such a call gives keeps what demand 3 asks of it.
+  pub answer-owes : (plan plan′ : List ℕ) (a : PlannerAnswer) → PlanGives (cs ▹ last) s plan plan′ a → PlanOwes cs s plan′ a
+  answer-owes plan plan′ (Planned unit load hyper energy) g =
+      let ready = accepts-but-last cs last (g .0) in
       rw (g .1 .2 .front)
-      (plan-given s (ready-set s (length plan) (length work) ready)
-      (ready-covered s (length plan) (length work) ready) (g .1 .0) unit load hyper energy (g .1 .1))
-  answer-owes plan′ work′ (NotPlanned r) g =
-      let owes = refusal-owes s before (ready-set s (length plan) (length work)) (ready-not-7 s (length plan) (length work)) (number r) (second r) (g .0) in
+      (plan-given s (plans .set ready) (plans .covered ready) (g .1 .0) unit load hyper energy (g .1 .1))
+  answer-owes plan plan′ (NotPlanned r) g =
+      let owes = refusal-owes (number r) (second r) (g .0) in
       (owes .0, (λ w. owes .1 w .0))
 
 -- ---- the walk's answer

@@ -25,7 +25,7 @@ use Rattle.taskset.specs.Quantities.{jobTicks, jobTime, hyperPeriod, tas
 use Rattle.taskset.specs.Quantities.{reportedEnergy, workNeeded}
 use Rattle.taskset.specs.Refusals.{number, second, RateFault, IsNotAbove, EnergyFault, IsBelowIdle, PassesLimit, IsTooLong}
 use Rattle.taskset.specs.Refusals.{IsShort, NoneOk, Passes, check, wordCheck, plannerChecks}
-use Rattle.taskset.specs.Calls.{plannerValues, Selected, HoldsPlan, Cleared, DifferInFirsts, PlannerGives}
+use Rattle.taskset.specs.Calls.{plannerValues, Selected, HoldsPlan, PlanGives, Cleared, WorkAfter, DifferInFirsts, PlannerGives}
 use Rattle.taskset.specs.declared.PlannerAnswer.{PlannerAnswer}
 use Rattle.taskset.specs.declared.PlannerAnswer.the-variants.{Planned, Refused as NotPlanned}
 use Rattle.taskset.proofs.Checks.{no-word-fault, Agree, AllAgree, _then_, no-more, agree-accepts, agree-refuses}
@@ -233,19 +233,24 @@ module _ (s s′ : List ℕ) (a : Alike s s′) (pass : Passes (wordCheck Ordina
       }
 
   -- What the planner gives for the one list, it gives for the other.
-  pub gives-same : (plan work plan′ work′ : List ℕ) (x : PlannerAnswer)
-      → PlannerGives s plan work plan′ work′ x → PlannerGives s′ plan work plan′ work′ x
-  gives-same plan work plan′ work′ (Planned unit load hyper energy) g = (
-    agree-accepts (checks-agree (length plan) (length work)) (g .0),
+  plan-same : (plan plan′ : List ℕ) (planLength workLength : ℕ) (x : PlannerAnswer)
+      → PlanGives (plannerChecks s planLength workLength) s plan plan′ x
+      → PlanGives (plannerChecks s′ planLength workLength) s′ plan plan′ x
+  plan-same plan plan′ pl wl (Planned unit load hyper energy) g = (
+    agree-accepts (checks-agree pl wl) (g .0),
     (
       g .1 .0,
       selected-same (g .1 .0) (plannerValues (Planned unit load hyper energy)) (g .1 .1),
       subst (λ (n : ℕ). HoldsPlan n (g .1 .0) plan plan′) (a .task-counts) (g .1 .2),
     ),
-    subst (λ (w : ℕ). Cleared w work work′) (work-same s s′ a) (g .2),
   )
-  gives-same plan work plan′ work′ (NotPlanned r) g = (
-    agree-refuses (checks-agree (length plan) (length work)) (number r) (second r) (g .0),
-    g .1,
-    g .2,
-  )
+  plan-same plan plan′ pl wl (NotPlanned r) g = (agree-refuses (checks-agree pl wl) (number r) (second r) (g .0), g .1)
+
+  cleared-same : (work work′ : List ℕ) (x : PlannerAnswer) → WorkAfter s work work′ x → WorkAfter s′ work work′ x
+  cleared-same work work′ (Planned unit load hyper energy) g = subst (λ (w : ℕ). Cleared w work work′) (work-same s s′ a) g
+  cleared-same work work′ (NotPlanned r) g = g
+
+  pub gives-same : (plan work plan′ work′ : List ℕ) (x : PlannerAnswer)
+      → PlannerGives s plan work plan′ work′ x → PlannerGives s′ plan work plan′ work′ x
+  gives-same plan work plan′ work′ x g =
+      (plan-same plan plan′ (length plan) (length work) x (g .0), cleared-same work work′ x (g .1))

@@ -3,11 +3,11 @@
 -- Assumes nothing.
 use Prim.Native.Nat.{ℕ, _≤_}
 use native.Mathlib.Bridge.{le-by-compare, IsLe}
-use mathlib.Core.Path.{_≡_, refl, sym, ap, _∙_}
+use mathlib.Core.Path.{_≡_, refl, sym, ap, subst, _∙_}
 use mathlib.Core.Bool.{cond}
 use mathlib.Core.List.{List, [], _∷_, _++_}
 use lib.Dec.{eqb}
-use lib.ListN.{length, take, drop, replicate, take-append-drop}
+use lib.ListN.{length, take, drop, take-append-drop}
 use lib.Seq.{take-at, drop-at}
 use Rattle.selection.specs.Plan.{Fitting}
 use Rattle.selection.proofs.Unique.{planned-unique}
@@ -18,7 +18,7 @@ use Rattle.taskset.specs.Quantities.{problem, workNeeded}
 use Rattle.taskset.specs.Refusals.{number, second, IsShort, NoneOk, Check, Refuses, _▹_, wordChecks, idleCheck}
 use Rattle.taskset.specs.Refusals.{idleChecks, hyperCheck, workCheck, roomCheck, noneCheck, planCheck}
 use Rattle.taskset.specs.Refusals.{readyChecks, plannerChecks, walkChecks}
-use Rattle.taskset.specs.Calls.{CopyGives, CountsAfter, SetAfter, Selected, PlannerGives, WalkAnswers}
+use Rattle.taskset.specs.Calls.{CopyGives, CountsAfter, SetAfter, Selected, PlanGives, WorkAfter, PlannerGives, WalkAnswers}
 use Rattle.taskset.specs.declared.Refusal.{Refusal}
 use Rattle.taskset.specs.declared.Refusal.the-variants.{TextDeparts, BadWord, NotAbove, TooLong, WorkShort}
 use Rattle.taskset.specs.declared.Refusal.the-variants.{TooShort, NoPlan, BadPlan, EnergyOver, BelowIdle}
@@ -155,54 +155,68 @@ selected-unique s P Q v w x y =
     let same = planned-unique (Fitting (problem s)) (problem s) (λ R f. f .plan .size) (slack s) (x .exponent) (y .exponent) P Q (x .planned) (y .planned) in
     (same .1, x .values-are ∙ cc (same .0, same .1) ∙ sym (y .values-are))
 
-pub planner-unique : (s plan work plan₁ work₁ plan₂ work₂ : List ℕ) (a b : PlannerAnswer)
-    → PlannerGives s plan work plan₁ work₁ a → PlannerGives s plan work plan₂ work₂ b → SameGiven a b plan₁ work₁ plan₂ work₂
-planner-unique s plan work p₁ w₁ p₂ w₂ (Planned u l h e) (Planned u′ l′ h′ e′) x y =
+-- A plan is one, whatever the checks.
+pub planned-one : (cs ds : List Check) (s plan plan₁ plan₂ : List ℕ) (u l h e u′ l′ h′ e′ : ℕ)
+    → PlanGives cs s plan plan₁ (Planned u l h e) → PlanGives ds s plan plan₂ (Planned u′ l′ h′ e′)
+    → (Planned u l h e ≡ Planned u′ l′ h′ e′) × (plan₁ ≡ plan₂)
+planned-one cs ds s plan p₁ p₂ u l h e u′ l′ h′ e′ x y =
     let n : ℕ = taskCount Ordinary s in
     let same = selected-unique s (x .1 .0) (y .1 .0) _ _ (x .1 .1) (y .1 .1) in
     let values = same .1 in
     let f = x .1 .2 in
     let g = y .1 .2 in
+    (cc, sym (take-append-drop n p₁) ∙ cc (f .front, g .front, same .0, f .rest, g .rest) ∙ take-append-drop n p₂)
+
+-- And so is the answer of a call that plans, after checks that each hold with one second number at most.
+module _ (cs : List Check) (single : AllSingle cs) (s plan : List ℕ) where
+  pub plan-unique : (plan₁ plan₂ : List ℕ) (a b : PlannerAnswer) → PlanGives cs s plan plan₁ a → PlanGives cs s plan plan₂ b
+      → (a ≡ b) × (plan₁ ≡ plan₂)
+  plan-unique p₁ p₂ (Planned u l h e) (Planned u′ l′ h′ e′) x y = planned-one cs cs s plan p₁ p₂ u l h e u′ l′ h′ e′ x y
+  plan-unique p₁ p₂ (Planned u l h e) (NotPlanned r) x y = absurd (not-both cs (number r) (second r) (x .0) (y .0))
+  plan-unique p₁ p₂ (NotPlanned r) (Planned u l h e) x y = absurd (not-both cs (number r) (second r) (y .0) (x .0))
+  plan-unique p₁ p₂ (NotPlanned q) (NotPlanned r) x y =
+      (ap NotPlanned (refusal-unique cs single q r (x .0) (y .0)), x .1 ∙ sym (y .1))
+
+work-unique : (s work work₁ work₂ : List ℕ) (a : PlannerAnswer) → WorkAfter s work work₁ a → WorkAfter s work work₂ a → work₁ ≡ work₂
+work-unique s work w₁ w₂ (Planned u l h e) x y = x ∙ sym y
+work-unique s work w₁ w₂ (NotPlanned r) x y = x ∙ sym y
+
+pub planner-unique : (s plan work plan₁ work₁ plan₂ work₂ : List ℕ) (a b : PlannerAnswer)
+    → PlannerGives s plan work plan₁ work₁ a → PlannerGives s plan work plan₂ work₂ b → SameGiven a b plan₁ work₁ plan₂ work₂
+planner-unique s plan work p₁ w₁ p₂ w₂ a b x y =
+    let checks = plannerChecks s (length plan) (length work) in
+    let same = plan-unique checks (planner-single s (length plan) (length work)) s plan p₁ p₂ a b (x .0) (y .0) in
     record {
-      answer = cc;
-      plan = sym (take-append-drop n p₁) ∙ cc (f .front, g .front, same .0, f .rest, g .rest) ∙ take-append-drop n p₂;
-      work = x .2 ∙ sym (y .2);
+      answer = same .0;
+      plan = same .1;
+      work = work-unique s work w₁ w₂ a (x .1) (subst (WorkAfter s work w₂) (sym (same .0)) (y .1));
     }
-planner-unique s plan work p₁ w₁ p₂ w₂ (Planned u l h e) (NotPlanned r) x y = absurd (not-both (plannerChecks s (length plan) (length work)) (number r) (second r) (x .0) (y .0))
-planner-unique s plan work p₁ w₁ p₂ w₂ (NotPlanned r) (Planned u l h e) x y = absurd (not-both (plannerChecks s (length plan) (length work)) (number r) (second r) (y .0) (x .0))
-planner-unique s plan work p₁ w₁ p₂ w₂ (NotPlanned q) (NotPlanned r) x y = record {
-  answer = ap NotPlanned (refusal-unique (plannerChecks s (length plan) (length work)) (planner-single s (length plan) (length work)) q r (x .0) (y .0));
-  plan = x .1 ∙ sym (y .1);
-  work = x .2 ∙ sym (y .2);
-}
 
 -- The plan that an answer gives, in the plan list given back: its first N words; with a refusal, none.
 abbrev pub planGiven : List ℕ → List ℕ → PlannerAnswer → List ℕ
 planGiven s plan′ (Planned unit load hyper energy) = take (taskCount Ordinary s) plan′
 planGiven s plan′ (NotPlanned r) = []
 
--- What is given for some lists is given for all of their lengths: with the same plan, and the rest as they were.
-record GivenFor (s plan work P : List ℕ) (a : PlannerAnswer) : Type 0 where
+-- What is given for a plan list is given for any other, if only the checks are the same: with the same plan, and the rest
+-- as it was.
+record GivenFor (cs : List Check) (s plan P : List ℕ) (a : PlannerAnswer) : Type 0 where
   pub plan′ : List ℕ
-  pub work′ : List ℕ
-  pub gives : PlannerGives s plan work plan′ work′ a
+  pub gives : PlanGives cs s plan plan′ a
   pub same : planGiven s plan′ a ≡ P
 
-given-for : (s plan work plan′ work′ : List ℕ) (a : PlannerAnswer) → PlannerGives s plan work plan′ work′ a
-    → (plan₂ work₂ : List ℕ) → length plan ≡ length plan₂ → length work ≡ length work₂ → GivenFor s plan₂ work₂ (planGiven s plan′ a) a
-given-for s plan work plan′ work′ (Planned unit load hyper energy) g plan₂ work₂ e f =
+given-for : (cs : List Check) (s plan plan′ : List ℕ) (a : PlannerAnswer) → PlanGives cs s plan plan′ a
+    → (plan₂ : List ℕ) → GivenFor cs s plan₂ (planGiven s plan′ a) a
+given-for cs s plan plan′ (Planned unit load hyper energy) g plan₂ =
     let n : ℕ = taskCount Ordinary s in
     let P : List ℕ = g .1 .0 in
     let size : length P ≡ n = g .1 .1 .planned .chosen .ok .plan .size in
     let front = take-at P (drop n plan₂) n size in
     record {
       plan′ = P ++ drop n plan₂;
-      work′ = replicate (workNeeded s) 0 ++ drop (workNeeded s) work₂;
-      gives = (rw (e, f) at (g .0), (P, g .1 .1, record { front = front; rest = drop-at P (drop n plan₂) n size }), refl);
+      gives = (g .0, (P, g .1 .1, record { front = front; rest = drop-at P (drop n plan₂) n size }));
       same = front ∙ sym (g .1 .2 .front);
     }
-given-for s plan work plan′ work′ (NotPlanned r) g plan₂ work₂ e f =
-    record { plan′ = plan₂; work′ = work₂; gives = (rw (e, f) at (g .0), refl, refl); same = refl }
+given-for cs s plan plan′ (NotPlanned r) g plan₂ = record { plan′ = plan₂; gives = (g .0, refl); same = refl }
 
 -- So the answer and the plan are known by the list and the two lengths.
 pub record SamePlan (s : List ℕ) (a b : PlannerAnswer) (plan₁ plan₂ : List ℕ) : Type 0 where
@@ -213,9 +227,10 @@ pub planner-by-lengths : (s plan₁ work₁ plan₁′ work₁′ plan₂ work�
     → length plan₁ ≡ length plan₂ → length work₁ ≡ length work₂
     → PlannerGives s plan₁ work₁ plan₁′ work₁′ a → PlannerGives s plan₂ work₂ plan₂′ work₂′ b → SamePlan s a b plan₁′ plan₂′
 planner-by-lengths s plan₁ work₁ p₁ w₁ plan₂ work₂ p₂ w₂ a b e f x y =
-    let z = given-for s plan₁ work₁ p₁ w₁ a x plan₂ work₂ e f in
-    let one = planner-unique s plan₂ work₂ (z .plan′) (z .work′) p₂ w₂ a b (z .gives) y in
-    record { answer = one .answer; plan = cc }
+    let checks = plannerChecks s (length plan₂) (length work₂) in
+    let z = given-for checks s plan₁ p₁ a (rw (e, f) at (x .0)) plan₂ in
+    let one = plan-unique checks (planner-single s (length plan₂) (length work₂)) s plan₂ (z .plan′) p₂ a b (z .gives) (y .0) in
+    record { answer = one .0; plan = cc (one .1) }
 
 -- ---- the walk
 pub walk-unique : (s P : List ℕ) (a b : WalkAnswer) → WalkAnswers s P a → WalkAnswers s P b → a ≡ b

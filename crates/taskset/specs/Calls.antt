@@ -1,8 +1,8 @@
 -- What each call answers, and what it leaves in the lists lent to it.
-use Prim.Native.Nat.{ℕ, _+_, _*_, _^_}
+use Prim.Native.Nat.{ℕ, _-_, _+_, _*_, _^_, _≤_, _<_}
 use mathlib.Core.Path.{_≡_}
 use mathlib.Core.List.{List, [], _∷_, _++_}
-use lib.ListN.{length, take, drop, replicate}
+use lib.ListN.{length, getD, take, drop, replicate}
 use Rattle.schedule.specs.Counted.{Outcome, missed, kept, walk}
 use Rattle.selection.specs.Plan.{planLoad, IsPlanned}
 use Rattle.layout.specs.Words.{word, slack, rateCount, taskCount, kindAt}
@@ -78,18 +78,37 @@ pub record HoldsPlan (n : ℕ) (P plan plan′ : List ℕ) : Type 0 where
   pub front : take n plan′ ≡ P
   pub rest : drop n plan′ ≡ drop n plan
 
+-- "A plan is a rate number for each task": each of the first N words of the plan list is 1 to M. So number - 1 is a
+-- place in a table of M entries that counts from 0, and the number itself need not be.
+pub record RateNumber (m w : ℕ) : Type 0 where
+  pub from-1 : 1 ≤ w
+  pub to-m : w ≤ m
+  pub place : w - 1 < m
+
+abbrev pub RateNumbers : List ℕ → List ℕ → PlannerAnswer → Type 0
+RateNumbers s plan′ (Planned unit load hyper energy) =
+    (t : ℕ) → t < taskCount Ordinary s → RateNumber (rateCount Ordinary s) (getD plan′ t 0)
+RateNumbers s plan′ (NotPlanned r) = Unit {0}
+
+-- What a call gives that plans a set, with its checks cs: a refusal, the first that holds, leaves the plan list as it was.
+abbrev pub PlanGives : List Check → (s plan plan′ : List ℕ) → PlannerAnswer → Type 0
+PlanGives cs s plan plan′ (Planned unit load hyper energy) =
+    Accepts cs ×
+    ((P : List ℕ) × Selected s P (plannerValues (Planned unit load hyper energy)) × HoldsPlan (taskCount Ordinary s) P plan plan′)
+PlanGives cs s plan plan′ (NotPlanned r) = Refuses cs (number r) (second r) × (plan′ ≡ plan)
+
 -- "the first W working words hold 0, and every other word stays": w of the list work, which is work′ then.
 abbrev pub Cleared : ℕ → List ℕ → List ℕ → Type 0
 Cleared w work work′ = work′ ≡ replicate w 0 ++ drop w work
 
 -- On refusal 'all' is "As before the call".
+abbrev pub WorkAfter : (s work work′ : List ℕ) → PlannerAnswer → Type 0
+WorkAfter s work work′ (Planned unit load hyper energy) = Cleared (workNeeded s) work work′
+WorkAfter s work work′ (NotPlanned r) = work′ ≡ work
+
 abbrev pub PlannerGives : (s plan work plan′ work′ : List ℕ) → PlannerAnswer → Type 0
-PlannerGives s plan work plan′ work′ (Planned unit load hyper energy) =
-    Accepts (plannerChecks s (length plan) (length work)) ×
-    ((P : List ℕ) × Selected s P (plannerValues (Planned unit load hyper energy)) × HoldsPlan (taskCount Ordinary s) P plan plan′) ×
-    Cleared (workNeeded s) work work′
-PlannerGives s plan work plan′ work′ (NotPlanned r) =
-    Refuses (plannerChecks s (length plan) (length work)) (number r) (second r) × (plan′ ≡ plan) × (work′ ≡ work)
+PlannerGives s plan work plan′ work′ a =
+    PlanGives (plannerChecks s (length plan) (length work)) s plan plan′ a × WorkAfter s work work′ a
 
 -- "The planner still answers for a common release" (document 02, note 6): it looks at no first release. Two lists that
 -- differ in first releases alone have the same length, and the same word wherever that is not a first release.

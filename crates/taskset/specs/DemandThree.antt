@@ -5,13 +5,13 @@ use mathlib.Core.Path.{_≡_}
 use mathlib.Core.Bool.{true, false}
 use mathlib.Core.List.{List}
 use mathlib.Core.Logic.{_↔_}
-use lib.ListN.{length, take}
+use lib.ListN.{take}
 use Rattle.schedule.specs.Walk.{misses, KeepsForEver}
 use Rattle.selection.specs.Plan.{IsPlan, planLoad}
 use Rattle.layout.specs.Words.{slack, taskCount, period, first}
 use Rattle.layout.specs.declared.Layout.the-variants.{Ordinary}
 use Rattle.taskset.specs.Quantities.{allZero, problem, endlessTasks, tasksWith, walkTasks, lastTick, reportedEnergy}
-use Rattle.taskset.specs.Refusals.{number, Accepts, readyChecks}
+use Rattle.taskset.specs.Refusals.{number, Check, Accepts}
 use Rattle.taskset.specs.declared.PlannerAnswer.{PlannerAnswer}
 use Rattle.taskset.specs.declared.PlannerAnswer.the-variants.{Planned, Refused as NotPlanned}
 use Rattle.taskset.specs.declared.WalkAnswer.{WalkAnswer}
@@ -56,13 +56,12 @@ pub record PlanPromise (s P : List ℕ) (unit energy : ℕ) : Type 0 where
 abbrev pub NoneKeeps : List ℕ → Type 0
 NoneKeeps s = (Q : List ℕ) → Keeps s Q → ⊥
 
--- What the planner owes with its answer, where plan and work were lent and plan′ is the plan list given back: of a plan
--- its promise; and "Demand 3 allows 7 only where no plan keeps every deadline for ever": a refusal is 7 exactly when
--- the checks before it pass and none does.
-abbrev pub PlannerOwes : (s plan work plan′ : List ℕ) → PlannerAnswer → Type 0
-PlannerOwes s plan work plan′ (Planned unit load hyper energy) =
-    PlanPromise s (take (taskCount Ordinary s) plan′) unit energy
-PlannerOwes s plan work plan′ (NotPlanned r) = (number r ≡ 7) ↔ (Accepts (readyChecks s (length plan) (length work)) × NoneKeeps s)
+-- What a call that plans a set owes with its answer, where cs are its checks before 7, and plan′ is the plan list given
+-- back: of a plan its promise; and "Demand 3 allows 7 only where no plan keeps every deadline for ever": a refusal is 7
+-- exactly when the checks before it pass and none does.
+abbrev pub PlanOwes : List Check → (s plan′ : List ℕ) → PlannerAnswer → Type 0
+PlanOwes cs s plan′ (Planned unit load hyper energy) = PlanPromise s (take (taskCount Ordinary s) plan′) unit energy
+PlanOwes cs s plan′ (NotPlanned r) = (number r ≡ 7) ↔ (Accepts cs × NoneKeeps s)
 
 -- "all are 0"
 abbrev pub Together : List ℕ → Type 0

@@ -1,16 +1,20 @@
 -- The checks before 7, the result bytes, and then the planner's answer.
 -- Assumes nothing.
-use mathlib.Core.Path.{subst}
+use mathlib.Core.Path.{refl, subst}
 use lib.ListN.{length}
-use Rattle.taskset.specs.Refusals.{number, second, readyChecks}
+use Rattle.selection.specs.Plan.{Fitting}
+use Rattle.taskset.specs.Quantities.{problem}
+use Rattle.taskset.specs.Refusals.{number, second, noneCheck, readyChecks}
+use Rattle.taskset.proofs.Checks.{refuses-before}
 use Rattle.taskset.proofs.Small.{planner-second-small}
+use Rattle.taskset.proofs.DemandThree.{planner-plans}
 use Rattle.layout.specs.declared.Layout.the-variants.{Ordinary}
 use Rattle.taskset.specs.Calls.{SetAfter}
 use Rattle.taskset.specs.declared.Checked.{Checked}
 use Rattle.taskset.specs.declared.Checked.the-variants.{Good, Refused as NotGood}
 use Rattle.taskset.specs.declared.PlannerAnswer.{PlannerAnswer}
 use Rattle.planner.specs.Answers.{PlannerCall}
-use Rattle.capi.proofs.PlanEntries.{ready-small, ready-refused, results-few, answer-refused, entry-planned}
+use Rattle.capi.proofs.PlanEntries.{ready-refused, results-few, answer-refused, entry-planned}
 use borrow.Author.Needs.{needs}
 use Rattle.capi.proofs.seedspell_plan.Statement.{statement}
 use Rattle.capi.proofs.seedspell_plan.Tie as tie
@@ -52,7 +56,10 @@ enum-known-checked c = search needs
 code-of-requires : tie.Need-code-of-requires
 code-of-requires c κs =
     let a = start (c .before .before .before) .args in
-    ready-small _ (a .plan .now) (a .work .now) (a .results .now) (c .before .checked .given .0 .0) (refused (c .before))
+    let r = c .before .checked .given .0 .0 in
+    planner-second-small (a .set .now) (length (a .plan .now)) (length (a .work .now)) (number r) (second r)
+    (refuses-before (readyChecks (a .set .now) (length (a .plan .now)) (length (a .work .now))) (noneCheck (Fitting (problem (a .set .now))))
+    (number r) (second r) (refused (c .before)))
 
 enum-known-checked-2 : tie.Need-enum-known-checked-2
 enum-known-checked-2 c = search needs
@@ -61,7 +68,9 @@ code-of-requires-2 : tie.Need-code-of-requires-2
 code-of-requires-2 c κs = search needs
 
 returns : tie.Need-returns
-returns c = results-few _ _ _ _ _ (c .code-of2 .ensures) (good (c .before .before .before) .0) (c .before .if1 .taken)
+returns c =
+    results-few _ _ (planner-plans _ _ _) (planner-second-small _ _ _) _ _ _ _ (refl, refl) _ (c .code-of2 .ensures)
+    (good (c .before .before .before) .0) (c .before .if1 .taken)
 
 plan-checked-requires : tie.Need-plan-checked-requires
 plan-checked-requires c κs = good (c .before .before .before .before)
@@ -74,7 +83,7 @@ code-of-requires-3 c κs =
     let m = c .before .answer in
     let q = called (c .before .before .before) in
     let h = subst (Call q) (m .given .1) (q .plan-checked .ensures) in
-    planner-second-small _ _ _ (number (m .given .0 .0)) (second (m .given .0 .0)) (h .gives .0)
+    planner-second-small _ _ _ (number (m .given .0 .0)) (second (m .given .0 .0)) (h .gives .0 .0)
 
 enum-known-answer-2 : tie.Need-enum-known-answer-2
 enum-known-answer-2 c = search needs
@@ -83,7 +92,9 @@ put-values-requires : tie.Need-put-values-requires
 put-values-requires c κs = search needs
 
 returns-2 : tie.Need-returns-2
-returns-2 c = ready-refused _ _ _ _ (c .before .before .checked .given .0 .0) _ (c .code-of .ensures) (refused (c .before .before))
+returns-2 c =
+    ready-refused _ _ (planner-plans _ _ _) (planner-second-small _ _ _) _ _ _ _ (refl, refl) (c .before .before .checked .given .0 .0) _
+    (c .code-of .ensures) (refused (c .before .before))
 
 same-length : tie.Need-same-length
 same-length c = search needs
@@ -96,8 +107,8 @@ returns-3 c =
     let m = c .before .before in
     let q = called (m .before .before) in
     let h = subst (Call q) (m .answer .given .1) (q .plan-checked .ensures) in
-    answer-refused _ _ _ _ _ _ (h .gives .1) (h .gives .2) (m .answer .given .0 .0) _ (c .code-of3 .ensures)
-    (good (checked q) .0) (q .before .before .before .if1 .left) h
+    answer-refused _ _ (planner-plans _ _ _) (planner-second-small _ _ _) _ _ _ _ (h .gives .0 .1, h .gives .1) (m .answer .given .0 .0) _
+    (c .code-of3 .ensures) (good (checked q) .0) (q .before .before .before .if1 .left) (h .gives .0 .0)
 
 same-length-3 : tie.Need-same-length-3
 same-length-3 c = search needs
@@ -114,7 +125,8 @@ planned-results c =
     let m = v .before .before .before in
     let q = called (m .before .before) in
     let h = subst (Call q) (m .answer2 .given .1) (q .plan-checked .ensures) in
-    entry-planned _ _ _ _ (q .before .before .before .if1 .left) _ _ _ _ _ _ _ h (v .put-values .ensures .bytes)
+    entry-planned _ _ (planner-plans _ _ _) (planner-second-small _ _ _) _ _ _ (q .before .before .before .if1 .left) _ _ _ _ _ _ _
+    (h .gives .0) (h .gives) (h .numbers) (v .put-values .ensures .bytes)
 
 pub seedspell-plan-spec : {M : Type 1} → statement M
 seedspell-plan-spec =
