@@ -24,10 +24,10 @@ use Rattle.selection.proofs.Compute.{trace, leastEnergy, choose, usedFrom, used
 use Rattle.layout.specs.Words.{slack, rateCount, taskCount, headKinds, extraKinds, kindIn, headKind, taskKind, kindAt, allows}
 use Rattle.layout.specs.declared.Layout.the-variants.{Ordinary}
 use Rattle.taskset.specs.Quantities.{hyperPeriod, problem, walkTasks, jobsEnergy, reportedEnergy, workNeeded}
-use Rattle.taskset.specs.Refusals.{number, second, Check, Accepts, _▹_, wordChecks, idleChecks, hyperCheck}
+use Rattle.taskset.specs.Refusals.{mostPlans, number, second, Check, Accepts, _▹_, wordChecks, idleChecks, hyperCheck}
 use Rattle.taskset.specs.Refusals.{workCheck, roomCheck, noneCheck, planCheck, readyChecks, plannerChecks}
 use Rattle.taskset.specs.Refusals.{walkChecks}
-use Rattle.taskset.specs.Calls.{code, plannerValues, walkValues, SetAfter, PlannerGives, WalkAnswers}
+use Rattle.taskset.specs.Calls.{code, plannerValues, walkValues, SetAfter, PlannerGives, DullGives, WalkAnswers}
 use Rattle.taskset.specs.DemandThree.{Keeps, margin, IsLeast, PlanPromise, Together}
 use Rattle.taskset.specs.declared.Refusal.{Refusal}
 use Rattle.taskset.specs.declared.Refusal.the-variants.{BadWord, NotAbove, TooLong, WorkShort, TooShort, NoPlan, BadPlan, BelowIdle}
@@ -40,6 +40,8 @@ use Rattle.taskset.proofs.Verdict.{isBad, isFall, isOver, isBelow, hasB
 use Rattle.taskset.proofs.Verdict.{checkedOf, coveredOf, checked-answers, covered-answers}
 use Rattle.taskset.proofs.PlanVerdict.{isUnfit, planVerdict, PlanSays, plan-verdict-says}
 use Rattle.taskset.proofs.Sets.{IsSet, set-of, falling}
+use Rattle.taskset.proofs.Engines.{as-dull}
+use Rattle.taskset.proofs.DullCases.{few}
 use Rattle.taskset.proofs.DemandThree.{planner-plans, answer-owes, walk-owes}
 use Rattle.taskset.proofs.Margin.{allowance, margin-reached}
 
@@ -255,6 +257,15 @@ module _ (s P : List ℕ) (unit load hyper energy : ℕ) (size : length P ≤ ta
       → energy ≡ reportedEnergy s Q + margin s unit → IsLeast s Q (reportedEnergy s Q)
   least-by-margin Q busy idle preempted zero w = margin-reached s P unit energy promised Q (kept-keeps s Q busy idle preempted zero w)
 
+-- The same of the dull engine.
+dull-planned : (s P : List ℕ) (unit load hyper energy : ℕ) → Given s P unit load hyper energy
+    → rateCount Ordinary s ^ taskCount Ordinary s ≤ mostPlans
+    → (plan : List ℕ) → length plan ≡ taskCount Ordinary s → DullGives s plan P (Planned unit load hyper energy)
+dull-planned s P unit load hyper energy given small plan size =
+    let work : List ℕ = replicate (workNeeded s) 0 in
+    as-dull s plan work P work (Planned unit load hyper energy) (given plan work size (length-replicate (workNeeded s) 0))
+    (λ e. omega arith) (few s small)
+
 -- ---- the cases
 pub record Cases : Type 0 where
   -- (M) "S: plan 2 1, unit 1, load 29, energy 41." (M) "S has W = 243".
@@ -367,6 +378,12 @@ pub record Cases : Type 0 where
   walk-together : WalkAnswers (with-firsts 2 4 0 0) (1 ∷ 1 ∷ []) (Kept 4 0 1)
   -- With both released together the first set misses where it has to: at L.
   missed-together : WalkAnswers (with-firsts 2 2 0 0) (1 ∷ 1 ∷ []) (Missed 2 2)
+  -- Document 02, note 7: the dull engine has the planner's answers to S, at both slacks, to the tie and to 61 cycles, and
+  -- is lent no working words. Its own edges are in DullCases.antt.
+  dull-100 : (plan : List ℕ) → length plan ≡ 2 → DullGives (S 100) plan (2 ∷ 1 ∷ []) (Planned 1 29 30 41)
+  dull-1000 : (plan : List ℕ) → length plan ≡ 2 → DullGives (S 1000) plan (1 ∷ 2 ∷ []) (Planned 8 28 30 42)
+  dull-tie : (plan : List ℕ) → length plan ≡ 2 → DullGives even-tasks plan (2 ∷ 1 ∷ []) (Planned 1 4 4 6)
+  dull-61 : (plan : List ℕ) → 1 ≤ length plan → DullGives (one-task 61) plan plan (NotPlanned NoPlan)
   -- A chip's list: its plan, and the walk of it.
   pub planned-chip : (plan work : List ℕ) → length plan ≡ 2 → length work ≡ 51
       → PlannerGives chip-set plan work (2 ∷ 2 ∷ []) (replicate 51 0) (Planned 128 20 40 1680)
@@ -401,10 +418,14 @@ cases =
     (le-by-compare _ _ tt) (le-by-compare _ _ tt) refl refl refl refl refl refl in
     let of-S : Given (S 100) (2 ∷ 1 ∷ []) 1 29 30 41
     = planned (S 100) 3 2 30 refl (2 ∷ 1 ∷ []) 0 1 29 41 (le-by-compare _ _ tt) (le-by-compare _ _ tt) refl refl refl refl refl refl in
+    let of-S-1000 : Given (S 1000) (1 ∷ 2 ∷ []) 8 28 30 42
+    = planned (S 1000) 3 2 30 refl (1 ∷ 2 ∷ []) 3 8 28 42 (le-by-compare _ _ tt) (le-by-compare _ _ tt) refl refl refl refl refl refl in
+    let of-tie : Given even-tasks (2 ∷ 1 ∷ []) 1 4 4 6
+    = planned even-tasks 2 2 4 refl (2 ∷ 1 ∷ []) 0 1 4 6 (le-by-compare _ _ tt) (le-by-compare _ _ tt) refl refl refl refl refl refl in
     record {
       planned-100 = of-S;
       work-242 = λ plan work h. work-short (S 100) 3 2 30 refl plan work (omega arith);
-      planned-1000 = planned (S 1000) 3 2 30 refl (1 ∷ 2 ∷ []) 3 8 28 42 (le-by-compare _ _ tt) (le-by-compare _ _ tt) refl refl refl refl refl refl;
+      planned-1000 = of-S-1000;
       walk-of-1-1 = (walks (S 100) 3 2 30 refl (1 ∷ 1 ∷ []) refl, refl);
       walk-of-2-1 = (walks (S 100) 3 2 30 refl (2 ∷ 1 ∷ []) refl, refl);
       load-of-1-3 = refl;
@@ -424,7 +445,15 @@ cases =
       long-plan = plan-refused (S 100) 3 2 30 refl (1 ∷ 1 ∷ 1 ∷ []) 2 refl;
       long-bad-plan = plan-refused (S 100) 3 2 30 refl (1 ∷ 1 ∷ 9 ∷ 9 ∷ []) 2 refl;
       plan-list-1 = λ plan work p q. plan-short (S 100) 3 2 30 refl plan work (omega arith) (omega arith);
-      tie = planned even-tasks 2 2 4 refl (2 ∷ 1 ∷ []) 0 1 4 6 (le-by-compare _ _ tt) (le-by-compare _ _ tt) refl refl refl refl refl refl;
+      tie = of-tie;
+      dull-100 = dull-planned (S 100) (2 ∷ 1 ∷ []) 1 29 30 41 of-S (le-by-compare _ _ tt);
+      dull-1000 = dull-planned (S 1000) (1 ∷ 2 ∷ []) 8 28 30 42 of-S-1000 (le-by-compare _ _ tt);
+      dull-tie = dull-planned even-tasks (2 ∷ 1 ∷ []) 1 4 4 6 of-tie (le-by-compare _ _ tt);
+      dull-61 = λ plan h.
+          as-dull (one-task 61) plan (replicate 82 0) plan (replicate 82 0) (NotPlanned NoPlan)
+          (no-plan (one-task 61) 2 1 30 refl (le-by-compare _ _ tt) (le-by-compare _ _ tt) plan (replicate 82 0) h
+          (omega (arith, length-replicate {A = ℕ} 82 0)))
+          (λ e. omega arith) (few (one-task 61) (le-by-compare _ _ tt));
       idle-counts = planned (slow-or-fast 10 910) 2 1 100 refl (1 ∷ []) 0 1 90 1010
           (le-by-compare _ _ tt) (le-by-compare _ _ tt) refl refl refl refl refl refl;
       walk-idle = (walks (slow-or-fast 10 910) 2 1 100 refl (1 ∷ []) refl, refl);

@@ -53,6 +53,25 @@ pub refuses-rest : (cs ds : List Check) (n k : ℕ) → Accepts cs → Refuses (
 refuses-rest [] ds n k a r = r
 refuses-rest (c ∷ cs) ds n k a r = ⊎-elim (λ h. absurd (a .0 k (h .1))) (λ h. refuses-rest cs ds n k (a .1) (h .1)) r
 
+-- ---- one check left out
+module _ (c : Check) (ds : List Check) where
+  pub accepts-leave : (cs : List Check) → Accepts (cs ++ (c ∷ ds)) → Accepts (cs ++ ds)
+  accepts-leave [] a = a .1
+  accepts-leave (d ∷ cs) a = (a .0, accepts-leave cs (a .1))
+
+  pub refuses-leave : (cs : List Check) (n k : ℕ) → (n ≡ c .number → ⊥) → Refuses (cs ++ (c ∷ ds)) n k → Refuses (cs ++ ds) n k
+  refuses-leave [] n k other r = ⊎-elim (λ h. absurd (other (h .0))) (λ h. h .1) r
+  refuses-leave (d ∷ cs) n k other r = ⊎-elim (λ h. inl h) (λ h. inr (h .0, refuses-leave cs n k other (h .1))) r
+
+  -- And taken in, where it passes.
+  pub accepts-take : (cs : List Check) → Passes c → Accepts (cs ++ ds) → Accepts (cs ++ (c ∷ ds))
+  accepts-take [] p a = (p, a)
+  accepts-take (d ∷ cs) p a = (a .0, accepts-take cs p (a .1))
+
+  pub refuses-take : (cs : List Check) (n k : ℕ) → Passes c → Refuses (cs ++ ds) n k → Refuses (cs ++ (c ∷ ds)) n k
+  refuses-take [] n k p r = inr (p, r)
+  refuses-take (d ∷ cs) n k p r = ⊎-elim (λ h. inl h) (λ h. inr (h .0, refuses-take cs n k p (h .1))) r
+
 -- ---- one more check
 module _ (cs : List Check) (c : Check) where
   -- All pass, and so does the next.

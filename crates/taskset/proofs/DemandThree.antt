@@ -22,7 +22,7 @@ use Rattle.selection.specs.Plan.{Fitting, IsPlan, IsPlanned, planLoad, planEner
 use Rattle.selection.proofs.Bounds.{planned-within, within-margin}
 use Rattle.layout.specs.Words.{longestPeriod, slack, idle, rateCount, taskCount, first}
 use Rattle.taskset.specs.Quantities.{hyperPeriod, problem, endlessTasks, tasksWith, walkTasks, lastTick, reportedEnergy}
-use Rattle.taskset.specs.Refusals.{number, second, Check, Accepts, Refuses, _▹_, NoneOk, PlanFault, IsBadPlan, readyChecks, walkChecks}
+use Rattle.taskset.specs.Refusals.{number, second, Check, Accepts, Refuses, _▹_, NoneOk, PlanFault, IsBadPlan, readyChecks, dullReadyChecks, walkChecks}
 use Rattle.taskset.specs.Refusals.{wordCheck, rateCheck, idleCheck, hyperCheck, noneCheck}
 use Rattle.taskset.specs.Calls.{plannerValues, Selected, PlanGives, outcomeValues, walkOf, WalkAnswers}
 use Rattle.taskset.specs.DemandThree.{Keeps, margin, PlanPromise, NoneKeeps, AreFirsts, PlanOwes, Together, WalkOwes}
@@ -169,6 +169,9 @@ plans-by s cs two three four ten none = record {
 
 pub planner-plans : (s : List ℕ) (planLength workLength : ℕ) → Plans s (readyChecks s planLength workLength)
 planner-plans s pl wl = plans-by s (readyChecks s pl wl) refl refl refl refl refl
+
+pub dull-plans : (s : List ℕ) (planLength : ℕ) → Plans s (dullReadyChecks s planLength)
+dull-plans s pl = plans-by s (dullReadyChecks s pl) refl refl refl refl refl
 
 -- A call with such checks, and 7 last, refuses with 7 exactly when all before it pass and no plan keeps every deadline for
 -- ever.

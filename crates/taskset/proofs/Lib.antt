@@ -12,5 +12,7 @@ pub mod Writing
 pub mod Stores
 pub mod Rows
 pub mod Unique
+pub mod Engines
+pub mod DullCases
 pub mod Firsts
 pub mod Cases

@@ -15,8 +15,8 @@ use Rattle.layout.specs.Words.{headSize, slack, rateCount, taskCount, wordCount
 use Rattle.taskset.specs.Quantities.{workNeeded, problem}
 use Rattle.taskset.specs.Refusals.{IsBadWord, IsNotAbove, IsBelowIdle, IsTooLong, IsShort, IsBadPlan, Check}
 use Rattle.taskset.specs.Refusals.{Accepts, Refuses, _▹_, wordChecks, idleCheck, idleChecks, hyperCheck}
-use Rattle.taskset.specs.Refusals.{workCheck, roomCheck, noneCheck, planCheck, readyChecks, plannerChecks}
-use Rattle.taskset.specs.Refusals.{walkChecks}
+use Rattle.taskset.specs.Refusals.{workCheck, manyCheck, roomCheck, noneCheck, planCheck, readyChecks, plannerChecks}
+use Rattle.taskset.specs.Refusals.{dullReadyChecks, dullChecks, walkChecks}
 use Rattle.layout.specs.declared.Kind.{Kind}
 use Rattle.layout.specs.declared.Kind.the-variants.{RateCount, TaskCount}
 use Rattle.taskset.proofs.Checks.{no-word-fault, refuses-cases, passed}
@@ -161,3 +161,18 @@ module _ (s : List ℕ) where
     pub planner-second-small : (n k : ℕ) → Refuses (plannerChecks s planLength workLength) n k → k < 2 ^ 32
     planner-second-small =
         next-small (readyChecks s planLength workLength) (noneCheck (Fitting (problem s))) ready-second-small (λ a k h. omega (arith, h .0))
+
+  -- The dull engine's.
+  module _ (planLength : ℕ) where
+    abbrev upTo11 : List Check
+    upTo11 = covered ▹ manyCheck Ordinary s
+
+    dull-ready-small : (n k : ℕ) → Refuses (dullReadyChecks s planLength) n k → k < 2 ^ 32
+    dull-ready-small =
+        next-small upTo11 (roomCheck (taskCount Ordinary s) planLength)
+        (next-small covered (manyCheck Ordinary s) covered-second-small (λ a k h. omega (arith, h .0)))
+        (λ a k h. omega (arith, plan-short-small s (passed 2 upTo11 refl a) planLength k h))
+
+    pub dull-second-small : (n k : ℕ) → Refuses (dullChecks s planLength) n k → k < 2 ^ 32
+    dull-second-small =
+        next-small (dullReadyChecks s planLength) (noneCheck (Fitting (problem s))) dull-ready-small (λ a k h. omega (arith, h .0))

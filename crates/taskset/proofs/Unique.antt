@@ -16,12 +16,12 @@ use Rattle.layout.specs.declared.Layout.{Layout}
 use Rattle.layout.specs.declared.Layout.the-variants.{Ordinary}
 use Rattle.taskset.specs.Quantities.{problem, workNeeded}
 use Rattle.taskset.specs.Refusals.{number, second, IsShort, NoneOk, Check, Refuses, _▹_, wordChecks, idleCheck}
-use Rattle.taskset.specs.Refusals.{idleChecks, hyperCheck, workCheck, roomCheck, noneCheck, planCheck}
-use Rattle.taskset.specs.Refusals.{readyChecks, plannerChecks, walkChecks}
+use Rattle.taskset.specs.Refusals.{idleChecks, hyperCheck, manyCheck, workCheck, roomCheck, noneCheck, planCheck}
+use Rattle.taskset.specs.Refusals.{readyChecks, plannerChecks, dullReadyChecks, dullChecks, walkChecks}
 use Rattle.taskset.specs.Calls.{CopyGives, CountsAfter, SetAfter, Selected, PlanGives, WorkAfter, PlannerGives, WalkAnswers}
 use Rattle.taskset.specs.declared.Refusal.{Refusal}
 use Rattle.taskset.specs.declared.Refusal.the-variants.{TextDeparts, BadWord, NotAbove, TooLong, WorkShort}
-use Rattle.taskset.specs.declared.Refusal.the-variants.{TooShort, NoPlan, BadPlan, EnergyOver, BelowIdle}
+use Rattle.taskset.specs.declared.Refusal.the-variants.{TooShort, NoPlan, BadPlan, EnergyOver, BelowIdle, TooManyPlans}
 use Rattle.taskset.specs.declared.Shape.{Shape}
 use Rattle.taskset.specs.declared.Shape.the-variants.{Whole, Refused as NotWhole}
 use Rattle.taskset.specs.declared.Checked.{Checked}
@@ -46,7 +46,8 @@ refusal n k =
     (cond (eqb n 6) (TooShort k)
     (cond (eqb n 7) NoPlan
     (cond (eqb n 8) (BadPlan k)
-    (cond (eqb n 9) (EnergyOver k) (BelowIdle k)))))))))
+    (cond (eqb n 9) (EnergyOver k)
+    (cond (eqb n 10) (BelowIdle k) TooManyPlans)))))))))
 
 refusal-of : (r : Refusal) → refusal (number r) (second r) ≡ r
 unfolding refusal
@@ -60,6 +61,7 @@ refusal-of NoPlan = refl
 refusal-of (BadPlan k) = refl
 refusal-of (EnergyOver k) = refl
 refusal-of (BelowIdle q) = refl
+refusal-of TooManyPlans = refl
 
 -- A refusal's number is above 0, and small.
 pub number-range : (r : Refusal) → (1 ≤ number r) × (number r ≤ 100)
@@ -74,6 +76,7 @@ number-range NoPlan = (le-by-compare _ _ tt, le-by-compare _ _ tt)
 number-range (BadPlan k) = (le-by-compare _ _ tt, le-by-compare _ _ tt)
 number-range (EnergyOver k) = (le-by-compare _ _ tt, le-by-compare _ _ tt)
 number-range (BelowIdle q) = (le-by-compare _ _ tt, le-by-compare _ _ tt)
+number-range TooManyPlans = (le-by-compare _ _ tt, le-by-compare _ _ tt)
 
 -- Two refusals of the same checks are one.
 pub refusal-unique : (cs : List Check) → AllSingle cs → (p r : Refusal) → Refuses cs (number p) (second p) → Refuses cs (number r) (second r) → p ≡ r
@@ -115,6 +118,22 @@ ready-single s pl wl =
 pub planner-single : (s : List ℕ) (planLength workLength : ℕ) → AllSingle (plannerChecks s planLength workLength)
 planner-single s pl wl =
     single-next (readyChecks s pl wl) (noneCheck (Fitting (problem s))) (ready-single s pl wl) (none-single (Fitting (problem s)))
+
+pub many-single : (layout : Layout) (s : List ℕ) → Single (manyCheck layout s)
+many-single layout s j k a b = a .0 ∙ sym (b .0)
+
+pub dull-ready-single : (s : List ℕ) (planLength : ℕ) → AllSingle (dullReadyChecks s planLength)
+dull-ready-single s pl =
+    single-next (set ▹ manyCheck Ordinary s) (roomCheck (taskCount Ordinary s) pl)
+    (single-next set (manyCheck Ordinary s) (covered-single Ordinary s) (many-single Ordinary s))
+    (short-single (taskCount Ordinary s) pl)
+  where
+    set : List Check
+    set = idleChecks Ordinary s ▹ hyperCheck Ordinary s
+
+pub dull-single : (s : List ℕ) (planLength : ℕ) → AllSingle (dullChecks s planLength)
+dull-single s pl =
+    single-next (dullReadyChecks s pl) (noneCheck (Fitting (problem s))) (dull-ready-single s pl) (none-single (Fitting (problem s)))
 
 pub walk-single : (s P : List ℕ) → AllSingle (walkChecks s P)
 walk-single s P = single-next (wordChecks Ordinary s ▹ hyperCheck Ordinary s) (planCheck Ordinary s P) (set-single Ordinary s) lowest-single

@@ -10,7 +10,7 @@ use Rattle.layout.specs.declared.Kind.the-variants.{First}
 use Rattle.layout.specs.declared.Layout.{Layout}
 use Rattle.layout.specs.declared.Layout.the-variants.{Ordinary}
 use Rattle.taskset.specs.Quantities.{hyperPeriod, problem, walkTasks, lastTick, reportedEnergy, workNeeded}
-use Rattle.taskset.specs.Refusals.{number, second, Check, Accepts, Refuses, plannerChecks, walkChecks}
+use Rattle.taskset.specs.Refusals.{number, second, Check, Accepts, Refuses, plannerChecks, dullChecks, walkChecks}
 use Rattle.taskset.specs.declared.Refusal.{Refusal}
 use Rattle.taskset.specs.declared.Shape.{Shape}
 use Rattle.taskset.specs.declared.Shape.the-variants.{Whole, Refused as NotWhole}
@@ -109,6 +109,11 @@ WorkAfter s work work′ (NotPlanned r) = work′ ≡ work
 abbrev pub PlannerGives : (s plan work plan′ work′ : List ℕ) → PlannerAnswer → Type 0
 PlannerGives s plan work plan′ work′ a =
     PlanGives (plannerChecks s (length plan) (length work)) s plan plan′ a × WorkAfter s work work′ a
+
+-- THE DULL ENGINE (document 02, note 7). "It needs no working words. Its refusals are the planner's without 5, and where both
+-- succeed the four numbers and the plan list are equal."
+abbrev pub DullGives : (s plan plan′ : List ℕ) → PlannerAnswer → Type 0
+DullGives s plan plan′ = PlanGives (dullChecks s (length plan)) s plan plan′
 
 -- "The planner still answers for a common release" (document 02, note 6): it looks at no first release. Two lists that
 -- differ in first releases alone have the same length, and the same word wherever that is not a first release.

@@ -1,6 +1,6 @@
 -- Why a call declines (document 01, the table of that name): each cause with the second number, and the order of each
 -- call's checks.
-use Prim.Native.Nat.{ℕ, suc, _-_, _*_, _≤_, _<_}
+use Prim.Native.Nat.{ℕ, suc, _-_, _*_, _^_, _≤_, _<_}
 use mathlib.Core.Path.{_≡_}
 use mathlib.Core.Bool.{false}
 use mathlib.Core.List.{List, [], _∷_, _++_}
@@ -14,11 +14,11 @@ use Rattle.layout.specs.declared.Layout.the-variants.{Ordinary}
 use Rattle.taskset.specs.Quantities.{hyperLimit, jobTime, problem, workNeeded}
 use Rattle.taskset.specs.declared.Refusal.{Refusal}
 use Rattle.taskset.specs.declared.Refusal.the-variants.{TextDeparts, BadWord, NotAbove, TooLong, WorkShort}
-use Rattle.taskset.specs.declared.Refusal.the-variants.{TooShort, NoPlan, BadPlan, EnergyOver, BelowIdle}
+use Rattle.taskset.specs.declared.Refusal.the-variants.{TooShort, NoPlan, BadPlan, EnergyOver, BelowIdle, TooManyPlans}
 
 -- The column 'Number', and the column 'Returned with it'; of document 02, "9, an energy worked out here is over
--- 1,000,000, with the first such task's number", and "10, an energy below H × job time, with the first such energy's
--- place".
+-- 1,000,000, with the first such task's number", "10, an energy below H × job time, with the first such energy's place",
+-- and "11, M to the power N is over 1,000,000, with 0".
 abbrev pub number : Refusal → ℕ
 number (TextDeparts o) = 1
 number (BadWord q) = 2
@@ -30,6 +30,7 @@ number NoPlan = 7
 number (BadPlan k) = 8
 number (EnergyOver k) = 9
 number (BelowIdle q) = 10
+number TooManyPlans = 11
 
 abbrev pub second : Refusal → ℕ
 second (TextDeparts o) = o
@@ -42,8 +43,13 @@ second NoPlan = 0
 second (BadPlan k) = k
 second (EnergyOver k) = k
 second (BelowIdle q) = q
+second TooManyPlans = 0
 
 -- CAUSES. Each says when it holds with a second number k.
+
+-- "over 1,000,000": as many plans the dull engine goes through.
+abbrev pub mostPlans : ℕ
+mostPlans = 1000000
 
 module _ (layout : Layout) (s : List ℕ) where
   -- 2: "Set word out of its range, missing or left over"; "place of the first such word; the list's length if missing".
@@ -77,6 +83,10 @@ module _ (layout : Layout) (s : List ℕ) where
 
   abbrev pub IsTooLong : ℕ → Type 0
   IsTooLong q = (t : ℕ) × Lowest PassesLimit t × (q ≡ periodPlace layout (rateCount layout s) t)
+
+  -- 11: "M to the power N is over 1,000,000, with 0".
+  abbrev pub IsTooMany : ℕ → Type 0
+  IsTooMany k = (k ≡ 0) × (mostPlans < rateCount layout s ^ taskCount layout s)
 
 -- 5: "Working list shorter than W"; "W". 6: "Receiving list or buffer too short"; "words or bytes needed".
 abbrev pub IsShort : ℕ → ℕ → ℕ → Type 0
@@ -138,6 +148,9 @@ idleCheck layout s = check 10 (IsBelowIdle layout s)
 abbrev pub hyperCheck : Layout → List ℕ → Check
 hyperCheck layout s = check 4 (IsTooLong layout s)
 
+abbrev pub manyCheck : Layout → List ℕ → Check
+manyCheck layout s = check 11 (IsTooMany layout s)
+
 abbrev pub workCheck : ℕ → ℕ → Check
 workCheck needed lent = check 5 (IsShort needed lent)
 
@@ -165,6 +178,14 @@ readyChecks s planLength workLength =
 
 abbrev pub plannerChecks : List ℕ → ℕ → ℕ → List Check
 plannerChecks s planLength workLength = readyChecks s planLength workLength ▹ noneCheck (Fitting (problem s))
+
+-- The dull engine: "Its refusals are the planner's without 5 .. Errors: 11, .. after 4" (document 02, note 7).
+abbrev pub dullReadyChecks : List ℕ → ℕ → List Check
+dullReadyChecks s planLength =
+    idleChecks Ordinary s ▹ hyperCheck Ordinary s ▹ manyCheck Ordinary s ▹ roomCheck (taskCount Ordinary s) planLength
+
+abbrev pub dullChecks : List ℕ → ℕ → List Check
+dullChecks s planLength = dullReadyChecks s planLength ▹ noneCheck (Fitting (problem s))
 
 -- "Walk: 2, 3, 4, 8."
 abbrev pub walkChecks : List ℕ → List ℕ → List Check

@@ -29,6 +29,8 @@ pub enum Refusal {
     EnergyOver(usize),
     // An energy below what idle ticks draw in the job's time: place.
     BelowIdle(usize),
+    // More plans than the dull engine goes through.
+    TooManyPlans,
 }
 
 // The number of a refusal.
@@ -46,6 +48,7 @@ pub fn number_of(f: Refusal) -> u64
         Refusal::BadPlan(_) => 8,
         Refusal::EnergyOver(_) => 9,
         Refusal::BelowIdle(_) => 10,
+        Refusal::TooManyPlans => 11,
     }
 }
 
@@ -64,6 +67,7 @@ pub fn second_of(f: Refusal) -> u64
         Refusal::BadPlan(k) => k as u64,
         Refusal::EnergyOver(k) => k as u64,
         Refusal::BelowIdle(k) => k as u64,
+        Refusal::TooManyPlans => 0,
     }
 }
 
