@@ -1,31 +1,28 @@
 -- From the unit used and its table to the plan, its sums, and every word of the two lists.
 -- Assumes nothing.
-use Prim.Native.Nat.{ℕ, zero, suc, _+_, _-_, _*_, _^_, _≤_, _<_, zero-le}
-use mathlib.Core.Path.{_≡_, refl, sym, ap, subst, _∙_}
+use Prim.Native.Nat.{ℕ, _+_, _-_, _*_, _^_, _≤_, _<_, zero-le}
+use mathlib.Core.Path.{_≡_, sym, ap, subst, _∙_}
 use mathlib.Core.List.{List, _++_}
 use mathlib.Core.Logic.{⊎-elim}
 use native.Mathlib.Omega.{arith}
-use lib.ListN.{length, getD, take, drop, replicate, length-replicate, getD-replicate, length-take, length-drop, length-append, List·getD-append}
-use lib.Seq.{ext-getD, getD-append-add, getD-drop, getD-take}
+use lib.ListN.{length, getD, take, drop, replicate, length-replicate, getD-replicate}
+use lib.ListN.{length-drop, length-append, List·getD-append}
+use lib.Seq.{ext-getD, getD-append-add, getD-drop}
 use Rattle.numbers.specs.Numbers.{total}
 use Rattle.numbers.proofs.Tests.{lt-or-le}
-use Rattle.numbers.proofs.Sums.{total-same}
 use Rattle.selection.specs.Plan.{Fitting, IsChosenOf, lastColumn, workWords}
 use Rattle.selection.proofs.Bounds.{last-small}
 use Rattle.selection.proofs.Agree.{way-places}
-use Rattle.table.specs.Rows.{optionAt, Written}
-use Rattle.choice.specs.declared.Request.{Request}
+use Rattle.arrays.specs.declared.Request.{Request}
+use Rattle.arrays.specs.Arrays.{optionAt, Written, Small, SumReady, arrays}
+use Rattle.arrays.proofs.Writing.{zeros-at}
+use Rattle.arrays.proofs.Chosen.{front-size, front-at, sum-ready, chosen-by}
 use Rattle.choice.specs.declared.Used.{Used}
-use Rattle.choice.specs.Choice.{arrays, ChoiceReady, Chose}
-use Rattle.choice.specs.Units.{frameOf, Small, SumReady, WayReady, WayTaken, SearchReady, UnitUsed}
+use Rattle.choice.specs.Choice.{ChoiceReady, Chose}
+use Rattle.choice.specs.Units.{frameOf, WayReady, WayTaken, SearchReady, UnitUsed}
 use Rattle.choice.proofs.Trying.{narrow-words, chosen-is}
 
 -- ---- lists from their words
-pub zeros-at : (n k : ℕ) → getD (replicate {A = ℕ} n 0) k 0 ≡ 0
-zeros-at zero k = refl
-zeros-at (suc n) zero = refl
-zeros-at (suc n) (suc k) = zeros-at n k
-
 -- Zeros in the first k places, and the rest as before.
 zeros-list : (k : ℕ) (d₀ d : List ℕ) → k ≤ length d₀ → Written (λ p. 0) 0 k d₀ d → d ≡ replicate k 0 ++ drop k d₀
 zeros-list k d₀ d room w =
@@ -46,19 +43,12 @@ zeros-list k d₀ d room w =
     place : (i : ℕ) → k ≤ i → i ≡ length (replicate {A = ℕ} k 0) + (i - k)
     place i x = omega (arith, front)
 
--- Two lists with the same words from n on.
-rest-same : (n : ℕ) (d₀ d : List ℕ) → length d ≡ length d₀ → ((p : ℕ) → n ≤ p → getD d p 0 ≡ getD d₀ p 0) → drop n d ≡ drop n d₀
-rest-same n d₀ d size same =
-    ext-getD 0 (drop n d) (drop n d₀)
-    (omega (arith, length-drop n d, length-drop n d₀))
-    (λ i h. getD-drop n d i 0 ∙ same (n + i) (omega arith) ∙ sym (getD-drop n d₀ i 0))
-
 -- ---- the choice
 module _ {q : Request} {loads energies plan₀ work₀ : List ℕ} (g : ChoiceReady q loads energies plan₀ work₀) where
   pub search-ready : SearchReady q loads energies (replicate 512 0) (replicate 512 0) work₀
   search-ready = record {
-    asked = g .asked;
-    energies-fit = g .energies-fit;
+    asked = g .engine .asked;
+    energies-fit = g .engine .energies-fit;
     load-size = length-replicate {A = ℕ} 512 0;
     load-none = zeros-at 512;
     cost-size = length-replicate {A = ℕ} 512 0;
@@ -66,16 +56,21 @@ module _ {q : Request} {loads energies plan₀ work₀ : List ℕ} (g : ChoiceRe
   }
 
   pub last-low : lastColumn (q .tasks) (q .slack) ≤ 128000
-  last-low = last-small (q .tasks) (q .slack) (g .asked .tasks) (g .asked .slacks .0)
+  last-low = last-small (q .tasks) (q .slack) (g .engine .asked .tasks) (g .engine .asked .slacks .0)
 
   module _ {load cost work : List ℕ} {o : Used} (u : UnitUsed q loads energies work₀ load cost work o) where
     pub way-ready : WayReady (frameOf q (q .limit + 1) (o .columns)) (o .least) cost load work plan₀
     way-ready = record {
-      framed = record { tasks = g .asked .tasks; rates = g .asked .rates .1; small = omega (arith, g .asked .small); loads = u .loads-low };
+      framed = record {
+        tasks = g .engine .asked .tasks;
+        rates = g .engine .asked .rates .1;
+        small = omega (arith, g .engine .asked .small);
+        loads = u .loads-low;
+      };
       holds = u .holds;
       place = u .place;
       some = u .some;
-      room = g .plan-room;
+      room = g .engine .plan-room;
     }
 
     -- The table used is no larger than the words that are cleared.
@@ -83,29 +78,16 @@ module _ {q : Request} {loads energies plan₀ work₀ : List ℕ} (g : ChoiceRe
     own-words = narrow-words (q .tasks) (q .slack) (o .columns) (u .narrow)
 
     module _ {plan : List ℕ} (w : WayTaken (frameOf q (q .limit + 1) (o .columns)) (o .least) cost load plan₀ plan) where
-      size : length (take (q .tasks) plan) ≡ q .tasks
-      size = omega (arith, length-take (q .tasks) plan, w .same, g .plan-room)
-
-      same : (t : ℕ) → t < q .tasks → getD (take (q .tasks) plan) t 0 ≡ getD plan t 0
-      same t l = getD-take (q .tasks) plan t 0 l
-
       chosen : IsChosenOf (Fitting (arrays q loads energies)) (arrays q loads energies) (2 ^ u .exponent) (take (q .tasks) plan)
       chosen =
-          chosen-is q loads energies load cost (u .exponent) (g .asked .rates .1) (u .loads-cut) (u .costs) (o .least) (u .some) (u .before)
-          (take (q .tasks) plan) size
+          chosen-is q loads energies load cost (u .exponent) (g .engine .asked .rates .1) (u .loads-cut) (u .costs)
+          (o .least) (u .some) (u .before)
+          (take (q .tasks) plan) (front-size (g .engine) plan (w .same))
           (way-places (optionAt cost) (optionAt load) (q .rates) (q .limit + 1) (q .tasks) (o .least) plan (take (q .tasks) plan)
-          (λ t l. sym (same t l)) (w .way))
+          (λ t l. sym (front-at (g .engine) plan (w .same) t l)) (w .way))
 
-      pub sum-ready : (options : List ℕ) → Small options → SumReady (q .tasks) options plan
-      sum-ready options small = record {
-        few = g .asked .tasks;
-        room = omega (arith, w .same, g .plan-room);
-        numbers = λ t l. omega (arith, same t l, chosen .ok .plan .below t l, g .asked .rates .1);
-        small = small;
-      }
-
-      sums : (f : ℕ → ℕ → ℕ) → total f (q .tasks) plan ≡ total f (q .tasks) (take (q .tasks) plan)
-      sums f = total-same f f (q .tasks) plan (take (q .tasks) plan) (λ t l. ap (f t) (sym (same t l)))
+      pub plan-ready : (options : List ℕ) → Small options → SumReady (q .tasks) options plan
+      plan-ready = sum-ready (g .engine) plan (w .same) (u .exponent) chosen
 
       pub chose : {work′ : List ℕ} {l e f : ℕ} → l ≡ total (optionAt loads) (q .tasks) plan → e ≡ total (optionAt energies) (q .tasks) plan
           → f ≡ lastColumn (q .tasks) (q .slack) → Written (λ p. 0) 0 ((q .tasks + 1) * (f + 1)) work work′
@@ -114,15 +96,9 @@ module _ {q : Request} {loads energies plan₀ work₀ : List ℕ} (g : ChoiceRe
           let z : Written (λ p. 0) 0 (workWords (q .tasks) (q .slack)) work work′ =
           subst (λ (k : ℕ). Written (λ p. 0) 0 ((q .tasks + 1) * (k + 1)) work work′) is c in
           record {
-            exponent = u .exponent;
-            unit-is = u .unit-is;
-            planned = record { used = u .used; chosen = chosen };
-            load-is = x ∙ sums (optionAt loads);
-            energy-is = y ∙ sums (optionAt energies);
-            rest = rest-same (q .tasks) plan₀ plan (w .same) (w .rest);
+            chosen = chosen-by (g .engine) plan (w .same) (u .exponent) chosen (u .unit-is) (u .used) x y (w .rest);
             cleared =
                 zeros-list (workWords (q .tasks) (q .slack)) work₀ work′ (g .work-room)
                 (record { same = z .same ∙ u .work-size; here = z .here; below = λ p h. absurd (omega arith); above = λ p h. z .above p h ∙ u .above p h });
-            plan-size = w .same;
             work-size = z .same ∙ u .work-size;
           }

@@ -1,4 +1,3 @@
 pub mod Ways
-pub mod Adding
 pub mod Trying
 pub mod Choosing

@@ -1,10 +1,10 @@
 -- A unit's table over the arrays is the problem's own; and the units tried, from the first down.
 -- Assumes nothing.
 use Prim.Native.Nat.{ℕ, suc, _+_, _-_, _*_, _/_, _^_, _≤_, _<_, min, zero-le}
-use mathlib.Core.Path.{_≡_, refl, sym, ap, _∙_, subst}
+use mathlib.Core.Path.{_≡_, refl, sym, _∙_, subst}
 use mathlib.Core.List.{List}
-use mathlib.Core.Logic.{_⊎_, inl, inr, ⊎-elim}
-use native.Mathlib.Nat.{eq-or-lt-of-le, mul-le-mul-left, mul-le-mul-right, pow-succ'}
+use mathlib.Core.Logic.{_⊎_, ⊎-elim}
+use native.Mathlib.Nat.{mul-le-mul-left, mul-le-mul-right}
 use native.Mathlib.Numerals.{add-one}
 use native.Mathlib.Omega.{arith}
 use lib.ListN.{length, getD, replicate}
@@ -13,20 +13,20 @@ use Rattle.numbers.specs.Search.{Found}
 use Rattle.numbers.specs.declared.Power.{Power}
 use Rattle.numbers.proofs.Tests.{lt-or-le}
 use Rattle.numbers.proofs.Powers.{power-positive}
-use Rattle.selection.specs.Plan.{Problem, Fitting, planEnergy, roundedTask, rounded, fastest, IsLeastOf, IsChosenOf, FallsShortOf, lastColumn, workWords}
+use Rattle.selection.specs.Plan.{Problem, Fitting, roundedTask, rounded, fastest, IsLeastOf, IsChosenOf}
+use Rattle.selection.specs.Plan.{lastColumn, workWords}
 use Rattle.selection.proofs.Bounds.{rounded-small, rounded-half, last-small, first-in-table, next-in-table}
 use Rattle.selection.proofs.Fastest.{fastest-fits}
 use Rattle.selection.proofs.Choose.{cell, cell-le, way-back-chosen}
 use Rattle.selection.proofs.Cells.{Way, cell-entry, way-back-way}
 use Rattle.selection.proofs.Agree.{entry-agrees, way-agrees}
 use Rattle.selection.proofs.Compute.{column-least}
+use Rattle.arrays.specs.declared.Request.{Request}
+use Rattle.arrays.specs.Arrays.{optionAt, Written, costOf, arrays}
+use Rattle.arrays.proofs.Units.{Tried, tried-start, first-low, doubled, tried-turn, tried-used}
 use Rattle.table.specs.declared.Frame.{Frame}
-use Rattle.table.specs.Rows.{optionAt, entryOf, Written, Tabled, Defined, Framed}
-use Rattle.choice.specs.declared.Request.{Request}
-use Rattle.choice.specs.declared.Used.{Used}
-use Rattle.choice.specs.Choice.{arrays}
-use Rattle.choice.specs.Units.{frameOf, cutOf, costOf, UnitReady, UnitTabled, SearchReady, UnitUsed}
-use Rattle.choice.proofs.Adding.{sum-low}
+use Rattle.table.specs.Rows.{entryOf, Tabled, Defined}
+use Rattle.choice.specs.Units.{frameOf, cutOf, UnitReady, UnitTabled, SearchReady, UnitUsed}
 
 -- ---- one unit's table
 module _ {f : Frame} {unit : Power} {energies load cost₀ work₀ : List ℕ}
@@ -119,12 +119,7 @@ narrow-words tasks slack columns h = mul-le-mul-left (tasks + 1) h
 -- as lent.
 pub record Trying (q : Request) (loads energies work₀ : List ℕ) (first : ℕ) (cost work : List ℕ) (unit : Power)
     (columns : ℕ) : Type 0 where
-  pub is-first : LeastPower (planEnergy (arrays q loads energies) (fastest (arrays q loads energies))) first
-  pub first-low : first ≤ 63
-  pub power : unit .value ≡ 2 ^ (unit .exponent)
-  pub tried : unit .exponent ≤ first
-  pub goes-on : (b : ℕ) → unit .exponent < b → b ≤ first
-      → FallsShortOf (Fitting (arrays q loads energies)) (arrays q loads energies) (q .slack) (2 ^ b)
+  pub rule : Tried (arrays q loads energies) (q .slack) first unit
   pub reach : (Q : List ℕ) × Fitting (arrays q loads energies) Q × (rounded (arrays q loads energies) (2 ^ (unit .exponent)) Q < columns)
   pub narrow : columns ≤ lastColumn (q .tasks) (q .slack) + 1
   pub cost-size : length cost ≡ 512
@@ -137,20 +132,15 @@ module _ {q : Request} {loads energies load₀ cost₀ work₀ : List ℕ}
   p = arrays q loads energies
 
   -- x is the energy with every task at the highest rate, and the unit the smallest power of two not below it.
-  pub trying-start : (x : ℕ) (unit : Power) → x ≡ total (optionAt energies) (q .tasks) (replicate (q .tasks) (q .rates))
-      → LeastPower x (unit .exponent)
-      → unit .value ≡ 2 ^ (unit .exponent)
+  pub trying-start : {x : ℕ} {unit : Power} → x ≡ total (optionAt energies) (q .tasks) (replicate (q .tasks) (q .rates))
+      → LeastPower x (unit .exponent) × (unit .value ≡ 2 ^ (unit .exponent))
       → Trying q loads energies work₀ (unit .exponent) cost₀ work₀ unit (q .tasks + 1)
-  unfolding fastest
-  trying-start x unit e least power =
-      let is : LeastPower (planEnergy p (fastest p)) (unit .exponent) = rw (← e) least in
-      let small = rounded-small p (2 ^ (unit .exponent)) (power-positive (unit .exponent)) (fastest p) (is .enough) in
+  trying-start {x} {unit} e least =
+      let rule = tried-start q loads energies e least in
+      let small =
+      rounded-small p (2 ^ (unit .exponent)) (power-positive (unit .exponent)) (fastest p) (rule .is-first .enough) in
       record {
-        is-first = is;
-        first-low = is .smallest 63 (sum-low energies (replicate (q .tasks) (q .rates)) (q .tasks) (g .energies-fit) (g .asked .tasks));
-        power = power;
-        tried = omega arith;
-        goes-on = λ b x y. absurd (omega arith);
+        rule = rule;
         reach = (fastest p, fastest-fits p (g .asked .rates .0) (g .asked .fits), omega (arith, small));
         narrow = omega (arith, first-in-table (q .slack) (q .tasks) (q .tasks) (g .asked .slacks .0) (g .asked .slacks .1) (omega arith));
         cost-size = g .cost-size;
@@ -163,6 +153,14 @@ module _ {q : Request} {loads energies load₀ cost₀ work₀ : List ℕ}
       (w : Trying q loads energies work₀ first cost₁ work₁ unit columns) where
     columns-fit : (q .tasks + 1) * columns ≤ workWords (q .tasks) (q .slack)
     columns-fit = narrow-words (q .tasks) (q .slack) columns (w .narrow)
+
+    -- No least column is above the table's columns.
+    module _ {k : ℕ} (to : k ≤ columns) where
+      pub least-small : k ≤ 128001
+      least-small = omega (arith, w .narrow, last-small (q .tasks) (q .slack) (g .asked .tasks) (g .asked .slacks .0))
+
+      pub product-small : q .slack * k ≤ 128001000
+      product-small = omega (arith, least-small, mul-le-mul-right k (g .asked .slacks .1))
 
     -- Loads that were cut are at most the cap; and the unit can be tried.
     module _ {cap : ℕ} {load : List ℕ} (c : Written (cutOf loads cap) 0 (q .tasks * 16) load₀ load) where
@@ -177,8 +175,10 @@ module _ {q : Request} {loads energies load₀ cost₀ work₀ : List ℕ}
       unit-ready small = record {
         round = record {
           few = g .asked .tasks;
-          power = w .power;
-          low = omega (arith, w .tried, w .first-low);
+          power = w .rule .power;
+          low =
+              let low = first-low q loads energies (g .energies-fit) (g .asked .tasks) (w .rule .is-first) in
+              omega (arith, w .rule .tried);
           small = g .energies-fit;
           size = w .cost-size;
         };
@@ -217,25 +217,13 @@ module _ {q : Request} {loads energies load₀ cost₀ work₀ : List ℕ}
       work-same : length work ≡ length work₀
       work-same = u .work-size ∙ w .work-size
 
-      pub least-small : k ≤ 128000
-      least-small = omega (arith, least-place, w .narrow, last-small (q .tasks) (q .slack) (g .asked .tasks) (g .asked .slacks .0))
-
-      pub product-small : q .slack * k ≤ 128000000
-      product-small = omega (arith, least-small, mul-le-mul-right k (g .asked .slacks .1))
-
       -- The rule stops: the unit is used.
       pub unit-used : (unit .exponent ≡ 0) ⊎ (2000 * q .tasks ≤ q .slack * k)
           → UnitUsed q loads energies work₀ load cost work (record { unit = unit .value; columns = columns; least = k })
       unit-used stop = record {
         exponent = unit .exponent;
-        unit-is = w .power;
-        used = record {
-          first = first;
-          is-first = w .is-first;
-          tried = w .tried;
-          stops = ⊎-elim (λ z. inl z) (λ z. inr (k, least, z)) stop;
-          goes-on = w .goes-on;
-        };
+        unit-is = w .rule .power;
+        used = tried-used (w .rule) least stop;
         loads-low = loads-low c;
         loads-cut = λ j l. c .here j zero-le l;
         costs = u .costs;
@@ -249,30 +237,20 @@ module _ {q : Request} {loads energies load₀ cost₀ work₀ : List ℕ}
       }
 
       -- It does not: half the unit is tried next.
-      pub trying-turn : 0 < unit .exponent → q .slack * k < 2000 * q .tasks
-          → Trying q loads energies work₀ first cost work (record { exponent = unit .exponent - 1; value = unit .value / 2 }) (2 * k + 1)
-      trying-turn pos short = record {
-        is-first = w .is-first;
-        first-low = w .first-low;
-        power = omega (arith, w .power, doubled);
-        tried = omega (arith, w .tried);
-        goes-on = λ b x y.
-            ⊎-elim
-            (λ (e : unit .exponent ≡ b). rw (← e) (k, least, short))
-            (λ (e : unit .exponent < b). w .goes-on b e y)
-            (eq-or-lt-of-le (omega arith));
-        reach = (least .plan, least .ok, omega (arith, halved, least .reached));
-        narrow = omega (arith, next-in-table (q .slack) (q .tasks) k (2 * k) (g .asked .slacks .0) short (omega arith));
+      pub trying-turn : {next : Power} → (0 < unit .exponent) × (q .slack * k < 2000 * q .tasks)
+          → (next .exponent ≡ unit .exponent - 1) × (next .value ≡ unit .value / 2)
+          → Trying q loads energies work₀ first cost work next (2 * k + 1)
+      trying-turn {next} goes-on is = record {
+        rule = tried-turn (w .rule) least (goes-on .0) (goes-on .1) is;
+        reach = (least .plan, least .ok, rw (is .0) (omega (arith, halved, least .reached)));
+        narrow =
+            omega (arith, next-in-table (q .slack) (q .tasks) k (2 * k) (g .asked .slacks .0) (goes-on .1) (omega arith));
         cost-size = u .cost-size ∙ w .cost-size;
         work-size = work-same;
         above = above;
       }
         where
-          one-more : unit .exponent ≡ suc (unit .exponent - 1)
-          one-more = omega arith
-
-          doubled : 2 ^ (unit .exponent) ≡ 2 * 2 ^ (unit .exponent - 1)
-          doubled = ap (λ (x : ℕ). 2 ^ x) one-more ∙ pow-succ' 2 (unit .exponent - 1)
-
           halved : rounded p (2 ^ (unit .exponent - 1)) (least .plan) ≤ 2 * rounded p (2 ^ (unit .exponent)) (least .plan)
-          halved = rw doubled (rounded-half p (2 ^ (unit .exponent - 1)) (power-positive (unit .exponent - 1)) (least .plan))
+          halved =
+              rw (doubled (goes-on .0))
+              (rounded-half p (2 ^ (unit .exponent - 1)) (power-positive (unit .exponent - 1)) (least .plan))

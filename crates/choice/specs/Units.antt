@@ -3,15 +3,14 @@ use Prim.Native.Nat.{ℕ, _+_, _*_, _^_, _≤_, _<_, min}
 use mathlib.Core.Path.{_≡_}
 use mathlib.Core.List.{List}
 use lib.ListN.{length, getD}
-use Rattle.numbers.specs.Numbers.{ceil}
 use Rattle.numbers.specs.Search.{Found}
 use Rattle.numbers.specs.declared.Power.{Power}
 use Rattle.selection.specs.Plan.{Fitting, IsUsedOf, lastColumn, workWords}
 use Rattle.selection.proofs.Cells.{Way}
-use Rattle.table.specs.Rows.{optionAt, entryOf, Framed, RowAt}
+use Rattle.arrays.specs.declared.Request.{Request}
+use Rattle.arrays.specs.Arrays.{optionAt, costOf, Small, RoundReady, arrays, Asked}
+use Rattle.table.specs.Rows.{entryOf, Framed, RowAt}
 use Rattle.table.specs.declared.Frame.{Frame}
-use Rattle.choice.specs.Choice.{arrays, Asked}
-use Rattle.choice.specs.declared.Request.{Request}
 use Rattle.choice.specs.declared.Used.{Used}
 
 -- The table for a request, with a cap and so many columns.
@@ -37,29 +36,9 @@ pub record WayTaken (f : Frame) (column : ℕ) (cost load plan₀ plan : List �
   pub way : Way (optionAt cost) (optionAt load) (f .rates) (f .cap) (f .tasks) column plan
   pub rest : (p : ℕ) → f .tasks ≤ p → getD plan p 0 ≡ getD plan₀ p 0
 
--- Entries of the arrays: a load cut at cap, an energy by the unit 2 ^ exponent.
+-- A load cut at cap.
 abbrev pub cutOf : List ℕ → ℕ → ℕ → ℕ
 cutOf loads cap k = min (getD loads k 0) cap
-
-abbrev pub costOf : List ℕ → ℕ → ℕ → ℕ
-costOf energies exponent k = ceil (getD energies k 0) (2 ^ exponent)
-
--- Sums of 32 options fit.
-abbrev pub Small : List ℕ → Type 0
-Small options = (k : ℕ) → getD options k 0 < 2 ^ 58
-
-pub record RoundReady (tasks : ℕ) (unit : Power) (energies cost : List ℕ) : Type 0 where
-  pub few : tasks ≤ 32
-  pub power : unit .value ≡ 2 ^ (unit .exponent)
-  pub low : unit .exponent ≤ 63
-  pub small : Small energies
-  pub size : length cost ≡ 512
-
-pub record SumReady (tasks : ℕ) (options plan : List ℕ) : Type 0 where
-  pub few : tasks ≤ 32
-  pub room : tasks ≤ length plan
-  pub numbers : (t : ℕ) → t < tasks → getD plan t 0 ≤ 8
-  pub small : Small options
 
 pub record ClearReady (tasks columns : ℕ) (work : List ℕ) : Type 0 where
   pub few : tasks ≤ 32

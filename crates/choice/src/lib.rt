@@ -3,29 +3,16 @@
 // others.
 ghost use mathlib.Core.Path.{_≡_};
 ghost use Prim.Native.Nat.{_+_, _*_, _≤_, min};
-ghost use lib.ListN.{length, replicate};
-ghost use Rattle.numbers.specs.Numbers.{total};
-ghost use Rattle.table.specs.Rows.{optionAt, Written};
+ghost use lib.ListN.{length};
+ghost use Rattle.arrays.specs.Arrays.{Written};
 ghost use Rattle.selection.specs.Plan.{lastColumn};
 ghost use Rattle.choice.specs.Choice.{ChoiceReady, Chose};
-ghost use Rattle.choice.specs.Units.{WayReady, WayTaken, cutOf, costOf, Small, RoundReady, SumReady, ClearReady, UnitReady, UnitTabled, SearchReady, UnitUsed};
+ghost use Rattle.choice.specs.Units.{WayReady, WayTaken, cutOf, ClearReady, UnitReady, UnitTabled};
+ghost use Rattle.choice.specs.Units.{SearchReady, UnitUsed};
+use arrays::Choice;
+use arrays::Request;
 use numbers::Power;
 use table::Frame;
-
-// What a plan is chosen for: so many tasks and rates, the limit of the plan's load, and the slack.
-pub struct Request {
-    pub tasks: usize,
-    pub rates: usize,
-    pub limit: u32,
-    pub slack: u32,
-}
-
-// What was chosen: the unit, and the plan's load and energy.
-pub struct Choice {
-    pub unit: u64,
-    pub load: u64,
-    pub energy: u64,
-}
 
 // The unit used, the columns of its table, and the least rounded energy of a plan that fits.
 struct Used {
@@ -89,45 +76,6 @@ fn cut(loads: &[u64; 512], tasks: usize, cap: u32, load: &mut [u32; 512])
     }
 }
 
-// The energies of so many tasks divided by the unit, rounded up.
-fn round_up(energies: &[u64; 512], tasks: usize, unit: Power, cost: &mut [usize; 512])
-    requires { ⌜ RoundReady tasks unit (now energies) (now cost) ⌝ }
-    ensures { λ _. ⌜ Written (costOf (now (energies .entry)) (unit .exponent)) 0 (tasks * 16) (now (cost .entry)) (now (cost .exit)) ⌝ }
-{
-    let exponent = unit.exponent;
-    let less = unit.value - 1;
-    let end = tasks * 16;
-    let mut k = 0;
-    while k < end {
-        cost[k] = ((energies[k] + less) >> exponent) as usize;
-        k += 1;
-    }
-}
-
-// What the first tasks of a plan come to.
-fn sum(options: &[u64; 512], tasks: usize, plan: &[u32]) -> u64
-    requires { ⌜ SumReady tasks (now options) (now plan) ⌝ }
-    ensures { λ r. ⌜ r ≡ total (optionAt (now (options .entry))) tasks (now (plan .entry)) ⌝ }
-{
-    let mut s: u64 = 0;
-    let mut t = 0;
-    while t < tasks {
-        let r = plan[t] as usize;
-        s += options[t * 16 + r];
-        t += 1;
-    }
-    s
-}
-
-// What so many tasks come to with every task at the highest rate.
-pub fn fastest_sum(options: &[u64; 512], tasks: usize, rates: usize) -> u64
-    requires { ⌜ (tasks ≤ 32) × (rates ≤ 8) × Small (now options) ⌝ }
-    ensures { λ r. ⌜ r ≡ total (optionAt (now (options .entry))) tasks (replicate tasks rates) ⌝ }
-{
-    let plan = [rates as u32; 32];
-    sum(options, tasks, &plan)
-}
-
 // Sets the words of a table to 0.
 fn clear(work: &mut [u32], tasks: usize, columns: usize)
     requires { ⌜ ClearReady tasks columns (now work) ⌝ }
@@ -150,7 +98,7 @@ fn least_energy(
 {
     let tasks = f.tasks;
     let columns = f.columns;
-    round_up(energies, tasks, unit, cost);
+    arrays::round_up(energies, tasks, unit, cost);
     table::table(work, f, cost, load);
     table::least_column(work, tasks * columns, columns, f.cap)
 }
@@ -173,7 +121,7 @@ fn find_unit(
     let tasks = q.tasks;
     let cap = q.limit + 1;
     cut(loads, tasks, cap, load);
-    let mut unit = numbers::least_power(fastest_sum(energies, tasks, q.rates));
+    let mut unit = numbers::least_power(arrays::fastest_sum(energies, tasks, q.rates));
     let mut columns = tasks + 1;
     loop {
         let f = Frame {
@@ -183,25 +131,14 @@ fn find_unit(
             cap,
         };
         let k = least_energy(energies, f, unit, load, cost, work);
-        if unit.exponent == 0 {
+        if arrays::stops(unit, tasks, q.slack, k) {
             return Used {
                 unit: unit.value,
                 columns,
                 least: k,
             };
         }
-        if 2_000 * tasks <= q.slack as usize * k {
-            return Used {
-                unit: unit.value,
-                columns,
-                least: k,
-            };
-        }
-        let exponent = unit.exponent - 1;
-        unit = Power {
-            exponent,
-            value: unit.value / 2,
-        };
+        unit = arrays::halved(unit);
         columns = 2 * k + 1;
     }
 }
@@ -232,8 +169,8 @@ pub fn choose(
         cap: none,
     };
     way_back(plan, work, f, used.least, &cost, &load);
-    let l = sum(loads, tasks, plan);
-    let e = sum(energies, tasks, plan);
+    let l = arrays::sum(loads, tasks, plan);
+    let e = arrays::sum(energies, tasks, plan);
     clear(work, tasks, columns);
     Choice {
         unit: used.unit,

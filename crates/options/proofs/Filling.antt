@@ -10,11 +10,11 @@ use native.Mathlib.Omega.{arith}
 use lib.ListN.{getD, set, length-set, replicate, length-replicate}
 use lib.Seq.{getD-set-same, getD-set-other}
 use Rattle.numbers.proofs.Rounding.{ceil-small}
+use Rattle.arrays.proofs.Writing.{zeros-at}
 use Rattle.layout.specs.Words.{mostRates, mostTasks, idle, rateCount, rate, period, cycles, energy}
 use Rattle.layout.specs.declared.Layout.{Layout}
 use Rattle.taskset.specs.Quantities.{hyperLimit, jobTime, taskLoad, taskNet}
 use Rattle.taskset.proofs.Sets.{IsSet, task-net-small}
-use Rattle.choice.proofs.Choosing.{zeros-at}
 use Rattle.options.specs.Options.{Laid, LaidBoth, TaskGiven}
 
 -- ---- one array

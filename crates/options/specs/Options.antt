@@ -4,12 +4,12 @@ use Prim.Native.Nat.{ℕ, _^_, _≤_, _<_}
 use mathlib.Core.Path.{_≡_}
 use mathlib.Core.List.{List}
 use lib.ListN.{length, getD}
+use Rattle.arrays.specs.Arrays.{optionAt}
 use Rattle.layout.specs.declared.Layout.{Layout}
 use Rattle.taskset.specs.Quantities.{hyperPeriod, taskLoad, taskNet}
 use Rattle.taskset.proofs.Sets.{IsSet}
 use Rattle.taskset.proofs.Idle.{Covered}
 use Rattle.checks.specs.Steps.{OfTask}
-use Rattle.table.specs.Rows.{optionAt}
 
 -- The array d of 512 words holds f at every rate number 1 to m of the tasks before place t, and at those before r of
 -- the task at place t; and every word leaves room for a sum of 32.

@@ -28,11 +28,10 @@ use Rattle.taskset.proofs.Checks.{accepts-next, refuses-next, refuses-before, p
 use Rattle.taskset.proofs.Sets.{IsSet, falling, energy-small}
 use Rattle.taskset.proofs.DemandThree.{planner-plans, answer-owes}
 use Rattle.taskset.proofs.Idle.{Covered, reported-is}
-use Rattle.table.specs.Rows.{optionAt}
-use Rattle.choice.specs.declared.Request.{Request}
-use Rattle.choice.specs.declared.Choice.{Choice}
-use Rattle.choice.specs.Units.{Small}
-use Rattle.choice.specs.Choice.{arrays, ChoiceReady, Chose}
+use Rattle.arrays.specs.declared.Request.{Request}
+use Rattle.arrays.specs.declared.Choice.{Choice}
+use Rattle.arrays.specs.Arrays.{optionAt, Small, arrays}
+use Rattle.choice.specs.Choice.{ChoiceReady, Chose}
 use Rattle.planner.specs.Answers.{PlannerCall}
 use Rattle.options.specs.Options.{LaidBoth, TasksGiven}
 
@@ -154,16 +153,18 @@ module _ {s plan work : List ℕ} {m n l : ℕ} (prepared : Prepared s plan work
           choice-ready =
               let range = slack-in Ordinary s (set .whole) in
               record {
-                asked = record {
-                  tasks = few;
-                  rates = (omega (arith, rates-range .0), rates-range .1);
-                  small = omega (arith, hyper-fits);
-                  slacks = (omega (arith, g-is, range .0), omega (arith, g-is, range .1));
-                  fits = omega (arith, array-sum);
+                engine = record {
+                  asked = record {
+                    tasks = few;
+                    rates = (omega (arith, rates-range .0), rates-range .1);
+                    small = omega (arith, hyper-fits);
+                    slacks = (omega (arith, g-is, range .0), omega (arith, g-is, range .1));
+                    fits = omega (arith, array-sum);
+                  };
+                  loads-fit = put .loads .small;
+                  energies-fit = put .energies .small;
+                  plan-room = omega (arith, good .2, long-enough _ _ (passed 6 checks refl (good .0)));
                 };
-                loads-fit = put .loads .small;
-                energies-fit = put .energies .small;
-                plan-room = omega (arith, good .2, long-enough _ _ (passed 6 checks refl (good .0)));
                 work-room = rw (g-is, good .2) (long-enough _ _ (passed 5 checks refl (good .0)));
               }
 
@@ -171,12 +172,12 @@ module _ {s plan work : List ℕ} {m n l : ℕ} (prepared : Prepared s plan work
           module _ {plan′ work′ : List ℕ} {c : Choice}
               (chose : Chose (request g) loads energies plan work plan′ work′ c) where
             plan-is : IsPlan chosenFrom (take n plan′)
-            plan-is = chose .planned .chosen .ok .plan
+            plan-is = chose .chosen .planned .chosen .ok .plan
 
             fits-set : planLoad (problem s) (take n plan′) ≤ hyperPeriod Ordinary s
             fits-set = omega (
               arith,
-              chose .planned .chosen .ok .fits,
+              chose .chosen .planned .chosen .ok .fits,
               load-same chosenFrom (problem s) same
                   (take n plan′) plan-is,
               good .3,
@@ -186,7 +187,7 @@ module _ {s plan work : List ℕ} {m n l : ℕ} (prepared : Prepared s plan work
             energy-is =
                 omega (
                   arith,
-                  chose .energy-is,
+                  chose .chosen .energy-is,
                   energy-same chosenFrom (problem s) same (take n plan′) plan-is,
                   reported-is s covered (take n plan′) (plan-same chosenFrom (problem s) same (take n plan′) plan-is) fits-set,
                 )
@@ -202,22 +203,22 @@ module _ {s plan work : List ℕ} {m n l : ℕ} (prepared : Prepared s plan work
             selected : {e : ℕ} → e ≡ reportedEnergy s (take n plan′)
                 → Selected s (take n plan′) (plannerValues (Planned (c .unit) (c .load) l e))
             selected energy = record {
-              exponent = chose .exponent;
+              exponent = chose .chosen .exponent;
               planned =
                   rw (← g-is)
-                  (planned-same chosenFrom (problem s) same (omega (arith, rates-range .0)) g (chose .exponent)
-                  (take n plan′) (chose .planned));
+                  (planned-same chosenFrom (problem s) same (omega (arith, rates-range .0)) g (chose .chosen .exponent)
+                  (take n plan′) (chose .chosen .planned));
               values-are =
                   cc (
-                    chose .unit-is,
-                    chose .load-is ∙ load-same chosenFrom (problem s) same (take n plan′) plan-is,
+                    chose .chosen .unit-is,
+                    chose .chosen .load-is ∙ load-same chosenFrom (problem s) same (take n plan′) plan-is,
                     good .3,
                     energy,
                   );
             }
 
             holds : HoldsPlan (taskCount Ordinary s) (take n plan′) plan plan′
-            holds = rw (← good .2) (record { front = refl; rest = chose .rest })
+            holds = rw (← good .2) (record { front = refl; rest = chose .chosen .rest })
 
             cleared : Cleared (workNeeded s) work work′
             cleared = rw (← good .2, ← g-is) (chose .cleared)

@@ -9,7 +9,7 @@ ghost use Rattle.taskset.specs.Refusals.{readyChecks};
 ghost use Rattle.taskset.specs.Calls.{SetAfter};
 ghost use Rattle.layout.specs.declared.Layout.the-variants.{Ordinary};
 ghost use Rattle.planner.specs.Answers.{PlannerCall};
-use choice::Request;
+use arrays::Request;
 use layout::Layout;
 use taskset::Checked;
 use taskset::PlannerAnswer;
@@ -77,7 +77,7 @@ pub fn plan_checked(
         tasks,
         hyper,
     );
-    let fastest = choice::fastest_sum(&loads, tasks, rates);
+    let fastest = arrays::fastest_sum(&loads, tasks, rates);
     if hyper < fastest {
         return PlannerAnswer::Refused(Refusal::NoPlan);
     }

@@ -1,3 +1,3 @@
-pub mod Writing
+pub mod Relaxing
 pub mod Rows
 pub mod Rates

@@ -8,8 +8,9 @@ use native.Mathlib.Nat.{eq-or-lt-of-le}
 use native.Mathlib.Omega.{arith}
 use lib.ListN.{getD}
 use Rattle.selection.proofs.Cells.{entry-cap, Sound, rate-sound, rate-lowest}
+use Rattle.arrays.specs.Arrays.{optionAt}
 use Rattle.table.specs.declared.Frame.{Frame}
-use Rattle.table.specs.Rows.{optionAt, entryOf, rateOf, RateReady}
+use Rattle.table.specs.Rows.{entryOf, rateOf, RateReady}
 
 module _ {f : Frame} {start e i : ℕ} {cost load d : List ℕ} (g : RateReady f start e i cost load d) where
   sound : Sound (optionAt cost) (optionAt load) (f .rates) (f .cap) i e (rateOf f cost load i e)

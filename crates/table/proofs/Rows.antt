@@ -10,8 +10,9 @@ use native.Mathlib.Omega.{arith}
 use lib.ListN.{length, getD}
 use Rattle.numbers.proofs.Tests.{lt-or-le}
 use Rattle.selection.proofs.Cells.{entry-first, entry-row, entry-cap, leastTo, least-none, least-skip, least-step}
+use Rattle.arrays.specs.Arrays.{optionAt, Written}
 use Rattle.table.specs.declared.Frame.{Frame}
-use Rattle.table.specs.Rows.{optionAt, entryOf, Written, relaxed, Relaxable, RowAt, RowReady, RowWritten, TableReady, Tabled}
+use Rattle.table.specs.Rows.{entryOf, relaxed, Relaxable, RowAt, RowReady, RowWritten, TableReady, Tabled}
 
 -- ---- a row
 -- The row that begins at `here` and ends at `end`, with the least loads by the rate numbers below r; every other place

@@ -4,22 +4,12 @@ use mathlib.Core.Path.{_≡_}
 use mathlib.Core.List.{List}
 use lib.ListN.{length, getD}
 use Rattle.selection.proofs.Cells.{entry, rateTo}
+use Rattle.arrays.specs.Arrays.{optionAt, Written}
 use Rattle.table.specs.declared.Frame.{Frame}
-
--- What stands for rate number r of the task at place t.
-abbrev pub optionAt : List ℕ → ℕ → ℕ → ℕ
-optionAt s t r = getD s (t * 16 + r) 0
 
 -- The table's entry in row i, the one after i tasks, column e.
 abbrev pub entryOf : Frame → List ℕ → List ℕ → ℕ → ℕ → ℕ
 entryOf f cost load = entry (optionAt cost) (optionAt load) (f .rates) (f .cap)
-
--- d is d₀ with the places from lo up to hi holding g, and every other place as it was.
-pub record Written (g : ℕ → ℕ) (lo hi : ℕ) (d₀ d : List ℕ) : Type 0 where
-  pub same : length d ≡ length d₀
-  pub here : (p : ℕ) → lo ≤ p → p < hi → getD d p 0 ≡ g p
-  pub below : (p : ℕ) → p < lo → getD d p 0 ≡ getD d₀ p 0
-  pub above : (p : ℕ) → hi ≤ p → getD d p 0 ≡ getD d₀ p 0
 
 -- The word at p, or l more than the word s places before it, where that is less.
 abbrev pub relaxed : ℕ → ℕ → List ℕ → ℕ → ℕ

@@ -6,7 +6,9 @@ ghost use mathlib.Core.Path.{_≡_};
 ghost use Prim.Native.Nat.{_+_, _≤_};
 ghost use lib.ListN.{length};
 ghost use Rattle.numbers.specs.Search.{Found};
-ghost use Rattle.table.specs.Rows.{Written, Relaxable, relaxed, RowReady, RowWritten, TableReady, Tabled, Defined, RateReady, rateOf};
+ghost use Rattle.arrays.specs.Arrays.{Written};
+ghost use Rattle.table.specs.Rows.{Relaxable, relaxed, RowReady, RowWritten, TableReady, Tabled};
+ghost use Rattle.table.specs.Rows.{Defined, RateReady, rateOf};
 
 // The size of a table: a row for no task and one more for each task, so many columns a row, and the rate numbers 1 to
 // `rates` of each task; and the cap of its loads.

@@ -4,8 +4,8 @@ use Prim.Native.Nat.{ℕ, _+_, _*_}
 use mathlib.Core.Path.{ap}
 use mathlib.Core.List.{List}
 use native.Mathlib.Omega.{arith}
-use Rattle.choice.specs.Units.{Small, SumReady}
-use Rattle.choice.proofs.Choosing.{search-ready, last-low, way-ready, own-words, sum-ready, chose}
+use Rattle.arrays.specs.Arrays.{Small, SumReady}
+use Rattle.choice.proofs.Choosing.{search-ready, last-low, way-ready, own-words, plan-ready, chose}
 use borrow.Author.Needs.{needs}
 use Rattle.choice.proofs.choose.Statement.{statement}
 use Rattle.choice.proofs.choose.Tie as tie
@@ -22,7 +22,7 @@ start f = to-last f .before .before .before
 
 summed : (w : tie.After-way-back) (options : List ℕ) → Small options
     → SumReady (start (found w) .args .q .tasks) options (w .way-back .last .0)
-summed w = sum-ready (start (found w) .pre) (found w .find-unit .ensures) (w .way-back .ensures)
+summed w = plan-ready (start (found w) .pre) (found w .find-unit .ensures) (w .way-back .ensures)
 
 last-column-requires : tie.Need-last-column-requires
 last-column-requires c κs = search needs
@@ -44,12 +44,12 @@ way-back-requires c κs =
 sum-requires : tie.Need-sum-requires
 sum-requires c κs =
     let w = c .before .before .before in
-    summed w (start (found w) .args .loads .now) (start (found w) .pre .loads-fit)
+    summed w (start (found w) .args .loads .now) (start (found w) .pre .engine .loads-fit)
 
 sum-requires-2 : tie.Need-sum-requires-2
 sum-requires-2 c κs =
     let w = c .before .before .before .before .before in
-    summed w (start (found w) .args .energies .now) (start (found w) .pre .energies-fit)
+    summed w (start (found w) .args .energies .now) (start (found w) .pre .engine .energies-fit)
 
 clear-requires : tie.Need-clear-requires
 clear-requires c κs =
@@ -58,7 +58,7 @@ clear-requires c κs =
     let u = f .find-unit .ensures in
     let last = to-last f .last-column .ensures in
     record {
-      few = g .asked .tasks;
+      few = g .engine .asked .tasks;
       narrow = omega (arith, last, last-low g, u .narrow);
       room = omega (arith, ap (λ (x : ℕ). (start f .args .q .tasks + 1) * (x + 1)) last, g .work-room, u .work-size, own-words g u);
     }

@@ -1,8 +1,8 @@
 use Prim.Native.Nat.{_≤_, _-_, _*_}
 use native.Mathlib.Omega.{arith}
-use Rattle.table.specs.Rows.{Written}
+use Rattle.arrays.specs.Arrays.{Written}
+use Rattle.arrays.proofs.Writing.{written-none, written-more, written-to}
 use Rattle.choice.specs.Units.{cutOf}
-use Rattle.table.proofs.Writing.{written-none, written-more, written-to}
 use borrow.Author.Needs.{needs}
 use Rattle.choice.proofs.cut.Statement.{statement}
 use Rattle.choice.proofs.cut.Tie as tie

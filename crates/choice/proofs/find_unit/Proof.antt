@@ -1,9 +1,10 @@
 -- The units tried, from the first down: the invariant is what holds before a unit is tried.
 -- Assumes nothing.
+use Prim.Native.Nat.{_*_, _<_}
 use mathlib.Core.Path.{_∙_}
-use mathlib.Core.Logic.{inl, inr}
 use native.Mathlib.Omega.{arith}
-use Rattle.choice.proofs.Adding.{sum-low}
+use Rattle.arrays.proofs.Adding.{sum-low}
+use Rattle.arrays.proofs.Units.{stops-true, stops-false}
 use Rattle.choice.proofs.Trying.{Trying, trying-start, unit-ready, least-small, product-small, unit-used, trying-turn}
 use borrow.Author.Needs.{needs}
 use Rattle.choice.proofs.find_unit.Statement.{statement}
@@ -16,8 +17,8 @@ Inv-loop loads energies q load cost₀ work₀ tasks cap unit₀ columns₀ cost
 abbrev μ-loop : tie.MeasureT-loop
 μ-loop loads energies q load cost₀ work₀ tasks cap unit₀ columns₀ cost work unit columns = unit .exponent
 
--- The ways back: from where a unit's table was read to its making, to the loop, to the cut loads and to the start.
-abbrev tried : tie.After-struct-known2 Inv-loop μ-loop → tie.After-least-energy Inv-loop μ-loop
+-- The ways back: from the rule to a unit's table, to the loop, to the cut loads and to the start.
+abbrev tried : tie.After-stops Inv-loop μ-loop → tie.After-least-energy Inv-loop μ-loop
 tried c = c .before .before .before
 
 abbrev at-loop : tie.After-least-energy Inv-loop μ-loop → tie.At-loop Inv-loop μ-loop
@@ -28,6 +29,13 @@ to-cut l = l .before .before .before
 
 abbrev start : tie.At-loop Inv-loop μ-loop → tie.Start Inv-loop μ-loop
 start l = to-cut l .before .before .before .before
+
+-- Where the rule does not stop.
+goes-on : (c : tie.Else1 Inv-loop μ-loop)
+    → (0 < at-loop (tried (c .before)) .loop .unit .exponent) ×
+    (start (at-loop (tried (c .before))) .args .q .slack * tried (c .before) .least-energy .result <
+    2000 * start (at-loop (tried (c .before))) .args .q .tasks)
+goes-on c = stops-false _ _ _ (rw (c .before .stops .ensures) at (c .if1 .left))
 
 add-cap : tie.Need-add-cap Inv-loop μ-loop
 add-cap c = search needs
@@ -49,13 +57,18 @@ add-columns c = search needs
 loop-holds : tie.Need-loop-holds Inv-loop μ-loop
 loop-holds c =
     let f = c .before in
-    trying-start (f .before .before .before .before .before .pre) _ _ (f .fastest-sum .ensures)
-    (c .least-power .ensures .0) (c .least-power .ensures .1)
+    trying-start (f .before .before .before .before .before .pre) (f .fastest-sum .ensures) (c .least-power .ensures)
 
 least-energy-requires : tie.Need-least-energy-requires Inv-loop μ-loop
 least-energy-requires c κs =
     let l = c .before .before .before in
     unit-ready (start l .pre) (l .loop .inv) (to-cut l .cut .ensures) (omega (arith, start l .pre .asked .small))
+
+stops-requires : tie.Need-stops-requires Inv-loop μ-loop
+stops-requires c κs =
+    let u = c .before .before in
+    let l = at-loop u in
+    (start l .pre .asked .tasks, omega (arith, product-small (start l .pre) (l .loop .inv) (u .least-energy .ensures .least .to)))
 
 same-length : tie.Need-same-length Inv-loop μ-loop
 same-length c =
@@ -67,55 +80,33 @@ returns : tie.Need-returns Inv-loop μ-loop
 returns c =
     let u = tried (c .before) in
     let l = at-loop u in
-    unit-used (start l .pre) (l .loop .inv) (to-cut l .cut .ensures) (u .least-energy .ensures) (inl (c .if1 .taken))
+    unit-used (start l .pre) (l .loop .inv) (to-cut l .cut .ensures) (u .least-energy .ensures)
+    (stops-true _ _ _ (rw (c .before .stops .ensures) at (c .if1 .taken)))
 
-mul-if2 : tie.Need-mul-if2 Inv-loop μ-loop
-mul-if2 c = search needs
-
-cast-if2 : tie.Need-cast-if2 Inv-loop μ-loop
-cast-if2 c = search needs
-
-mul-if2-2 : tie.Need-mul-if2-2 Inv-loop μ-loop
-mul-if2-2 c =
-    let u = tried (c .before .before) in
-    let l = at-loop u in
-    omega (arith, product-small (start l .pre) (l .loop .inv) (to-cut l .cut .ensures) (u .least-energy .ensures))
-
-same-length-2 : tie.Need-same-length-2 Inv-loop μ-loop
-same-length-2 c =
-    let u = tried (c .before .before .before) in
-    let l = at-loop u in
-    u .least-energy .ensures .work-size ∙ l .loop .inv .work-size
-
-returns-2 : tie.Need-returns-2 Inv-loop μ-loop
-returns-2 c =
-    let u = tried (c .before .before .before) in
-    let l = at-loop u in
-    unit-used (start l .pre) (l .loop .inv) (to-cut l .cut .ensures) (u .least-energy .ensures) (inr (omega (arith, c .if2 .taken)))
-
-sub-exponent : tie.Need-sub-exponent Inv-loop μ-loop
-sub-exponent c = search needs
+halved-requires : tie.Need-halved-requires Inv-loop μ-loop
+halved-requires c κs = goes-on c .0
 
 mul-columns : tie.Need-mul-columns Inv-loop μ-loop
 mul-columns c =
-    let u = tried (c .before .before .before .before .before) in
+    let u = tried (c .before .before) in
     let l = at-loop u in
-    omega (arith, least-small (start l .pre) (l .loop .inv) (to-cut l .cut .ensures) (u .least-energy .ensures))
+    omega (arith, least-small (start l .pre) (l .loop .inv) (u .least-energy .ensures .least .to))
 
 add-columns-2 : tie.Need-add-columns-2 Inv-loop μ-loop
 add-columns-2 c =
-    let u = tried (c .before .before .before .before .before) in
+    let u = tried (c .before .before) in
     let l = at-loop u in
-    omega (arith, least-small (start l .pre) (l .loop .inv) (to-cut l .cut .ensures) (u .least-energy .ensures))
+    omega (arith, least-small (start l .pre) (l .loop .inv) (u .least-energy .ensures .least .to))
 
 loop-less : tie.Need-loop-less Inv-loop μ-loop
-loop-less c = search needs
+loop-less c = omega (arith, goes-on (c .before) .0, c .halved .ensures .0)
 
 loop-again : tie.Need-loop-again Inv-loop μ-loop
 loop-again c =
-    let u = tried (c .before .before .before .before .before) in
+    let u = tried (c .before .before) in
     let l = at-loop u in
-    trying-turn (start l .pre) (l .loop .inv) (to-cut l .cut .ensures) (u .least-energy .ensures) (omega arith) (omega arith)
+    trying-turn (start l .pre) (l .loop .inv) (to-cut l .cut .ensures) (u .least-energy .ensures)
+    (goes-on (c .before)) (c .halved .ensures)
 
 pub find-unit-spec : {M : Type 1} → statement M
 find-unit-spec =
@@ -130,14 +121,10 @@ find-unit-spec =
     add-columns
     loop-holds
     least-energy-requires
+    stops-requires
     same-length
     returns
-    mul-if2
-    cast-if2
-    mul-if2-2
-    same-length-2
-    returns-2
-    sub-exponent
+    halved-requires
     mul-columns
     add-columns-2
     loop-less

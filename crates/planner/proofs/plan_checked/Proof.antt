@@ -83,7 +83,7 @@ add-total : tie.Need-add-total
 add-total c = omega (arith, fits (c .before))
 
 same-length : tie.Need-same-length
-same-length c = chosen (c .before .before) .choose .ensures .plan-size
+same-length c = chosen (c .before .before) .choose .ensures .chosen .plan-size
 
 same-length-2 : tie.Need-same-length-2
 same-length-2 c = chosen (c .before .before) .choose .ensures .work-size

@@ -1,14 +1,15 @@
--- Words written one place a turn, from lo up: before the first, one further, and up to an end.
+-- Words written one place a turn, from lo up: before the first, one further, and up to an end; zeros; and lists with
+-- the same words from a place on.
 -- Assumes nothing.
-use mathlib.Core.Path.{_≡_, refl, _∙_, subst}
+use mathlib.Core.Path.{_≡_, refl, sym, _∙_, subst}
 use mathlib.Core.List.{List}
 use mathlib.Core.Logic.{_⊎_, ⊎-elim}
-use Prim.Native.Nat.{ℕ, _+_, _-_, _^_, _≤_, _<_, min}
+use Prim.Native.Nat.{ℕ, zero, suc, _+_, _≤_, _<_}
 use native.Mathlib.Nat.{eq-or-lt-of-le}
 use native.Mathlib.Omega.{arith}
-use lib.ListN.{length, getD, set, length-set}
-use lib.Seq.{getD-set-same, getD-set-other}
-use Rattle.table.specs.Rows.{Written, Relaxable, relaxed}
+use lib.ListN.{length, getD, set, drop, replicate, length-set, length-drop}
+use lib.Seq.{ext-getD, getD-drop, getD-set-same, getD-set-other}
+use Rattle.arrays.specs.Arrays.{Written}
 
 pub written-none : (f : ℕ → ℕ) (lo : ℕ) (d : List ℕ) → Written f lo lo d d
 written-none f lo d = record { same = refl; here = λ p a b. absurd (omega arith); below = λ p a. refl; above = λ p a. refl }
@@ -33,13 +34,15 @@ module _ {f : ℕ → ℕ} {lo hi : ℕ} {d₀ d : List ℕ} (w : Written f lo h
 pub written-to : {f : ℕ → ℕ} {lo hi : ℕ} {d₀ d : List ℕ} (k : ℕ) → hi ≡ k → Written f lo hi d₀ d → Written f lo k d₀ d
 written-to {f} {lo} {hi} {d₀} {d} k e w = subst (λ (k : ℕ). Written f lo k d₀ d) e w
 
--- A turn of `relax` reads words as they were at entry.
-module _ {lo hi s l p : ℕ} {d₀ d : List ℕ} (r : Relaxable lo hi s l d₀) (w : Written (relaxed s l d₀) lo p d₀ d) (a : lo ≤ p) (b : p < hi) where
-  back : getD d (p - s) 0 ≡ getD d₀ (p - s) 0
-  back = let g = r .apart in w .below (p - s) (omega (arith, r .apart, r .back))
+pub zeros-at : (n k : ℕ) → getD (replicate {A = ℕ} n 0) k 0 ≡ 0
+zeros-at zero k = refl
+zeros-at (suc n) zero = refl
+zeros-at (suc n) (suc k) = zeros-at n k
 
-  pub relax-sum : getD d (p - s) 0 + l < 2 ^ 32
-  relax-sum = rw back (r .sums p a b)
-
-  pub relax-turn : {v : ℕ} → v ≡ min (getD d p 0) (getD d (p - s) 0 + l) → v ≡ relaxed s l d₀ p
-  relax-turn e = rw (← back, ← w .above p (omega arith)) e
+-- Two lists with the same words from n on.
+pub rest-same : (n : ℕ) (d₀ d : List ℕ) → length d ≡ length d₀ → ((p : ℕ) → n ≤ p → getD d p 0 ≡ getD d₀ p 0)
+    → drop n d ≡ drop n d₀
+rest-same n d₀ d size same =
+    ext-getD 0 (drop n d) (drop n d₀)
+    (omega (arith, length-drop n d, length-drop n d₀))
+    (λ i h. getD-drop n d i 0 ∙ same (n + i) (omega arith) ∙ sym (getD-drop n d₀ i 0))

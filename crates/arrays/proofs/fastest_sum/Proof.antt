@@ -1,8 +1,8 @@
 use mathlib.Core.Path.{_∙_}
-use Rattle.choice.proofs.Adding.{fastest-same, fastest-ready}
+use Rattle.arrays.proofs.Adding.{fastest-same, fastest-ready}
 use borrow.Author.Needs.{needs}
-use Rattle.choice.proofs.fastest_sum.Statement.{statement}
-use Rattle.choice.proofs.fastest_sum.Tie as tie
+use Rattle.arrays.proofs.fastest_sum.Statement.{statement}
+use Rattle.arrays.proofs.fastest_sum.Tie as tie
 
 cast-plan : tie.Need-cast-plan
 cast-plan c = search needs

@@ -11,8 +11,7 @@ use Rattle.numbers.specs.Numbers.{total}
 use Rattle.numbers.specs.declared.Power.{Power}
 use Rattle.numbers.proofs.Sums.{total-more, total-bound, total-same}
 use Rattle.numbers.proofs.Powers.{power-positive}
-use Rattle.table.specs.Rows.{optionAt}
-use Rattle.choice.specs.Units.{Small, SumReady, costOf, RoundReady}
+use Rattle.arrays.specs.Arrays.{optionAt, Small, SumReady, costOf, RoundReady}
 
 -- ---- sums
 pub sum-low : (options plan : List ℕ) (t : ℕ) → Small options → t ≤ 32 → total (optionAt options) t plan ≤ 2 ^ 63

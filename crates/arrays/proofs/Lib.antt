@@ -1,0 +1,4 @@
+pub mod Writing
+pub mod Adding
+pub mod Units
+pub mod Chosen
