@@ -9,8 +9,8 @@ ghost use Rattle.taskset.specs.Refusals.{readyChecks};
 ghost use Rattle.taskset.specs.Calls.{SetAfter};
 ghost use Rattle.layout.specs.declared.Layout.the-variants.{Ordinary};
 ghost use Rattle.planner.specs.Answers.{PlannerCall};
-use arrays::Request;
 use layout::Layout;
+use options::Posed;
 use taskset::Checked;
 use taskset::PlannerAnswer;
 use taskset::Refusal;
@@ -52,9 +52,7 @@ pub fn ready(set: &[u32], plan_len: usize, work_len: usize) -> Checked
     }
 }
 
-// Check 7 and the choice of a plan, for a set that has passed the checks before it. No load is lower than at the last
-// rate, so some plan fits exactly when the plan with every task at that rate does. The choice goes by what is drawn over
-// idling: with the idle energy of every tick it is what is reported, the plan's task energies and H for each idle tick.
+// Check 7 and the choice of a plan, for a set that has passed the checks before it.
 pub fn plan_checked(
     set: &[u32],
     plan: &mut [u32],
@@ -68,34 +66,13 @@ pub fn plan_checked(
 {
     let mut loads = [0u64; 512];
     let mut energies = [0u64; 512];
-    options::put_tasks(
-        &mut loads,
-        &mut energies,
-        set,
-        Layout::Ordinary,
-        rates,
-        tasks,
-        hyper,
-    );
-    let fastest = arrays::fastest_sum(&loads, tasks, rates);
-    if hyper < fastest {
-        return PlannerAnswer::Refused(Refusal::NoPlan);
-    }
-    let limit = hyper as u32;
-    let q = Request {
-        tasks,
-        rates,
-        limit,
-        slack: checks::slack_of(set),
-    };
-    let c = choice::choose(&loads, &energies, q, plan, work);
-    let idle = checks::idle_of(set) as u64;
-    let total = c.energy + idle * hyper;
-    PlannerAnswer::Planned {
-        unit: c.unit,
-        load: c.load,
-        hyper,
-        energy: total,
+    let posed = options::pose(&mut loads, &mut energies, set, rates, tasks, hyper);
+    match posed {
+        Posed::NoneFits => PlannerAnswer::Refused(Refusal::NoPlan),
+        Posed::For(q) => {
+            let c = choice::choose(&loads, &energies, q, plan, work);
+            options::planned(set, hyper, c)
+        }
     }
 }
 

@@ -1,0 +1,36 @@
+-- What an engine is asked for a set. Not part of what a reader must believe: the calls' contracts speak of the set's own
+-- problem.
+use Prim.Native.Nat.{ℕ}
+use mathlib.Core.Path.{_≡_}
+use mathlib.Core.List.{List}
+use Rattle.selection.specs.Plan.{Fitting}
+use Rattle.selection.proofs.Same.{Same}
+use Rattle.layout.specs.Words.{slack, rateCount, taskCount}
+use Rattle.layout.specs.declared.Layout.the-variants.{Ordinary}
+use Rattle.taskset.specs.Quantities.{hyperPeriod, problem}
+use Rattle.taskset.proofs.Sets.{IsSet}
+use Rattle.taskset.proofs.Idle.{Covered}
+use Rattle.arrays.specs.Arrays.{arrays, Asked, Small}
+use Rattle.arrays.specs.declared.Request.{Request}
+use Rattle.options.specs.declared.Posed.{Posed}
+use Rattle.options.specs.declared.Posed.the-variants.{NoneFits, For}
+
+-- A set that passes checks 2, 3, 10 and 4, with its counts and its hyper-period.
+pub record SetGiven (s : List ℕ) (m n l : ℕ) : Type 0 where
+  pub set : IsSet Ordinary s
+  pub covered : Covered Ordinary s
+  pub rates : m ≡ rateCount Ordinary s
+  pub tasks : n ≡ taskCount Ordinary s
+  pub hyper : l ≡ hyperPeriod Ordinary s
+
+-- The request and the arrays give the set's own problem, with its slack; and a plan fits.
+pub record Poses (s loads energies : List ℕ) (q : Request) : Type 0 where
+  pub same : Same (arrays q loads energies) (problem s)
+  pub slack-is : q .slack ≡ slack s
+  pub asked : Asked q loads energies
+  pub loads-fit : Small loads
+  pub energies-fit : Small energies
+
+abbrev pub PosedFor : (s loads energies : List ℕ) → Posed → Type 0
+PosedFor s loads energies NoneFits = (P : List ℕ) → Fitting (problem s) P → ⊥
+PosedFor s loads energies (For q) = Poses s loads energies q
