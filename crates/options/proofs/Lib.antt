@@ -1,3 +1,4 @@
 pub mod Filling
 pub mod Posing
 pub mod Planning
+pub mod Enough

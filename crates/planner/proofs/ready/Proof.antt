@@ -1,12 +1,16 @@
 -- Checks 2, 3, 10 and 4, then 5, then 6.
 -- Assumes nothing.
-use mathlib.Core.Path.{_≡_, subst, ap, _∙_}
+use Prim.Native.Nat.{_≤_}
+use mathlib.Core.Path.{_≡_, refl, subst, ap, _∙_}
 use Rattle.layout.specs.declared.Layout.the-variants.{Ordinary}
 use Rattle.selection.specs.Plan.{workWords}
 use Rattle.layout.specs.Words.{slack}
+use Rattle.taskset.specs.Quantities.{workNeeded}
 use Rattle.taskset.specs.Calls.{SetAfter}
-use Rattle.taskset.specs.Refusals.{_▹_, idleChecks, hyperCheck}
-use Rattle.planner.proofs.Enough.{SetPassed, set-refused, slack-range, tasks-few, some-words, work-short, plan-short, is-ready}
+use Rattle.taskset.specs.Refusals.{Check, Passes, _▹_, idleChecks, hyperCheck, workCheck}
+use Rattle.taskset.specs.declared.Refusal.the-variants.{WorkShort}
+use Rattle.options.proofs.Enough.{SetPassed, some-words, set-refused, own-refused, plan-short, is-ready}
+use Rattle.planner.proofs.Enough.{slack-range, tasks-few, work-short, work-enough}
 use borrow.Author.Needs.{needs}
 use Rattle.planner.proofs.ready.Statement.{statement}
 use Rattle.planner.proofs.ready.Tie as tie
@@ -39,45 +43,45 @@ enum-known-checked-2 : tie.Need-enum-known-checked-2
 enum-known-checked-2 c = search needs
 
 slack-of-requires : tie.Need-slack-of-requires
-slack-of-requires c κs =
-    let a = start (c .before) .args in
-    some-words _ (a .plan-len) (a .work-len) (passed (c .before))
+slack-of-requires c κs = some-words (passed (c .before))
 
 work-needed-requires : tie.Need-work-needed-requires
 work-needed-requires c κs =
     let g = c .before .before in
-    let a = start g .args in (
-      tasks-few _ (a .plan-len) (a .work-len) (passed g),
-      rw (c .slack-of .ensures)
-          (slack-range _ (a .plan-len) (a .work-len) (passed g) .0),
-    )
+    (tasks-few (passed g), rw (c .slack-of .ensures) (slack-range (passed g) .0))
+
+-- Check 5.
+abbrev five : tie.After-work-needed → Check
+five w = let a = start (good w) .args in workCheck (workNeeded (a .set .now)) (a .work-len)
+
+enough : (w : tie.After-work-needed) → w .work-needed .result ≤ start (good w) .args .work-len → Passes (five w)
+enough w = work-enough (passed (good w)) (needed w) (start (good w) .args .work-len)
 
 short-work : tie.Need-returns
 short-work c =
     let w = c .before in
     let a = start (good w) .args in
-    work-short _ (a .plan-len) (a .work-len) (passed (good w)) (needed w) (c .if1 .taken)
+    own-refused _ (five w) (a .plan-len) (passed (good w)) (WorkShort (w .work-needed .result)) refl
+    (work-short (passed (good w)) (needed w) (a .work-len) (c .if1 .taken))
 
 short-plan : tie.Need-returns-2
 short-plan c =
     let w = c .before .before in
-    let a = start (good w) .args in
-    plan-short _ (a .plan-len) (a .work-len) (passed (good w)) (needed w) (c .before .if1 .left) (c .if2 .taken)
+    plan-short _ (five w) (start (good w) .args .plan-len) (passed (good w)) (enough w (c .before .if1 .left)) (c .if2 .taken)
 
 refused : tie.Need-returns-3
 refused c =
     let r = c .before in
     let a = r .before .before .before .before .args in
     let s = a .set .now in
-    set-refused _ (a .plan-len) (a .work-len) (r .checked .given .0 .0)
+    set-refused s (workCheck (workNeeded s) (a .work-len)) (a .plan-len) (r .checked .given .0 .0)
     (subst (SetAfter (idleChecks Ordinary s ▹ hyperCheck Ordinary s) Ordinary s) (r .checked .given .1)
     (r .before .before .check-covered .ensures))
 
 all-passed : tie.Need-returns-4
 all-passed c =
     let w = c .before .before in
-    let a = start (good w) .args in
-    is-ready _ (a .plan-len) (a .work-len) (passed (good w)) (needed w) (c .before .if1 .left) (c .if2 .left)
+    is-ready _ (five w) (start (good w) .args .plan-len) (passed (good w)) (enough w (c .before .if1 .left)) (c .if2 .left)
 
 pub ready-spec : {M : Type 1} → statement M
 ready-spec =
