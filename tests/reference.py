@@ -1,10 +1,10 @@
-"""A reference for the planner, the walk, the reader, the writer, the program and
-the load generator.
+"""A reference for the planner, the dull engine, the walk, the reader, the writer, the
+program and the load generator.
 
 It follows the words of the scope document, and of document 02 those of note 1 for
 the generator, of note 2 for chips, of note 4 for the idle energy H, of note 5 for
-the margin and of note 6 for first releases, and is meant to be read beside them. It is
-slow on purpose.
+the margin, of note 6 for first releases and of note 7 for the dull engine, and is
+meant to be read beside them. It is slow on purpose.
 A refusal is ('refused', number, second number).
 Tasks and rates are numbered from 1, places in lists and texts from 0.
 """
@@ -22,6 +22,7 @@ BYTES_READ = 8_192              # by the program
 MOST_WORDS = 4 + 8 + 32 * 11    # of a set with 8 rates and 32 tasks
 RESULT_BYTES = 32               # of a C call
 ENUMERATED = 20_000             # up to this many plans, all are looked at
+MOST_PLANS = 1_000_000          # that the dull engine goes through
 
 Task = namedtuple('Task', 'period cycles first energies')
 TaskSet = namedtuple('TaskSet', 'slack idle rates tasks')
@@ -382,6 +383,75 @@ def objection(words, answer, ticks):
     return None
 
 
+# --------------------------------------------------------------- the dull way
+
+def check_11(words):
+    """'11, M to the power N is over 1,000,000, with 0'"""
+    s = decode(words)
+    return refused(11, 0) if len(s.rates) ** len(s.tasks) > MOST_PLANS else None
+
+
+def all_plans(M, N):
+    """'all plans, in order of rate numbers with task 1 changing fastest'"""
+    rates = [1] * N
+    while True:
+        yield rates
+        task = 0
+        while rates[task] == M:
+            rates[task] = 1
+            task += 1
+            if task == N:
+                return
+        rates[task] += 1
+
+
+def dull(words, plan_len):
+    """The dull engine. It takes nothing from the planner's ways: each plan's sums are made
+    anew at each unit, and the first of the best plans is kept. The order of the plans is
+    that of the rate number for task N, then for task N - 1, and so on: so the first has
+    the lowest for task N, and of those the lowest for task N - 1, down to task 1."""
+    # 'Its refusals are the planner's without 5', and 11 'after 4'
+    answer = (check_2(words) or check_3(words) or check_10(words) or check_4(words)
+              or check_11(words))
+    if answer:
+        return answer
+    s = decode(words)
+    M, N, L = len(s.rates), len(s.tasks), hyper_period(s.tasks)
+    if plan_len < N:
+        return refused(6, N)
+
+    # Of each task and rate number the load, and the energy less H x that load; at 0 nothing.
+    sums = []
+    for task in s.tasks:
+        jobs = L // task.period
+        sums.append([None])
+        for rate, energy in zip(s.rates, task.energies):
+            load = jobs * round_up(task.cycles, rate)
+            sums[-1].append((load, jobs * energy - s.idle * load))
+    fastest = sum(row[M][1] for row in sums)
+    unit = 1
+    while unit < fastest:
+        unit *= 2
+
+    while True:
+        best = None
+        for rates in all_plans(M, N):
+            load = rounded = 0
+            for row, rate in zip(sums, rates):
+                load += row[rate][0]
+                rounded += round_up(row[rate][1], unit)
+            if load <= L and (best is None or (rounded, load) < best[:2]):
+                best = rounded, load, list(rates)
+        if best is None:
+            return refused(7, 0)
+        rounded, load, rates = best
+        if s.slack * rounded >= 2_000 * N or unit == 1:
+            break
+        unit //= 2
+    energy = s.idle * L + sum(row[rate][1] for row, rate in zip(sums, rates))
+    return ('planned', unit, load, L, energy, rates)
+
+
 # --------------------------------------------------- the margin in microjoules
 
 def margin(words, unit):
@@ -583,8 +653,7 @@ def c_walk(words, plan, results_len):
     return (0, [0, answer[1], answer[2], 0])
 
 
-def c_plan(words, plan_len, work_len, results_len):
-    answer = plan(words, plan_len, work_len)
+def c_planned(answer, results_len):
     # 'Under 32 bytes there is refusal 6 with 32, checked after all others but 7.'
     if is_refused(answer) and answer[1] != 7:
         return c_refusal(answer)
@@ -594,6 +663,14 @@ def c_plan(words, plan_len, work_len, results_len):
         return c_refusal(answer)
     _, unit, load, L, energy, _ = answer
     return (0, [unit, load, L, energy])
+
+
+def c_plan(words, plan_len, work_len, results_len):
+    return c_planned(plan(words, plan_len, work_len), results_len)
+
+
+def c_dull(words, plan_len, results_len):
+    return c_planned(dull(words, plan_len), results_len)
 
 
 def c_generate(seed, N, room, results_len):

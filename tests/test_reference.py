@@ -1,6 +1,7 @@
 """Tests of the reference: the cases of the scope document, the load generator of
 document 02's note 1, the chips of its note 2, the idle energy of its note 4, the
-margin of its note 5, the first releases of its note 6, and random sets.
+margin of its note 5, the first releases of its note 6, the dull engine of its note 7,
+and random sets.
 
 Running it prints one line and ends with 0, or names the failing case and
 ends with 1.
@@ -1749,6 +1750,279 @@ def firsts_at_random():
         same('enough of %s' % (kind,), counts.get(kind, 0) >= least, True)
 
 
+# ------------------------------------------ document 02, note 7: the dull way
+
+def alike(M, N, period=None, slack=100):
+    """N tasks alike with M rates: a job takes one tick at each of them, and costs the rate number."""
+    return [slack, 0, M, *range(1, M + 1), N] + [period or N, 1, 0, *range(1, M + 1)] * N
+
+
+# Of each M the most tasks for which M to the power N is not over 1,000,000.
+MOST_OF = {2: 19, 3: 12, 4: 9, 5: 8, 6: 7, 7: 7, 8: 6}
+
+TWINS = [100, 0, 2, 1, 2, 2] + [3, 2, 0, 1, 3] * 2
+TWO_LONG = [9_999_999, 1, 0, 1, 2, 10_000_000, 1, 0, 1, 2]
+# Lists, words lent for the plan, and what the dull engine says.
+DULL_WORKED = [
+    (S, 2, ('planned', 1, 29, 30, 41, [2, 1])),
+    (S_1000, 2, ('planned', 8, 28, 30, 42, [1, 2])),
+    (S, 3, ('planned', 1, 29, 30, 41, [2, 1])),
+    (S, 1, refused(6, 2)),
+    (THOUSAND_TEN, 1, ('planned', 1, 90, 100, 1_010, [1])),
+    # The first plan, and the last one.
+    (one_task(100, 30, 30, (1, 2)), 1, ('planned', 1, 30, 30, 1, [1])),
+    (one_task(100, 30, 60), 1, ('planned', 1, 30, 30, 1, [2])),
+    (one_task(100, 30, 61), 1, refused(7, 0)),
+    (one_task(100, 30, 61), 0, refused(6, 1)),
+    # Equal energies and loads: one of two twins is fast, the first; 3 1 and not 1 2; and all alike.
+    (TWINS, 2, ('planned', 1, 3, 3, 4, [2, 1])),
+    ([100, 0, 3, 1, 2, 3, 2, 5, 3, 0, 1, 9, 3, 5, 4, 0, 1, 3, 9], 2, ('planned', 1, 5, 5, 4, [3, 1])),
+    ([100, 0, 3, 1, 2, 3, 2, 5, 4, 0, 1, 3, 9, 5, 3, 0, 1, 9, 3], 2, ('planned', 1, 5, 5, 4, [2, 1])),
+    ([1_000, 0, 3, 1, 2, 3, 3] + [3, 1, 0, 5, 5, 5] * 3, 3, ('planned', 4, 3, 3, 15, [1, 1, 1])),
+    # Equal energies, rounded or not: the lesser load, though it comes later.
+    (one_task(100, 10, 10), 1, ('planned', 1, 5, 10, 1, [2])),
+    (one_task(1_000, 10, 10, (33, 64)), 1, ('planned', 32, 5, 10, 64, [2])),
+    # Nothing is left without the idle energy, and the first unit is 1.
+    (one_task(100, 100, 90, (900, 100), (1, 9), idle=10), 1, ('planned', 1, 10, 100, 1_000, [2])),
+    # The planner's refusals, one for each; 10 and 4 where there are too many plans besides.
+    ([0] + S[1:], 2, refused(2, 0)),
+    ([], 0, refused(2, 0)),
+    (one_task(100, 30, 60, rates=(4, 4)), 1, refused(3, 4)),
+    ([100, 1] + S[2:], 2, refused(10, 10)),
+    ([100, 0, 2, 1, 2, 2] + TWO_LONG, 2, refused(4, 11)),
+    ([100, 0, 2, 1, 2, 20] + TWO_LONG + [10, 1, 0, 1, 2] * 18, 20, refused(4, 11)),
+    ([100, 1, 2, 1, 2, 20] + [30, 4, 0, 4, 2] * 19 + [30, 4, 0, 4, 1], 20, refused(10, 105)),
+    # Two to the power 20 is 1,048,576, and 20 to the power 2 is 400; 6 to the power 8 is 1,679,616.
+    (alike(2, 20), 20, refused(11, 0)),
+    (alike(4, 10), 10, refused(11, 0)),
+    (alike(8, 7), 7, refused(11, 0)),
+    (alike(8, 32), 32, refused(11, 0)),
+    (alike(7, 7), 6, refused(6, 7)),
+    (alike(8, 6), 5, refused(6, 6)),
+    (alike(2, 19), 18, refused(6, 19)),
+    # 11 before 6 and 7: with a period of 20 the last of 21 jobs does not fit.
+    (alike(2, 20), 19, refused(11, 0)),
+    (alike(2, 21, 20), 21, refused(11, 0)),
+    (alike(2, 21, 20), 0, refused(11, 0)),
+    (alike(2, 5, 4), 5, refused(7, 0)),
+    (alike(2, 5, 4), 4, refused(6, 5)),
+]
+
+# A dull engine in parts, and readings of the note that are wrong in one of them. 'rates' makes a
+# plan of its number, 'numbers' says which are looked at, 'better' whether rounded energy and load
+# are better than those of the best so far, 'stays' whether the best of one unit is that of the
+# next to begin with. 'many' and 'second' are 11, and 'order' is that of the checks.
+DULL_PARTS = {
+    'rates': lambda number, M, N: [number // M ** task % M + 1 for task in range(N)],
+    'numbers': lambda plans: range(plans),
+    'better': lambda new, best: new < best,
+    'stays': False,
+    'many': lambda M, N: M ** N > 1_000_000,
+    'second': lambda M, N: 0,
+    'order': (2, 3, 10, 4, 11, 6, 7),
+}
+DULL_MISREAD = {
+    'task N changing fastest': ('rates', lambda number, M, N: [
+        number // M ** (N - 1 - task) % M + 1 for task in range(N)]),
+    'from the last plan to the first': ('numbers', lambda plans: range(plans - 1, -1, -1)),
+    'the last plan not looked at': ('numbers', lambda plans: range(max(plans - 1, 1))),
+    'the first plan not looked at': ('numbers', lambda plans: range(min(1, plans - 1), plans)),
+    'the last of those alike': ('better', lambda new, best: new <= best),
+    'the first of equal energy': ('better', lambda new, best: new[0] < best[0]),
+    'the last of equal energy': ('better', lambda new, best: new[0] <= best[0]),
+    'load before energy': ('better', lambda new, best: new[::-1] < best[::-1]),
+    'the best of the unit before': ('stays', True),
+    'N to the power M': ('many', lambda M, N: N ** M > 1_000_000),
+    'over 800,000': ('many', lambda M, N: M ** N > 800_000),
+    'over 500,000': ('many', lambda M, N: M ** N > 500_000),
+    'over 1,048,576': ('many', lambda M, N: M ** N > 1_048_576),
+    'over 2 to the power 32': ('many', lambda M, N: M ** N > 2 ** 32),
+    'at 64 bits': ('many', lambda M, N: M ** N % 2 ** 64 > 1_000_000),
+    'never': ('many', lambda M, N: False),
+    'with the number of plans': ('second', lambda M, N: M ** N),
+    'with 1,000,000': ('second', lambda M, N: 1_000_000),
+    'with N': ('second', lambda M, N: N),
+    '11 before 4': ('order', (2, 3, 10, 11, 4, 6, 7)),
+    '11 before 10': ('order', (2, 3, 11, 10, 4, 6, 7)),
+    '11 after 6': ('order', (2, 3, 10, 4, 6, 11, 7)),
+    '11 after 7': ('order', (2, 3, 10, 4, 6, 7, 11)),
+    '7 before 6': ('order', (2, 3, 10, 4, 11, 7, 6)),
+    '7 before 11': ('order', (2, 3, 10, 4, 7, 11, 6)),
+}
+
+
+def dull_in_parts(words, plan_len, **other):
+    """What the dull engine says: of the parts, or of another in place of one. Where it should
+    have refused and would go through more than 10,000 plans, nothing."""
+    part = {**DULL_PARTS, **other}
+    if r.check_2(words):
+        return r.check_2(words)
+    G, H, M = words[:3]
+    rates, N = words[3:3 + M], words[3 + M]
+    tasks = [words[at:at + 3 + M] for at in range(4 + M, len(words), 3 + M)]
+    times = [[-(-cycles // rate) for rate in rates] for _, cycles, *_ in tasks]
+    L = None if r.check_4(words) else r.hyper_period(r.decode(words).tasks)
+    for check in part['order']:
+        if check in (3, 10, 4):
+            answer = {3: r.check_3, 10: r.check_10, 4: r.check_4}[check](words)
+            if answer:
+                return answer
+        if check == 11 and part['many'](M, N):
+            return refused(11, part['second'](M, N))
+        if check == 6 and plan_len < N:
+            return refused(6, N)
+        if check == 7 and L and sum(L // tasks[i][0] * times[i][-1] for i in range(N)) > L:
+            return refused(7, 0)
+    if M ** N > 10_000:
+        return None
+
+    def counted(plan, d):
+        return sum(-(-(L // tasks[i][0] * (tasks[i][2 + j] - H * times[i][j - 1])) // d)
+                   for i, j in enumerate(plan))
+
+    d = 2 ** 60                 # from far above: it is not used before the first unit is passed
+    if part['stays']:
+        d = 1
+        while d < counted([M] * N, 1):
+            d *= 2
+    best = None
+    while True:
+        if not part['stays']:
+            best = None
+        for number in part['numbers'](M ** N):
+            plan = part['rates'](number, M, N)
+            load = sum(L // tasks[i][0] * times[i][j - 1] for i, j in enumerate(plan))
+            if load <= L and (best is None or part['better']((counted(plan, d), load), best[:2])):
+                best = counted(plan, d), load, plan
+        if best is None:
+            return refused(7, 0)
+        if d == 1 or G * best[0] >= 2_000 * N:
+            break
+        d //= 2
+    _, load, plan = best
+    given = sum(L // tasks[i][0] * tasks[i][2 + j] for i, j in enumerate(plan))
+    return ('planned', d, load, L, given + H * (L - load), plan)
+
+
+def dull_edges():
+    same('all plans of 2 tasks and 3 rates', [list(rates) for rates in r.all_plans(3, 2)],
+         [[1, 1], [2, 1], [3, 1], [1, 2], [2, 2], [3, 2], [1, 3], [2, 3], [3, 3]])
+    for M, N in ((2, 1), (8, 1), (2, 7), (4, 3)):
+        # Read from task N to task 1 they rise, and so no two are the same.
+        plans = [tuple(rates) for rates in r.all_plans(M, N)]
+        same('all plans of %d tasks and %d rates' % (N, M),
+             [rates[::-1] for rates in plans], list(product(range(1, M + 1), repeat=N)))
+    for words, lent, want in DULL_WORKED:
+        name = 'dull %r, %d lent' % (words, lent)
+        same(name, r.dull(words, lent), want)
+        code = want[1] * 2 ** 32 + want[2] if want[0] == 'refused' else 0
+        same(name + ', C', r.c_dull(words, lent, 32), (code, None if code else list(want[1:5])))
+        # Under 32 bytes: after all others but 7.
+        short = code if code and want != refused(7, 0) else 6 * 2 ** 32 + 32
+        same(name + ', C with 31 bytes', r.c_dull(words, lent, 31), (short, None))
+        # The planner with enough working words, but for 11.
+        planner = r.plan(words, lent, PLENTY)
+        if want[:2] == ('refused', 11):
+            same(name + ', the planner has no 11', planner[:2] != want[:2], True)
+        else:
+            same(name + ', as the planner', planner, want)
+        if want[:2] not in (('refused', 5), ('refused', 6), ('refused', 7)) and want[0] != 'planned':
+            same(name + ', nothing lent', r.dull(words, 0), want)
+            same(name + ', nothing lent, C', r.c_dull(words, 0, 0), (code, None))
+
+    # Either side of 1,000,000, for each M: a plan list that is too short is seen if it is not 11.
+    same('the most tasks', MOST_OF, {M: max(N for N in range(1, 33) if M ** N <= 1_000_000)
+                                     for M in range(2, 9)})
+    for M in range(2, 9):
+        for N in range(1, 33):
+            want = refused(6, N) if N <= MOST_OF[M] else refused(11, 0)
+            same('%d to the power %d' % (M, N), r.dull(alike(M, N), N - 1), want)
+            if N > MOST_OF[M]:
+                same('%d to the power %d, all lent' % (M, N), r.dull(alike(M, N), N), want)
+    same('7 to the power 7', r.check_11(alike(7, 7)), None)
+    same('10 to the power 6 is no such power', [M for M in range(2, 9) for N in range(1, 33)
+                                                if M ** N == 1_000_000], [])
+    # All causes at once, and then without the first of them, one after the other: the last word,
+    # the second rate, the idle energy, the second period, and 2 to the power 20.
+    words = [100, 1, 2, 1, 1, 20, 9_999_999, 40_000, 0, 1, 1, 10_000_000, 40_000, 0, 1, 1]
+    words += [10, 40_000, 0, 1, 1] * 17 + [10, 40_000, 0, 1, 0]
+    for number, second, place, good in ((2, 105, 105, 1), (3, 4, 4, 2), (10, 9, 1, 0),
+                                        (4, 11, 11, 9_999_999), (4, 16, 6, 10), (11, 0, 5, 19)):
+        same('dull: %d before what follows' % number, r.dull(words, 0), refused(number, second))
+        words[place] = good
+        if place == 6:
+            words[11] = 10
+    words = words[:-5]
+    same('dull: 6 before 7', r.dull(words, 18), refused(6, 19))
+    same('dull: 7 last', r.c_dull([100, 0, 2, 1, 2, 2] + words[6:16], 2, 32), (7 * 2 ** 32, None))
+    # 19 tasks of 8 rates, far over it: the planner has a plan.
+    words = alike(8, 19, slack=1_000)
+    same('8 to the power 19', r.dull(words, 19), refused(11, 0))
+    same('8 to the power 19, the planner', r.plan(words, 19, PLENTY)[0], 'planned')
+
+
+def dull_errors():
+    """Each wrong reading departs from one of the worked figures."""
+    for words, lent, want in DULL_WORKED:
+        same('dull in parts, %r' % (words,), dull_in_parts(words, lent), want)
+    for name, (part, wrong) in DULL_MISREAD.items():
+        seen = any(dull_in_parts(words, lent, **{part: wrong}) != want
+                   for words, lent, want in DULL_WORKED)
+        same('dull misread: ' + name, seen, True)
+
+
+def dull_at_random():
+    """Where both succeed the dull engine says what the planner does, and 5 and 11 apart they
+    refuse alike: random sets, some of thousands of plans, and lists that are no sets."""
+    g = random.Random(7)
+    counts = {}
+
+    def both(name, words, plan_len):
+        answer = r.dull(words, plan_len)
+        same(name, answer, r.plan(words, plan_len, PLENTY, 'table'))
+        same(name + ', A plays no part', r.dull(r.released_together(words), plan_len), answer)
+        kinds = [answer[:2] if answer[0] == 'refused' else 'planned']
+        if answer[0] == 'planned':
+            kinds += ['unit 1' if answer[1] == 1 else 'unit above 1']
+            kinds += ['idle'] * (words[1] > 0) + ['full'] * (answer[2] == answer[3])
+        for kind in kinds:
+            counts[kind] = counts.get(kind, 0) + 1
+
+    for number in range(900):
+        words = random_set(g, *g.choice([(1, 8), (2, 8), (3, 4), (4, 4), (8, 2)]))
+        M, N = words[2], words[3 + words[2]]
+        for task in range(1, N + 1):
+            if g.randint(1, 4) == 1:
+                words = with_first(words, task, g.randrange(r.decode(words).tasks[task - 1].period))
+        if g.randint(1, 10) == 1 and words[1] > 0:
+            words[4 + M + 3 + g.randrange(M)] = 1
+        if g.randint(1, 10) == 1 and N > 1:
+            words[4 + M], words[4 + M + 3 + M] = 9_999_991, g.choice([1, 2, 3])
+            words[4 + M + 3 + M + 2] = 0
+        lent = N if g.randint(1, 6) > 1 else g.choice([0, N - 1, N + 1, 32])
+        both('dull, random set %d %r' % (number, words), words, lent)
+    for number in range(8):
+        M, N = ((2, 11), (3, 7), (4, 5), (5, 4), (6, 4), (7, 4), (8, 3), (2, 10))[number]
+        words = random_set(g, 1, 2)[:2] + [M, *sorted(g.sample(range(1, 40), M)), N]
+        words[1] = 0
+        for _ in range(N):
+            period = g.choice([24, 30, 40, 60, 120])
+            words += [period, g.randint(1, 2 * words[2 + M] * period // N), 0]
+            words += [g.randint(1, 60) for _ in range(M)]
+        both('dull, thousands of plans %d %r' % (number, words), words, N)
+    for kind, least in (('planned', 300), ('unit 1', 50), ('unit above 1', 50), ('idle', 100),
+                        ('full', 20), (('refused', 10), 20), (('refused', 4), 10),
+                        (('refused', 6), 20), (('refused', 7), 50)):
+        same('enough of %s' % (kind,), counts.get(kind, 0) >= least, True)
+
+    # 262,144 plans. Nothing is left of the highest rate, so that the first unit is 1, and of the
+    # others 1 or more: it is the last plan of all.
+    words = [100, 1, 8, *range(1, 9), 6] + [6, 8, 0, 9, 5, 4, 3, 3, 3, 3, 1] * 6
+    want = ('planned', 1, 6, 6, 6, [8] * 6)
+    same('dull, 8 to the power 6', r.dull(words, 6), want)
+    same('dull, 8 to the power 6, the planner', r.plan(words, 6, PLENTY), want)
+
+
 # --------------------------------------------------------------- random sets
 
 def random_set(g, most_tasks, most_rates):
@@ -2124,7 +2398,8 @@ def main():
                      chip_edges, chip_errors, chip_offsets, chips_at_random,
                      idle_edges, idle_errors, idle_offsets, margin_edges, margin_errors,
                      margin_at_random, first_ranges, first_edges, first_errors, first_offsets,
-                     firsts_at_random, random_sets, objections, large_sets, random_texts):
+                     firsts_at_random, dull_edges, dull_errors, dull_at_random, random_sets,
+                     objections, large_sets, random_texts):
             part()
     except AssertionError as failure:
         print('reference: failed: %s' % failure)
