@@ -64,6 +64,24 @@ fn plan_record(name: &[u8], s: &[u8]) -> bool {
     true
 }
 
+// A record for the dull engine: the list of a set, and how many words are lent for the plan, which hold 0 before the
+// call as those of the planner do.
+fn dull_record(name: &[u8], s: &[u8]) -> bool {
+    let mut words = [0u32; 400];
+    let set = items::list(s, 0, 400, &mut words);
+    let lent = items::number(s, set.next, 64);
+    if lent.next != s.len() {
+        return false;
+    }
+    let k = set.value;
+    let j = lent.value;
+    let mut plan = [0u32; 400];
+    let a = dull::plan(&words[0..k], &mut plan[0..j]);
+    print::text(name);
+    print::planned(a, &plan);
+    true
+}
+
 // A record for the reader: how many words are lent, and a text. The words hold 7 before the call, also those that are
 // not lent, so that a word that the call must not write shows when it does.
 fn read_record(name: &[u8], s: &[u8]) -> bool {
@@ -147,6 +165,7 @@ fn record(s: &[u8]) -> bool {
         b'c' => check_record(name, rest),
         b'w' => walk_record(name, rest),
         b'p' => plan_record(name, rest),
+        b'd' => dull_record(name, rest),
         b'r' => read_record(name, rest),
         b't' => write_record(name, rest),
         b'a' => respond_record(name, rest),

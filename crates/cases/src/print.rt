@@ -98,8 +98,9 @@ pub(crate) fn walked(a: WalkAnswer) {
     }
 }
 
-// The answer of the planner, with the rate numbers of the plan, whose words held 0 before the call.
+// The answer of the planner or the dull engine, with the rate numbers of the plan, whose words held 0 before the call.
 pub(crate) fn planned(a: PlannerAnswer, plan: &[u32; 400]) {
+    let used = words_used(plan, 0);
     match a {
         PlannerAnswer::Planned {
             unit,
@@ -112,9 +113,12 @@ pub(crate) fn planned(a: PlannerAnswer, plan: &[u32; 400]) {
             number(load);
             number(hyper);
             number(energy);
-            words(plan, words_used(plan, 0));
+            words(plan, used);
         }
-        PlannerAnswer::Refused(f) => refused(f),
+        PlannerAnswer::Refused(f) => {
+            refused(f);
+            changed(used > 0);
+        }
     }
 }
 
