@@ -1,10 +1,10 @@
-"""Makes the stored records of set checks, walk, planner, reader, writer, the
-program's call and the load generator, and their answers.
+"""Makes the stored records of set checks, walk, planner, dull engine, reader, writer,
+the program's call and the load generator, and their answers.
 
     python3 tests/make_cases.py           writes crates/cases/stdin and stdout
     python3 tests/make_cases.py --check   writes nothing and compares with both
 
-Each call has a module of records/; chips.py there has those of processors by name,
+Each call has a module of records/, dull.py for the dull engine; chips.py there has those of processors by name,
 idle.py those of the idle energy, margin.py those of the margin above the least energy and
 firsts.py those of first releases, for all calls, and shared.py has what they share. The
 order of the records is that of the groups in make, below.
@@ -15,6 +15,7 @@ One record a line, one space between items, each line ended by byte 10:
     w NAME K w1 .. wK J p1 .. pJ    the walk of that set with the plan of J words
     p NAME K w1 .. wK J A           the planner on that set, J words lent for the
                                     plan and A working words
+    d NAME K w1 .. wK J             the dull engine on that set, J words lent for the plan
     r NAME J TEXT                   the reader on the text, J words lent
     t NAME K w1 .. wK J             the writer on that set, J bytes lent
     a NAME J TEXT                   the program's call on the text, J bytes lent
@@ -28,7 +29,7 @@ An answer is a line too, the record's name and then what the reference says:
 
     c: good M N L, or refused N K
     w: kept BUSY IDLE PREEMPTED, missed TICK TASK, or refused N K
-    p: planned UNIT LOAD L ENERGY r1 .. rN, or refused N K
+    p, d: planned UNIT LOAD L ENERGY r1 .. rN, or refused N K
     r: read N w1 .. wN, or refused N K
     t: wrote N TEXT, or refused N K
     a: prints N TEXT, or refused 6 K
@@ -40,7 +41,9 @@ reference must agree with it. A planner answer of a set with few plans is made
 in both of the reference's ways and judged by looking at every plan, by the margin
 above the least energy too, which margin.py works out again for its own; energies below
 that of an idle processor are looked for once more, and a set with an idle energy is
-planned without it too, with energies that are less by it. Of every
+planned without it too, with energies that are less by it. The dull engine's answer is
+the planner's, or 11 by a table of the most tasks for each M, and up to some thousands of
+plans the reference goes through all of them to it. Of every
 text a reader of the usual kind must say the same as the reference, which goes
 by the definition: which bytes begin some well-formed text. Words that were read
 or written are put into a text once more, in another way; those of a chip are worked
@@ -51,9 +54,8 @@ is not asked. A walk with first releases is made in three ways where it is kept,
 where it is not. A generated list is made by generator.py as well, with each draw worked
 out from the seed at once.
 
-The test program adds `changed` to an answer of the reader, the writer, the program's
-call or the generator where it left its memory other than it must. No answer here has
-it.
+The test program adds `changed` to an answer where the call left its memory other than
+it must; the walk and the checks are lent nothing to write. No answer here has it.
 """
 
 import sys
@@ -62,7 +64,7 @@ from pathlib import Path
 sys.dont_write_bytecode = True
 
 from records import (
-    checks, chips, firsts, generator, idle, margin, planner, program, reader, walk, writer)
+    checks, chips, dull, firsts, generator, idle, margin, planner, program, reader, walk, writer)
 from records.shared import answers, names, questions
 
 FOLDER = Path(__file__).resolve().parent.parent / 'crates' / 'cases'
@@ -281,6 +283,38 @@ SENTENCES = {
         'a-from-4294967295-at-15 a-from-xscale-bad w-first-bad-and-4 a-from-2-before-3',
     'Note 6: A well-formed text is now under 6,000 bytes':
         'r-idle-longest a-from-longest r-from-longest-xscale',
+
+    'Note 7: An engine goes through all plans, in order of rate numbers with task 1 changing fastest':
+        'd-worked-01 d-worked-06 d-worked-07 d-worked-10 d-worked-11 d-worked-12 '
+        'd-twins-at-1-and-4 d-2-of-5-twins-fast d-two-rates-alike-at-1-of-5 '
+        'd-two-rates-alike-at-5-of-5 d-all-equal-3-tasks-8-rates d-last-of-7-to-the-power-7 '
+        'd-last-of-2-to-the-power-19 d-2-to-the-power-19 d-between-of-8-to-the-power-6',
+    "Note 7: and applies document 01's choice directly at each unit":
+        'd-document-set d-document-set-slack-1000 d-33-at-every-rate d-rounded-alike-more-1000 '
+        'd-less-load-at-2-of-3 d-twins-at-2-and-3-rounded d-stop-2-tasks-of-2-slack-1000 '
+        'd-reach-32-slack-1000-of-2 d-nothing-left-all-2-tasks-1 d-nothing-left-the-fastest-1-tasks-1 '
+        'd-energy-33-slack-1000 d-slowest-costs-least-8',
+    'Note 7: It needs no working words':
+        'd-two-slack-1-lent-2 d-eleven-slack-1-lent-11 d-energy-1000000-slack-1',
+    "Note 7: Its refusals are the planner's without 5":
+        'd-slack-of-0 d-empty-list d-cut-10 d-rates-4-4 d-ten-10 d-ten-18-and-last '
+        'd-periods-9999999-10000000 d-over-at-12 d-two-lent-1 d-eight-lent-7 '
+        'd-61-cycles-in-30-ticks d-order-3-and-10 d-order-10-and-4 d-order-4-and-6 d-order-6-and-7 '
+        'd-order-7 d-all-from-2 d-all-from-3 d-all-from-10 d-all-from-6 d-all-from-7 '
+        'd-first-10-of-10',
+    'Note 7: and where both succeed the four numbers and the plan list are equal':
+        'd-document-set p-document-set d-idle-worked-01 p-idle-worked-01 d-margin-worked-01 '
+        'p-margin-worked-01 d-document-set-slack-500 p-document-set-slack-500 '
+        'd-between-of-3-to-the-power-12 rd0001',
+    'Note 7: 11, M to the power N is over 1,000,000, with 0':
+        'd-2-to-the-power-19 d-2-to-the-power-20 d-3-to-the-power-12 d-3-to-the-power-13 '
+        'd-4-to-the-power-9 d-4-to-the-power-10 d-5-to-the-power-8 d-5-to-the-power-9 '
+        'd-6-to-the-power-7 d-6-to-the-power-8 d-7-to-the-power-7 d-7-to-the-power-8 '
+        'd-8-to-the-power-6 d-8-to-the-power-7 d-7-to-the-power-7-short d-worked-27 '
+        'd-wraps-2-to-the-power-32 d-wraps-4-to-the-power-32 d-wraps-8-to-the-power-22',
+    'Note 7: after 4':
+        'd-order-10-and-11 d-order-4-and-11 d-order-4-and-11-none-lent d-order-11-and-6 '
+        'd-order-11-and-7 d-order-11-and-6-and-7 d-all-from-4 d-all-from-11',
 }
 
 
@@ -316,7 +350,9 @@ def make():
                   firsts.first_lines, firsts.first_bytes, firsts.first_numbers,
                   firsts.first_written, firsts.first_programs, firsts.random_first_walks,
                   firsts.random_first_plans, firsts.random_first_programs,
-                  firsts.random_first_texts):
+                  firsts.random_first_texts, dull.dull_worked, dull.dull_checks, dull.dull_order,
+                  dull.dull_lengths, dull.dull_eleven, dull.dull_ties, dull.dull_units,
+                  dull.dull_loads, dull.dull_firsts, dull.random_dulls):
         group()
     for sentence, found in SENTENCES.items():
         assert names.issuperset(found.split()), sentence

@@ -33,6 +33,7 @@ RANDOM_FIRST_WALKS = 500        # sets with first releases for the walk,
 RANDOM_FIRST_PLANS = 120        # for the planner,
 RANDOM_FIRST_PROGRAMS = 120     # for the program, and
 RANDOM_FIRST_TEXTS = 150        # texts with (from A) for the reader
+RANDOM_DULLS = 400              # small sets for the dull engine
 FEW_PLANS = 1_024               # up to so many, the reference looks at all of them
 TOP = 4_294_967_295             # the largest word
 
