@@ -27,8 +27,8 @@
  * for each task its period in ticks, 1 to 10,000,000, the cycles of one job, 1 to 4,000,000,000, its first release A,
  * the tick at which its first job is released, 0 to its own period - 1, and M energies in microjoules per job, at rate
  * numbers 1, 2, .. M, each 1 to 1,000,000. The hyper-period, the least common multiple of the periods, is at most
- * 10,000,000. The planner asks besides that no energy is below H x the job time, which is cycles / rate rounded up to
- * whole ticks: an energy is all that is drawn while the job runs, and not only what is drawn above H.
+ * 10,000,000. The planner and the dull engine ask besides that no energy is below H x the job time, which is cycles /
+ * rate rounded up to whole ticks: an energy is all that is drawn while the job runs, not only what is drawn above H.
  *
  * For example 100 0 3 2 4 8 2 10 12 0 4 9 20 15 20 0 7 15 30 has slack 100, nothing drawn while no job runs, the 3
  * rates 2, 4 and 8, and 2 tasks that are released together: one of period 10 and 12 cycles with energies 4, 9 and 20,
@@ -81,7 +81,10 @@ extern "C" {
 #define SEEDSPELL_REFUSED_CHIP_ENERGY_TOO_HIGH 9  /* a text names a chip, and an energy worked out by the chip's tables
                                                      passes 1,000,000; the number of the first task that has one */
 #define SEEDSPELL_REFUSED_ENERGY_BELOW_IDLE 10    /* an energy below H x the job time at its rate; the place of the
-                                                     first, also where no plan would use it. By the planner alone */
+                                                     first, also where no plan would use it. By the planner and the
+                                                     dull engine alone */
+#define SEEDSPELL_REFUSED_TOO_MANY_PLANS 11       /* M to the power N, the number of plans, passes 1,000,000; 0. By the
+                                                     dull engine alone */
 
 /* Of what a call returned, a uint64_t: the refusal's number, 0 where there is none; and its second number. */
 #ifdef __cplusplus
@@ -157,6 +160,25 @@ uint64_t seedspell_walk(const uint32_t *set, size_t set_len, const uint32_t *pla
  * tables from 0: a table of M settings has entries 0 to M - 1. */
 uint64_t seedspell_plan(const uint32_t *set, size_t set_len, uint32_t *plan, size_t plan_len,
                         uint32_t *work, size_t work_len, uint8_t *results, size_t results_len);
+
+/* The dull engine: the planner without working words, for sets of few plans. At each unit that it tries it goes through
+ * all M to the power N plans, so that its time goes with plans x units. It takes sets of at most 1,000,000 plans: of up
+ * to 19 tasks with 2 rates, 12 with 3, 9 with 4, 8 with 5, 7 with 6 or 7, and 6 with 8. Wherever it and seedspell_plan
+ * both succeed, the four results and the plan are equal; 5 and 11 apart they refuse alike.
+ *
+ * set, set_len          the set
+ * plan, plan_len        receives the plan, at least N words: 19 are enough for every set that it takes
+ * results, results_len  receives the results, at least 32 bytes
+ *
+ * Returns 0 and leaves in the first N words of plan a rate number, 1 to M, for each task, and in the first 32 bytes of
+ * results
+ *   unit, load, L, energy                       as seedspell_plan does, with all that it promises of the plan and of
+ *                                               these, the margin too;
+ * or refuses: 2, 3, 10, 4, 11 with 0, 6 with N for the plan list, 6 with 32 for the results, and then 7, in this order.
+ * 7 is returned if and only if none of the others applies and no plan keeps every deadline for ever, all tasks being
+ * released together. On a refusal nothing is changed. */
+uint64_t seedspell_plan_dull(const uint32_t *set, size_t set_len, uint32_t *plan, size_t plan_len,
+                             uint8_t *results, size_t results_len);
 
 /* The generator: a set for benchmarks and tests, the same wherever it is made from the same seed and N. How it is drawn
  * from the seed is in docs/CALLS.md.
