@@ -16,7 +16,9 @@
 #define WORDS 19
 #define ROOM 3                          /* of the plan list, a word more than S has tasks */
 #define WORK 243                        /* W of S */
-#define GENERATED 25                    /* words of a generated set of 2 tasks */
+#define GENERATED 25                    /* words of a generated set of 2 tasks, */
+#define GENERATED_8 73                  /* of 8, which have 390,625 plans, */
+#define GENERATED_9 81                  /* and of 9, which have 1,953,125 */
 #define MOST SEEDSPELL_GENERATED_WORDS
 
 static const uint32_t S[WORDS] = {100, 0, 3, 2, 4, 8, 2, 10, 12, 0, 4, 9, 20, 15, 20, 0, 7, 15, 30};
@@ -35,6 +37,11 @@ static void change(size_t place, uint32_t word)
 static uint64_t plan_set(size_t plan_len, size_t work_len, size_t results_len)
 {
     return seedspell_plan(set, WORDS, plan, plan_len, work, work_len, results, results_len);
+}
+
+static uint64_t plan_dull(size_t plan_len, size_t results_len)
+{
+    return seedspell_plan_dull(set, WORDS, plan, plan_len, results, results_len);
 }
 
 static uint64_t walk_plan(size_t plan_len)
@@ -92,6 +99,26 @@ int main(void)
         printf("tests/header: the walk with a first release does not go to 60\n");
         failures++;
     }
+    change(0, 0);
+    expect("slack 0, dull", plan_dull(ROOM, sizeof results), SEEDSPELL_REFUSED_BAD_SET_WORD, 0);
+    change(4, 2);
+    expect("rates 2 and 2, dull", plan_dull(ROOM, sizeof results), SEEDSPELL_REFUSED_RATE_NOT_ABOVE, 4);
+    change(1, 1);
+    expect("6 idle ticks for an energy of 4, dull", plan_dull(ROOM, sizeof results),
+           SEEDSPELL_REFUSED_ENERGY_BELOW_IDLE, 10);
+    change(7, 9999999);
+    expect("a long hyper-period, dull", plan_dull(ROOM, sizeof results), SEEDSPELL_REFUSED_HYPER_PERIOD_TOO_LONG, 13);
+    change(8, 81);
+    expect("81 cycles in 10 ticks, dull", plan_dull(ROOM, sizeof results), SEEDSPELL_REFUSED_NO_PLAN_FITS, 0);
+    change(0, 100);
+    expect("one plan word, dull", plan_dull(1, sizeof results), SEEDSPELL_REFUSED_RECEIVING_LIST_SHORT, 2);
+    expect("31 bytes for results, dull", plan_dull(ROOM, 31), SEEDSPELL_REFUSED_RECEIVING_LIST_SHORT, 32);
+    plan[0] = plan[1] = 0;
+    expect("S, dull", plan_dull(ROOM, sizeof results), 0, 0);
+    if (plan[0] != 2 || plan[1] != 1 || results[0] != 1 || results[24] != 41) {
+        printf("tests/header: the dull engine's plan is another\n");
+        failures++;
+    }
     expect("33 tasks", generate(33, GENERATED, sizeof results), SEEDSPELL_REFUSED_BAD_SET_WORD, 0);
     expect("a word short", generate(2, GENERATED - 1, sizeof results), SEEDSPELL_REFUSED_RECEIVING_LIST_SHORT,
            GENERATED);
@@ -106,5 +133,11 @@ int main(void)
     }
     expect("the generated set", seedspell_plan(generated, GENERATED, plan, ROOM, work, WORK, results, sizeof results),
            0, 0);
+    expect("9 tasks", generate(9, GENERATED_9, sizeof results), 0, 0);
+    expect("9 tasks, dull", seedspell_plan_dull(generated, GENERATED_9, plan, ROOM, results, sizeof results),
+           SEEDSPELL_REFUSED_TOO_MANY_PLANS, 0);
+    expect("8 tasks", generate(8, GENERATED_8, sizeof results), 0, 0);
+    expect("8 tasks, dull", seedspell_plan_dull(generated, GENERATED_8, plan, ROOM, results, sizeof results),
+           SEEDSPELL_REFUSED_RECEIVING_LIST_SHORT, 8);
     return failures > 0;
 }
