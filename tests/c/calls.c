@@ -1,8 +1,9 @@
-/* Calls the three entries of the archive many times and holds every answer, every lent word and what lies around the
-   lists to document 01, with the generator, the idle energy and the first releases of document 02's notes 1, 4 and 6,
-   as reference.c reads them.
+/* Calls the four entries of the archive many times and holds every answer, every lent word and what lies around the
+   lists to document 01, with the generator, the idle energy, the first releases and the dull engine of document 02's
+   notes 1, 4, 6 and 7, as reference.c reads them.
    The energy of a plan is also held to the least that there is, which least.c finds by going through all plans: to the
-   slack, and to the margin of document 02's note 5.
+   slack, and to the margin of document 02's note 5. And what the planner has returned and left is held to what the dull
+   engine has, for the same set and lengths.
 
        calls [SEED [RANDOM SETS]]
 
@@ -45,10 +46,13 @@
 #define SHIFT 16                        /* and up to so many more before it */
 #define BOTH_WAYS 5000                  /* up to this many plans, the reference is asked both ways at times */
 #define LONG_CALLS 20                   /* at most so many with a hyper-period over SHORT_SPAN */
+#define DULL_PLANS 1000                 /* up to this many plans, the dull engine is asked too, */
+#define MORE_PLANS 20000                /* up to this many now and then, and with more seldom */
+#define LARGE_PLANS 200000              /* so many are a large set */
 
-enum entry { PLAN, WALK, GENERATE, ENTRIES };
+enum entry { PLAN, DULL, WALK, GENERATE, ENTRIES };
 
-static const char *const names[ENTRIES] = {"seedspell_plan", "seedspell_walk", "seedspell_generate"};
+static const char *const names[ENTRIES] = {"seedspell_plan", "seedspell_plan_dull", "seedspell_walk", "seedspell_generate"};
 
 struct call {
     enum entry entry;
@@ -62,7 +66,7 @@ struct call {
 /* ---- Counts */
 
 static struct {
-    uint64_t calls[ENTRIES], refused[ENTRIES][11], results_short[ENTRIES];
+    uint64_t calls[ENTRIES], refused[ENTRIES][12], results_short[ENTRIES];
     uint64_t planned, kept, missed;
     uint64_t with_idle, idle_ticks, nothing_left, one_low, walked_low;
     uint64_t bad_first[ENTRIES], first_at_period[ENTRIES], planned_from;
@@ -70,6 +74,8 @@ static struct {
     uint64_t unit_1, unit_above_1, highest_last, full_load, one_over, alike, both_ways[2], preempted, full_walk, missed_at_end;
     uint64_t long_span;
     uint64_t judged_1, judged_above_1, above_least, margin_used, margin_of_several, margin_with_idle;
+    uint64_t dull_planned, dull_idle, dull_full, dull_unit_1, dull_unit_above_1, dull_alike, dull_first, dull_last, dull_large;
+    uint64_t one_task_over, power_wraps, compared, compared_planned, planned_beside_11;
     uint64_t generated, one_task, most_tasks, room_to_spare, generated_planned, generated_unplanned;
 } count;
 
@@ -111,6 +117,31 @@ static const struct row rows[] = {
     {"      by N x (unit - 1)", &count.margin_used, 1000},
     {"        of several tasks", &count.margin_of_several, 500},
     {"        with an idle energy", &count.margin_with_idle, 500},
+    {"calls of seedspell_plan_dull", &count.calls[DULL], 80000},
+    {"  refused 2: bad word", &count.refused[DULL][2], 10000},
+    {"    of these a first release", &count.bad_first[DULL], 2000},
+    {"      just the period", &count.first_at_period[DULL], 100},
+    {"  refused 3: rate not above", &count.refused[DULL][3], 1000},
+    {"  refused 10: energy below idle", &count.refused[DULL][10], 3000},
+    {"  refused 4: hyper-period", &count.refused[DULL][4], 1000},
+    {"  refused 11: too many plans", &count.refused[DULL][11], 3000},
+    {"    with one task too many", &count.one_task_over, 100},
+    {"    small again at 32 bits", &count.power_wraps, 50},
+    {"    where the planner plans", &count.planned_beside_11, 1000},
+    {"  refused 6: receiving list", &count.refused[DULL][6], 1000},
+    {"    of these the results", &count.results_short[DULL], 500},
+    {"  refused 7: no plan fits", &count.refused[DULL][7], 5000},
+    {"  plans", &count.dull_planned, 20000},
+    {"    with an idle energy", &count.dull_idle, 8000},
+    {"    of load L", &count.dull_full, 2000},
+    {"    unit 1", &count.dull_unit_1, 1000},
+    {"    unit above 1", &count.dull_unit_above_1, 1000},
+    {"    decided by rate numbers", &count.dull_alike, 1000},
+    {"    the first of all", &count.dull_first, 1000},
+    {"    the last of all", &count.dull_last, 1000},
+    {"    of 200,000 and more", &count.dull_large, 25},
+    {"  beside the planner's answers", &count.compared, 60000},
+    {"    of these plans", &count.compared_planned, 20000},
     {"calls of seedspell_walk", &count.calls[WALK], 80000},
     {"  refused 2: bad word", &count.refused[WALK][2], 10000},
     {"    of these a first release", &count.bad_first[WALK], 2000},
@@ -205,6 +236,46 @@ static void count_walk_from(const struct answer *want)
     }
 }
 
+static int all_are(const uint32_t *plan, size_t len, uint32_t rate)
+{
+    for (size_t t = 0; t < len; t++)
+        if (plan[t] != rate)
+            return 0;
+    return 1;
+}
+
+/* Of 11: whether one task less would not be too many, and whether M to the power N is small at 32 bits. */
+static void count_eleven(const uint32_t *set)
+{
+    uint64_t rates = set[2], tasks = set[3 + rates], power = 1;
+    uint32_t wrapped = 1;
+
+    for (uint64_t t = 0; t < tasks; t++) {
+        wrapped *= (uint32_t)rates;
+        if (t + 1 < tasks && power <= MANY_PLANS)
+            power *= rates;
+    }
+    count.one_task_over += power <= MANY_PLANS;
+    count.power_wraps += wrapped <= MANY_PLANS;
+}
+
+static void count_dull(const uint32_t *set, const struct answer *want)
+{
+    if (want->code >> 32 == 11)
+        count_eleven(set);
+    if (want->code != 0)
+        return;
+    count.dull_planned++;
+    count.dull_idle += set[1] > 0;
+    count.dull_full += want->value[1] == want->span;
+    count.dull_unit_1 += want->value[0] == 1;
+    count.dull_unit_above_1 += want->value[0] > 1;
+    count.dull_alike += want->alike > 1;
+    count.dull_first += all_are(want->plan, want->plan_words, 1);
+    count.dull_last += all_are(want->plan, want->plan_words, set[2]);
+    count.dull_large += want->plans >= LARGE_PLANS;
+}
+
 static void count_call(const struct call *c, const struct answer *want)
 {
     const uint32_t *set = c->set.word;
@@ -212,7 +283,7 @@ static void count_call(const struct call *c, const struct answer *want)
 
     count.calls[c->entry]++;
     count.refused[c->entry][refused]++;
-    count.long_span += want->span > SHORT_SPAN;
+    count.long_span += c->entry != DULL && want->span > SHORT_SPAN;     /* which takes the dull engine no longer */
     if (c->entry != GENERATE && refused == 2 && is_first(c, want->code & UINT32_MAX))
         count_bad_first(c, want->code & UINT32_MAX);
     count.results_short[c->entry] += want->code == ((uint64_t)6 << 32) + RESULT_BYTES && c->results_len < RESULT_BYTES;
@@ -232,6 +303,8 @@ static void count_call(const struct call *c, const struct answer *want)
         count.unit_above_1 += want->value[0] > 1;
         count.highest_last += want->plan[want->plan_words - 1] == set[2];
         count.alike += want->alike > 1;
+    } else if (c->entry == DULL) {
+        count_dull(set, want);
     } else if (c->entry == GENERATE && refused == 0) {
         count.generated++;
         count.one_task += c->tasks == 1;
@@ -375,11 +448,12 @@ static uint32_t *words(struct area *area)
 
 static void lend(const struct call *c)
 {
-    int plans = c->entry == PLAN, generates = c->entry == GENERATE;
+    int plans = c->entry == PLAN || c->entry == DULL, generates = c->entry == GENERATE;
+    size_t work_len = c->entry == PLAN ? c->work_len : 0;
 
     lay_out(&areas[SET], generates ? NULL : c->set.word, c->set_len, generates ? c->set_len : c->set.len);
     lay_out(&areas[PLAN_LIST], plans ? NULL : c->plan, c->plan_len, c->plan_len);
-    lay_out(&areas[WORK], NULL, plans ? c->work_len : 0, plans ? c->work_len : 0);
+    lay_out(&areas[WORK], NULL, work_len, work_len);
     lay_out(&areas[RESULTS], NULL, c->results_len, c->results_len);
     forbid_guards(&areas[SET], generates);
     forbid_guards(&areas[PLAN_LIST], plans);
@@ -394,6 +468,8 @@ static uint64_t make(const struct call *c)
 
     if (c->entry == PLAN)
         return seedspell_plan(set, c->set_len, plan, c->plan_len, work, c->work_len, results, c->results_len);
+    if (c->entry == DULL)
+        return seedspell_plan_dull(set, c->set_len, plan, c->plan_len, results, c->results_len);
     if (c->entry == WALK)
         return seedspell_walk(set, c->set_len, plan, c->plan_len, results, c->results_len);
     return seedspell_generate(c->seed, c->tasks, set, c->set_len, results, c->results_len);
@@ -403,6 +479,8 @@ static void expect(const struct call *c, enum way way, struct answer *want)
 {
     if (c->entry == PLAN)
         expect_plan(way, c->set.word, c->set_len, c->plan_len, c->work_len, c->results_len, want);
+    else if (c->entry == DULL)
+        expect_dull(c->set.word, c->set_len, c->plan_len, c->results_len, want);
     else if (c->entry == WALK)
         expect_walk(c->set.word, c->set_len, c->plan, c->plan_len, c->results_len, want);
     else
@@ -496,6 +574,10 @@ static void print_lent(const struct call *c)
         printf(", plan %zu, work %zu, results %zu\n", c->plan_len, c->work_len, c->results_len);
         return;
     }
+    if (c->entry == DULL) {
+        printf(", plan %zu, results %zu\n", c->plan_len, c->results_len);
+        return;
+    }
     printf(", plan %zu, results %zu\nwalk's plan:", c->plan_len, c->results_len);
     for (size_t i = 0; i < c->plan_len; i++)
         printf(" %" PRIu32, c->plan[i]);
@@ -578,13 +660,14 @@ static void ask_both_ways(const struct call *c, const struct answer *want)
     count.both_ways[want->plans > FEW_PLANS]++;
 }
 
-/* Makes a call and leaves what was expected of it; ends the run if the call departs from that. */
-static void try_call(const struct call *c, struct answer *want)
+/* Makes a call and leaves what was expected of it, and is, in the lists too; ends the run if the call departs from that.
+   Returns what the call did. */
+static uint64_t try_call(const struct call *c, struct answer *want)
 {
     uint64_t code;
 
     expect(c, BY_SIZE, want);
-    if (want->alike > 0 && want->plans <= BOTH_WAYS && count.calls[PLAN] % 8 == 0)
+    if (c->entry == PLAN && want->alike > 0 && want->plans <= BOTH_WAYS && count.calls[PLAN] % 8 == 0)
         ask_both_ways(c, want);
     count_call(c, want);
     lend(c);
@@ -597,6 +680,80 @@ static void try_call(const struct call *c, struct answer *want)
         exit(1);
     if (c->entry == PLAN && code == 0 && want->plans <= LEAST_PLANS)
         judge_energy(c);
+    return code;
+}
+
+/* What a call has returned and left of a plan. */
+struct outcome {
+    uint64_t code, value[4];
+    uint32_t plan[MOST_TASKS];
+};
+
+static void take(const struct call *c, uint64_t code, struct outcome *outcome)
+{
+    size_t tasks = code == 0 ? c->set.word[3 + c->set.word[2]] : 0;
+
+    *outcome = (struct outcome){.code = code};
+    memcpy(outcome->plan, words(&areas[PLAN_LIST]), tasks * sizeof *outcome->plan);
+    for (int k = 0; k < 4 && code == 0; k++)
+        outcome->value[k] = result(k);
+}
+
+static void print_outcome(const char *who, const struct outcome *outcome, size_t tasks)
+{
+    print_code(who, outcome->code);
+    if (outcome->code == 0)
+        printf("; results %" PRIu64 " %" PRIu64 " %" PRIu64 " %" PRIu64, outcome->value[0], outcome->value[1], outcome->value[2],
+               outcome->value[3]);
+    print_words("; plan", outcome->plan, outcome->code == 0 ? tasks : 0);
+    printf("\n");
+}
+
+/* 'Its refusals are the planner's without 5, and where both succeed the four numbers and the plan list are equal.' */
+static void compare_engines(const struct call *c, const struct outcome *planner, const struct outcome *dull)
+{
+    count.planned_beside_11 += dull->code >> 32 == 11 && planner->code == 0;
+    if (planner->code >> 32 == 5 || dull->code >> 32 == 11)
+        return;
+    if (memcmp(planner, dull, sizeof *planner) != 0) {
+        print_call(c);
+        printf("the planner and the dull engine differ\n");
+        print_outcome("planner", planner, c->set.word[3 + c->set.word[2]]);
+        print_outcome("dull engine", dull, c->set.word[3 + c->set.word[2]]);
+        exit(1);
+    }
+    count.compared++;
+    count.compared_planned += dull->code == 0;
+}
+
+/* Whether the dull engine is asked too: it refuses, or there are few plans; with more of them only at times. */
+static int is_quick(const struct answer *planned)
+{
+    if (planned->plans <= DULL_PLANS || planned->plans == MANY_PLANS)
+        return 1;
+    return one_in(planned->plans <= MORE_PLANS ? 10 : 200);
+}
+
+/* The dull engine, lent what the planner was but for the working words, beside what the planner has left. */
+static void try_dull(const struct call *planned, const struct outcome *planner)
+{
+    struct call c = *planned;
+    struct outcome dull;
+    struct answer want;
+
+    c.entry = DULL;
+    take(&c, try_call(&c, &want), &dull);
+    compare_engines(&c, planner, &dull);
+}
+
+/* A call of the planner, and one of the dull engine where that is quick. Leaves what was expected of the planner. */
+static void try_engines(const struct call *c, struct answer *planned)
+{
+    struct outcome planner;
+
+    take(c, try_call(c, planned), &planner);
+    if (is_quick(planned))
+        try_dull(c, &planner);
 }
 
 /* ---- Calls of a set */
@@ -625,14 +782,14 @@ static void start_call(struct call *c, enum entry entry, const struct list *set,
     c->set = *set;
     c->set_len = set_len;
     c->plan_len = is_set ? set->word[3 + set->word[2]] : MOST_TASKS;
-    c->work_len = entry == WALK ? 0 : is_set ? words_needed(set) : 3000;
+    c->work_len = entry != PLAN ? 0 : is_set ? words_needed(set) : 3000;
     c->results_len = RESULT_BYTES;
     for (size_t i = 0; i < MOST_PLAN; i++)
         c->plan[i] = 1;
 }
 
-/* Both calls of a list that may be no set; a hyper-period that would take long is left out. */
-static void try_both(const struct list *set, size_t set_len)
+/* All calls of a list that may be no set; a hyper-period that would take long is left out. */
+static void try_all(const struct list *set, size_t set_len)
 {
     struct call c;
     struct answer want;
@@ -645,7 +802,7 @@ static void try_both(const struct list *set, size_t set_len)
     c.plan_len += draw(0, 4);
     c.work_len += draw(0, 4);
     c.results_len += draw(0, 4);
-    try_call(&c, &want);
+    try_engines(&c, &want);
 }
 
 static void walk_under(const struct list *set, const uint32_t *plan, size_t plan_len, struct answer *want)
@@ -702,6 +859,16 @@ static void plan_lending(const struct list *set, size_t plan_len, size_t work_le
     start_call(&c, PLAN, set, set->len);
     c.plan_len = plan_len;
     c.work_len = work_len;
+    try_engines(&c, want);
+}
+
+static void dull_lending(const struct list *set, size_t plan_len, size_t results_len, struct answer *want)
+{
+    struct call c;
+
+    start_call(&c, DULL, set, set->len);
+    c.plan_len = plan_len;
+    c.results_len = results_len;
     try_call(&c, want);
 }
 
@@ -927,6 +1094,50 @@ static void cases_of_margin(void)
     demand(least_energy(set.word) == NO_ENERGY, "a least energy where no plan fits");
 }
 
+/* Document 01's set for the dull engine, and sets worked by hand in which the order of the plans decides: the first of two
+   twins is fast, 3 1 and not 1 2, the first plan of all where none differs, and the last where no other fits. */
+static void cases_of_dull(void)
+{
+    static const struct {
+        size_t len, tasks;
+        uint32_t word[24];
+        uint64_t value[4];
+        uint32_t plan[3];
+    } cases[] = {
+        {19, 2, {100, 0, 3, 2, 4, 8, 2, 10, 12, 0, 4, 9, 20, 15, 20, 0, 7, 15, 30}, {1, 29, 30, 41}, {2, 1}},
+        {19, 2, {1000, 0, 3, 2, 4, 8, 2, 10, 12, 0, 4, 9, 20, 15, 20, 0, 7, 15, 30}, {8, 28, 30, 42}, {1, 2}},
+        {11, 1, {100, 10, 2, 1, 9, 1, 100, 90, 0, 910, 200}, {1, 90, 100, 1010}, {1}},
+        {11, 1, {1000, 0, 2, 1, 2, 1, 30, 30, 0, 33, 33}, {32, 15, 30, 33}, {2}},
+        {11, 1, {100, 0, 2, 1, 2, 1, 30, 60, 0, 1, 2}, {1, 30, 30, 2}, {2}},
+        {16, 2, {100, 0, 2, 1, 2, 2, 3, 2, 0, 1, 3, 3, 2, 0, 1, 3}, {1, 3, 3, 4}, {2, 1}},
+        {19, 2, {100, 0, 3, 1, 2, 3, 2, 5, 3, 0, 1, 9, 3, 5, 4, 0, 1, 3, 9}, {1, 5, 5, 4}, {3, 1}},
+        {19, 2, {100, 0, 3, 1, 2, 3, 2, 5, 4, 0, 1, 3, 9, 5, 3, 0, 1, 9, 3}, {1, 5, 5, 4}, {2, 1}},
+        {21, 3, {1000, 0, 2, 1, 2, 3, 3, 1, 0, 5, 5, 3, 1, 0, 5, 5, 3, 1, 0, 5, 5}, {4, 3, 3, 15}, {1, 1, 1}},
+        {11, 1, {100, 10, 2, 1, 9, 1, 100, 90, 0, 900, 100}, {1, 10, 100, 1000}, {2}},
+    };
+    struct list set;
+    struct answer want;
+
+    for (size_t i = 0; i < COUNT(cases); i++) {
+        const uint64_t *value = cases[i].value;
+        set = list_of(cases[i].word, cases[i].len);
+        dull_lending(&set, cases[i].tasks, RESULT_BYTES, &want);
+        demand(has_values(&want, value[0], value[1], value[2], value[3])
+                   && memcmp(want.plan, cases[i].plan, cases[i].tasks * sizeof *want.plan) == 0, "a plan of the dull engine");
+        dull_lending(&set, cases[i].tasks - 1, RESULT_BYTES, &want);
+        demand(is_refusal(&want, 6, cases[i].tasks), "the dull engine's plan list");
+        dull_lending(&set, cases[i].tasks, RESULT_BYTES - 1, &want);
+        demand(is_refusal(&want, 6, 32), "the dull engine's results");
+    }
+    set = list_of((const uint32_t[]){100, 0, 2, 1, 2, 1, 30, 61, 0, 1, 2}, 11);
+    dull_lending(&set, 1, RESULT_BYTES, &want);
+    demand(is_refusal(&want, 7, 0), "61 cycles, for the dull engine");
+    dull_lending(&set, 1, RESULT_BYTES - 1, &want);
+    demand(is_refusal(&want, 6, 32), "the dull engine's results before 7");
+    dull_lending(&set, 0, RESULT_BYTES - 1, &want);
+    demand(is_refusal(&want, 6, 1), "the dull engine's plan list before its results");
+}
+
 /* Worked with a calculator: from seed 0 the draws are 15470, 18256, 53708, 43769, 25170, 40750, 22526, 41945, 33277,
    from 4294967295 they are 15445, 12311, 8835, from 174 19890, 3999, 62834, and from 378 25071, 37000, 41894. */
 static void cases_of_generator(void)
@@ -987,7 +1198,7 @@ static void edge_words(uint32_t rates, uint32_t tasks)
         uint32_t word = set.word[at];
         for (size_t i = 0; i < COUNT(ends); i++) {
             set.word[at] = ends[i];
-            try_both(&set, set.len);
+            try_all(&set, set.len);
         }
         set.word[at] = word;
     }
@@ -1005,7 +1216,7 @@ static void edge_lengths(uint32_t rates, uint32_t tasks)
     set.word[set.len + 1] = 10;
     set.len += 2;
     for (size_t len = 0; len <= set.len; len++)
-        try_both(&set, len);
+        try_all(&set, len);
 }
 
 /* One rate or task more than allowed, with all their words, and none or one fewer. */
@@ -1018,7 +1229,7 @@ static void edge_counts(void)
         for (uint32_t tasks = 0; tasks <= 33; tasks++) {
             plain_shape(&shape, rates, tasks);
             flatten(&shape, &set);
-            try_both(&set, set.len);
+            try_all(&set, set.len);
         }
 }
 
@@ -1036,9 +1247,9 @@ static void edge_rates(void)
                     shape.rate[i] = shape.rate[i - 1] - less / 2;
                     shape.rate[j] = shape.rate[j - 1] - less % 2;
                     flatten(&shape, &set);
-                    try_both(&set, set.len);
+                    try_all(&set, set.len);
                     set.word[set.len - 1] = 0;
-                    try_both(&set, set.len);
+                    try_all(&set, set.len);
                 }
 }
 
@@ -1057,12 +1268,12 @@ static void edge_periods(void)
                     shape.period[t] = 1;
             shape.period[at] = 11;
             flatten(&shape, &set);
-            try_both(&set, set.len);
+            try_all(&set, set.len);
             shape.period[5] = 10000000;         /* passes it again, later */
             flatten(&shape, &set);
-            try_both(&set, set.len);
+            try_all(&set, set.len);
             set.word[3] = 20;                   /* a rate not above the one before it comes first */
-            try_both(&set, set.len);
+            try_all(&set, set.len);
         }
 }
 
@@ -1082,7 +1293,10 @@ static void edge_lent(const struct list *set, uint32_t tasks)
                 c.work_len = work[i];
                 c.plan_len = plan[j];
                 c.results_len = results[k];
-                try_call(&c, &want);
+                if (work[i] == needed)
+                    try_engines(&c, &want);
+                else
+                    try_call(&c, &want);
             }
 }
 
@@ -1130,7 +1344,7 @@ static void edge_idle(uint32_t rates, uint32_t tasks, uint32_t idle, uint32_t le
     }
     raise_energies(&shape, idle);
     flatten(&shape, &set);
-    try_both(&set, set.len);
+    try_all(&set, set.len);
     for (size_t a = first; a < set.len; a++) {
         uint32_t word = set.word[a];
         size_t b = draw(first, set.len - 1);
@@ -1139,10 +1353,10 @@ static void edge_idle(uint32_t rates, uint32_t tasks, uint32_t idle, uint32_t le
         for (uint32_t low = 0; low < 3; low++) {
             uint32_t other = set.word[b];
             set.word[a] = low == 0 ? word - left - 1 : low == 1 ? word - left : 1;
-            try_both(&set, set.len);
+            try_all(&set, set.len);
             if (b != a && (b - first) % (3 + rates) > 2)
                 set.word[b] = low == 2 ? 1 : other - left - 1;
-            try_both(&set, set.len);
+            try_all(&set, set.len);
             set.word[b] = other;
             set.word[a] = word;
         }
@@ -1226,10 +1440,10 @@ static void edge_firsts(uint32_t rates, uint32_t tasks)
             plain_shape(&shape, rates, tasks);
             shape.first[t] = ends[i];
             flatten(&shape, &set);
-            try_both(&set, set.len);
+            try_all(&set, set.len);
             shape.first[draw(0, tasks - 1)] = ends[draw(0, COUNT(ends) - 1)];
             flatten(&shape, &set);
-            try_both(&set, set.len);
+            try_all(&set, set.len);
         }
 }
 
@@ -1270,9 +1484,70 @@ static void edge_load(void)
                 shape.period[0] = period;
                 shape.cycles[0] = period * rate + more - 1;
                 flatten(&shape, &set);
-                try_both(&set, set.len);
+                try_all(&set, set.len);
                 walk_under(&set, (const uint32_t[]){2}, 1, &(struct answer){0});
             }
+}
+
+/* For each number of rates the most tasks with M to the power N not over 1,000,000. */
+static const uint32_t most_tasks[MOST_RATES + 1] = {0, 0, 19, 12, 9, 8, 7, 7, 6};
+
+/* Every M and N, with lists of all lengths about what is needed, and with each cause that comes before 11 or after it:
+   where N words are not lent, there is 6 or 11, and no plan to be looked for. */
+static void edge_powers(void)
+{
+    static const size_t results[] = {0, 31, 32};
+    struct shape shape;
+    struct list set;
+    struct answer want;
+
+    for (uint32_t rates = 2; rates <= 8; rates++)
+        for (uint32_t tasks = 1; tasks <= 32; tasks++)
+            for (int kind = 0; kind < 6; kind++) {
+                int many = tasks > most_tasks[rates];
+                plain_shape(&shape, rates, tasks);
+                if (kind == 1)
+                    shape.cycles[tasks - 1] = 4000000000u;      /* no plan fits */
+                if (kind == 2)
+                    shape.period[tasks - 1] = 9999991;          /* with 40 too long */
+                if (kind == 3) {                                /* an energy below what waiting costs */
+                    shape.idle = 10;
+                    shape.cycles[tasks - 1] = 400;
+                }
+                if (kind == 4)
+                    shape.rate[rates - 1] = shape.rate[rates - 2];
+                if (kind == 5)
+                    shape.energy[tasks - 1][rates - 1] = 0;
+                flatten(&shape, &set);
+                for (size_t k = 0; k < COUNT(results); k++) {
+                    dull_lending(&set, tasks - 1, results[k], &want);
+                    demand(kind > 2 || (kind == 2 && tasks > 1) || is_refusal(&want, many ? 11 : 6, many ? 0 : tasks),
+                           "M to the power N");
+                    if (many)
+                        dull_lending(&set, tasks + k, results[k], &want);
+                }
+            }
+}
+
+/* As many plans as are allowed: the first is the best of them, the last, or one between. */
+static void edge_most_plans(void)
+{
+    struct shape shape;
+    struct list set;
+    struct answer want;
+
+    for (uint32_t rates = 2; rates <= 8; rates++)
+        for (uint32_t kind = 0; kind < 3; kind++) {
+            uint32_t tasks = most_tasks[rates];
+            plain_shape(&shape, rates, tasks);
+            for (uint32_t t = 0; t < tasks; t++) {
+                shape.period[t] = 40;
+                shape.cycles[t] = kind == 0 ? 10 : kind == 1 ? 40 / tasks * 10 * rates : 40 / tasks * 5 * rates + t;
+            }
+            flatten(&shape, &set);
+            dull_lending(&set, tasks, RESULT_BYTES, &want);
+            demand(want.code == 0 && (kind > 0 || all_are(want.plan, tasks, 1)), "the most plans");
+        }
 }
 
 /* The generator's lists of each length about what it needs, in all combinations, also where N is none that it takes. */
@@ -1324,7 +1599,7 @@ static void plan_and_walk(const struct list *set, struct answer *planned)
     struct answer want;
 
     start_call(&c, PLAN, set, set->len);
-    try_call(&c, planned);
+    try_engines(&c, planned);
     if (planned->code == 0)
         walk_under(set, planned->plan, planned->plan_words, &want);
 }
@@ -1475,7 +1750,7 @@ static void random_set(void)
     start_call(&c, PLAN, &set, set.len);
     if (one_in(4))
         unsettle(&c, tasks);
-    try_call(&c, &planned);
+    try_engines(&c, &planned);
     if (planned.code == 0) {
         walk_under(&set, planned.plan, tasks, &want);
         walk_from_others(&shape, planned.plan);
@@ -1494,8 +1769,25 @@ static void random_set(void)
     }
     if (one_in(6)) {
         damage(&set);
-        try_both(&set, set.len);
+        try_all(&set, set.len);
     }
+}
+
+/* A set with as many tasks as the dull engine takes, or one fewer. */
+static void random_large_set(void)
+{
+    uint32_t rates = (uint32_t)draw(2, 8), tasks = most_tasks[rates] - (uint32_t)draw(0, 1);
+    struct shape shape;
+    struct list set;
+    struct call c;
+    struct answer want;
+    struct outcome planner;
+
+    draw_shape_of(&shape, rates, tasks);
+    flatten(&shape, &set);
+    start_call(&c, PLAN, &set, set.len);
+    take(&c, try_call(&c, &want), &planner);
+    try_dull(&c, &planner);
 }
 
 static void random_calls(uint64_t sets)
@@ -1506,12 +1798,14 @@ static void random_calls(uint64_t sets)
         random_set();
         if (i % 8 == 0) {
             draw_long(&set);
-            try_both(&set, set.len);
+            try_all(&set, set.len);
         }
         if (i % 16 == 0) {
             draw_rubbish(&set);
-            try_both(&set, set.len);
+            try_all(&set, set.len);
         }
+        if (i % 2000 == 0)
+            random_large_set();
     }
 }
 
@@ -1567,6 +1861,7 @@ static void edge_calls(void)
     cases_of_idle();
     cases_of_margin();
     cases_of_firsts();
+    cases_of_dull();
     cases_of_generator();
     case_of_one_list();
     for (uint32_t rates = 2; rates <= 8; rates += 3) {
@@ -1588,6 +1883,8 @@ static void edge_calls(void)
     edge_idle_sets();
     edge_margins();
     edge_load();
+    edge_powers();
+    edge_most_plans();
     edge_small_walks();
     edge_generated_tasks();
     edge_seeds();
@@ -1608,6 +1905,7 @@ int main(int argc, char **argv)
     widest();
     if (!enough())
         return 1;
-    printf("%" PRIu64 " calls, all as the documents say\n", count.calls[PLAN] + count.calls[WALK] + count.calls[GENERATE]);
+    printf("%" PRIu64 " calls, all as the documents say\n",
+           count.calls[PLAN] + count.calls[DULL] + count.calls[WALK] + count.calls[GENERATE]);
     return 0;
 }

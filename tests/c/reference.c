@@ -1,5 +1,5 @@
-/* Document 01's checks, planner and walk, with document 02's idle energy and first releases, and its generator, read as
-   they stand there. Slow on purpose. */
+/* Document 01's checks, planner and walk, with document 02's idle energy and first releases, its dull engine and its
+   generator, read as they stand there. Slow on purpose. */
 
 #include <stdio.h>
 #include <stdlib.h>
@@ -130,16 +130,17 @@ static uint64_t check_4(struct task_set *s)
     return 0;
 }
 
-enum call { PLANNER, WALK };
+enum call { PLANNER, DULL, WALK };
 
-/* 'Planner: 2, 3, 4, .. Walk: 2, 3, 4, ..', and 10 'after 3, before 4, and never by walk or writer' */
+/* 'Planner: 2, 3, 4, .. Walk: 2, 3, 4, ..', and 10 'after 3, before 4, and never by walk or writer'; of the dull engine
+   'its refusals are the planner's without 5' */
 static uint64_t check_set(enum call call, const uint32_t *set, size_t set_len, struct task_set *s)
 {
     uint64_t refused = check_2(set, set_len, s);
 
     if (refused == 0)
         refused = check_3(s);
-    if (refused == 0 && call == PLANNER)
+    if (refused == 0 && call != WALK)
         refused = check_10(s);
     if (refused == 0)
         refused = check_4(s);
@@ -434,6 +435,134 @@ void expect_plan(enum way way, const uint32_t *set, size_t set_len, size_t plan_
             break;
     }
     give_plan(&s, unit, &best, answer);
+}
+
+/* ---- The dull way */
+
+/* One pass through all plans at a unit. Of each task, from 0, and rate number: the ticks of its jobs in a hyper-period,
+   and what they cost less H x these ticks, in units. */
+struct pass {
+    uint64_t rates, tasks, span;
+    uint64_t ticks[MOST_TASKS][MOST_RATES + 1], units[MOST_TASKS][MOST_RATES + 1];
+    uint32_t plan[MOST_TASKS];          /* the one that is looked at */
+    uint64_t k, load, alike;            /* of the best so far the rounded energy and the load; how many have both, 0 at first */
+    uint32_t best[MOST_TASKS];          /* and the first of these */
+};
+
+/* 'Among fitting plans with rounded energy k(d), take those with least load.' Of plans with both alike the first stays:
+   in the order of the pass it has 'the lowest rate number for task N, then for task N - 1, and so on down to task 1'. */
+static void look_at(struct pass *p, uint64_t units, uint64_t load)
+{
+    if (load > p->span)
+        return;
+    if (p->alike > 0 && units == p->k && load == p->load) {
+        p->alike++;
+        return;
+    }
+    if (p->alike > 0 && (units > p->k || (units == p->k && load > p->load)))
+        return;
+    p->k = units;
+    p->load = load;
+    p->alike = 1;
+    memcpy(p->best, p->plan, sizeof p->best);
+}
+
+/* 'In order of rate numbers with task 1 changing fastest': the first n tasks take all their rates while the others, which
+   add up to so much, stay as they are. */
+static void go_through(struct pass *p, uint64_t n, uint64_t units, uint64_t load)
+{
+    if (n == 0) {
+        look_at(p, units, load);
+        return;
+    }
+    for (uint32_t r = 1; r <= p->rates; r++) {
+        p->plan[n - 1] = r;
+        go_through(p, n - 1, units + p->units[n - 1][r], load + p->ticks[n - 1][r]);
+    }
+}
+
+/* What a task's jobs cost in a hyper-period beyond waiting. That a job costs no less is check 10, which a stand-in may be
+   without. */
+static uint64_t beyond_waiting(const struct task_set *s, uint64_t t, uint64_t r)
+{
+    uint64_t idle = s->idle * ((s->task[t].cycles + s->rate[r] - 1) / s->rate[r]);
+
+    return s->task[t].energy[r] < idle ? 0 : s->span / s->task[t].period * (s->task[t].energy[r] - idle);
+}
+
+static void pass_through(const struct task_set *s, uint64_t unit, struct pass *p)
+{
+    *p = (struct pass){.rates = s->rates, .tasks = s->tasks, .span = s->span};
+    for (uint64_t t = 0; t < s->tasks; t++)
+        for (uint64_t r = 1; r <= s->rates; r++) {
+            p->ticks[t][r] = s->span / s->task[t].period * ((s->task[t].cycles + s->rate[r] - 1) / s->rate[r]);
+            p->units[t][r] = (beyond_waiting(s, t, r) + unit - 1) / unit;
+        }
+    go_through(p, s->tasks, 0, 0);
+}
+
+/* 'M to the power N is over 1,000,000' */
+static int too_many(const struct task_set *s)
+{
+    uint64_t power = 1;
+
+    for (uint64_t t = 0; t < s->tasks && power <= 1000000; t++)
+        power *= s->rates;
+    return power > 1000000;
+}
+
+/* 11 'with 0; after 4', and then the planner's without 5 */
+static uint64_t check_dull(const struct task_set *s, size_t plan_len, size_t results_len)
+{
+    if (too_many(s))
+        return refusal(11, 0);
+    if (s->tasks > plan_len)
+        return refusal(6, s->tasks);
+    return RESULT_BYTES > results_len ? refusal(6, RESULT_BYTES) : 0;
+}
+
+static void give_best(const struct task_set *s, uint64_t unit, const struct pass *p, struct answer *answer)
+{
+    answer->value[0] = unit;
+    answer->value[1] = p->load;
+    answer->value[2] = p->span;
+    answer->value[3] = s->idle * p->span;
+    for (uint64_t t = 0; t < s->tasks; t++)
+        answer->value[3] += beyond_waiting(s, t, p->best[t]);
+    memcpy(answer->plan, p->best, s->tasks * sizeof *p->best);
+    answer->plan_words = s->tasks;
+    answer->alike = p->alike;
+}
+
+void expect_dull(const uint32_t *set, size_t set_len, size_t plan_len, size_t results_len, struct answer *answer)
+{
+    struct task_set s;
+    struct pass p;
+    uint64_t unit = 1, fastest = 0;
+
+    *answer = (struct answer){0};
+    answer->code = check_set(DULL, set, set_len, &s);
+    if (answer->code != 0)
+        return;
+    answer->span = s.span;
+    answer->plans = number_of_plans(&s);
+    answer->code = check_dull(&s, plan_len, results_len);
+    if (answer->code != 0)
+        return;
+    for (uint64_t t = 0; t < s.tasks; t++)
+        fastest += beyond_waiting(&s, t, s.rates);
+    while (unit < fastest)
+        unit *= 2;
+    pass_through(&s, unit, &p);
+    if (p.alike == 0) {
+        answer->code = refusal(7, 0);
+        return;
+    }
+    while (s.slack * p.k < 2000 * s.tasks && unit > 1) {
+        unit /= 2;
+        pass_through(&s, unit, &p);
+    }
+    give_best(&s, unit, &p, answer);
 }
 
 /* ---- The walk */

@@ -103,9 +103,14 @@ static uint32_t draw_slack(uint32_t tasks)
     }
 }
 
+static uint32_t draw_rate_count(uint32_t tasks)
+{
+    return one_in(4) ? 2 : draw_word(2, tasks > 8 ? 4 : 8);
+}
+
 static void draw_rates(struct shape *shape)
 {
-    uint32_t m = shape->rates = one_in(4) ? 2 : draw_word(2, shape->tasks > 8 ? 4 : 8), step = 0, rate = 0;
+    uint32_t m = shape->rates, step = 0, rate = 0;
 
     switch (draw(0, 4)) {
     case 0:                             /* the lowest there are */
@@ -288,11 +293,17 @@ void draw_firsts(struct shape *shape)
 
 void draw_shape(struct shape *shape)
 {
+    uint32_t tasks = draw_tasks();
+
+    draw_shape_of(shape, draw_rate_count(tasks), tasks);
+}
+
+void draw_shape_of(struct shape *shape, uint32_t rates, uint32_t tasks)
+{
     uint32_t span = draw_span();
 
-    *shape = (struct shape){0};
-    shape->tasks = draw_tasks();
-    shape->slack = draw_slack(shape->tasks);
+    *shape = (struct shape){.rates = rates, .tasks = tasks};
+    shape->slack = draw_slack(tasks);
     draw_rates(shape);
     draw_energies(shape);
     draw_tasks_of(shape, span);

@@ -37,6 +37,9 @@ void plain_shape(struct shape *shape, uint32_t rates, uint32_t tasks);
 /* A set with a hyper-period of at most SHORT_SPAN that passes checks 2, 3 and 4, and as a rule 10. */
 void draw_shape(struct shape *shape);
 
+/* The same of so many rates and tasks. */
+void draw_shape_of(struct shape *shape, uint32_t rates, uint32_t tasks);
+
 /* Gives a set first releases, each 0, the period - 1 or anything between. */
 void draw_firsts(struct shape *shape);
 
