@@ -292,7 +292,8 @@ static void explain(uint32_t number, uint32_t second)
         break;
     default:
         /* 5 and 6 too: this host lends as much as the planner asks for. 1 and 9 are of texts, which it does not read,
-           and 8 is of the walk's plan. */
+           8 is of the walk's plan, and 11 of the dull engine, which it does not call: a sheet may have any number of
+           plans, and the planner takes them all. */
         give_up("there is no cause for this refusal: host and archive do not belong together");
     }
 }
