@@ -15,7 +15,9 @@ use Rattle.numbers.specs.Numbers.{total, LeastPower}
 use Rattle.numbers.specs.declared.Power.{Power}
 use Rattle.numbers.proofs.Tests.{or-true, or-false}
 use Rattle.selection.specs.Plan.{Problem, Fitting, planEnergy, fastest, threshold, IsLeastOf, FallsShortOf, IsUsedOf}
-use Rattle.arrays.specs.Arrays.{optionAt, arrays, Small}
+use Rattle.selection.proofs.Bounds.{last-small, tried-in-table}
+use Rattle.selection.proofs.Fastest.{fastest-fits}
+use Rattle.arrays.specs.Arrays.{optionAt, arrays, Small, Asked}
 use Rattle.arrays.specs.declared.Request.{Request}
 use Rattle.arrays.proofs.Adding.{sum-low}
 
@@ -77,6 +79,21 @@ module _ {p : Problem} {G first k : ℕ} {unit : Power} (w : Tried p G first uni
     stops = ⊎-elim (λ z. inl z) (λ z. inr (k, least, z)) stop;
     goes-on = w .goes-on;
   }
+
+-- The least rounded energy of a unit that is tried is small.
+pub tried-low : {q : Request} {loads energies : List ℕ} {first k : ℕ} {unit : Power} → Asked q loads energies
+    → Tried (arrays q loads energies) (q .slack) first unit
+    → IsLeastOf (Fitting (arrays q loads energies)) (arrays q loads energies) (2 ^ (unit .exponent)) k → k ≤ 128000
+tried-low {q} {loads} {energies} {first} {k} {unit} g w least =
+    let p = arrays q loads energies in
+    let step =
+    ⊎-elim (λ e. inl e) (λ l. inr (w .goes-on (suc (unit .exponent)) (omega arith) l)) (eq-or-lt-of-le (w .tried)) in
+    omega (
+      arith,
+      tried-in-table (Fitting p) p (q .slack) (unit .exponent) k (g .slacks .0) (g .slacks .1) first (w .is-first)
+          (fastest-fits p (g .rates .0) (g .fits)) step least,
+      last-small (q .tasks) (q .slack) (g .tasks) (g .slacks .0),
+    )
 
 -- The rule's test, split.
 pub stops-true : (a x y : ℕ) → (eqb a 0 || leb x y) ≡ true → (a ≡ 0) ⊎ (x ≤ y)

@@ -3,9 +3,11 @@
 use Prim.Native.Nat.{ℕ, zero, suc, _+_, _*_, _≤_, _<_}
 use mathlib.Core.Path.{_≡_, refl, sym, ap, ap₂, _∙_}
 use mathlib.Core.List.{List, [], _∷_, map}
-use native.Mathlib.Nat.{add-zero, zero-add, add-suc, suc-add, mul-add}
+use mathlib.Core.Logic.{⊎-elim}
+use native.Mathlib.Nat.{add-zero, zero-add, add-suc, suc-add, mul-add, eq-or-lt-of-le, le-of-suc-le-suc}
 use native.Mathlib.Omega.{arith}
-use lib.ListN.{getD}
+use lib.ListN.{length, getD, set}
+use lib.Seq.{getD-set-same, getD-set-other}
 use Rattle.numbers.specs.Numbers.{All, total, over}
 use Rattle.numbers.proofs.Tests.{below-more}
 
@@ -55,6 +57,23 @@ pub total-bound : (f : ℕ → ℕ → ℕ) (c n : ℕ) (P : List ℕ) → ((t :
 unfolding total
 total-bound f c zero P h = omega arith
 total-bound f c (suc n) P h = omega (arith, total-bound f c n P (λ t l. h t (omega arith)), h n (omega arith))
+
+-- Where the number of one task is changed.
+pub total-set : (f : ℕ → ℕ → ℕ) (n : ℕ) (P : List ℕ) (t r : ℕ) → t < n → t < length P
+    → total f n (set P t r) + f t (getD P t 0) ≡ total f n P + f t r
+unfolding total
+total-set f zero P t r l h = absurd (omega arith)
+total-set f (suc n) P t r l h =
+    ⊎-elim
+    (λ (e : t ≡ n).
+    rw (← e)
+    (omega (
+      arith,
+      total-same f f t (set P t r) P (λ k m. ap (f k) (getD-set-other P t k r 0 (omega arith))),
+      ap (f t) (getD-set-same P t r 0 h),
+    )))
+    (λ (m : t < n). omega (arith, total-set f n P t r m h, ap (f n) (getD-set-other P t n r 0 (omega arith))))
+    (eq-or-lt-of-le (le-of-suc-le-suc l))
 
 -- ---- over a stretch of ticks
 pub over-join : (f : ℕ → ℕ) (t m n : ℕ) → over f t (m + n) ≡ over f t m + over f (t + m) n

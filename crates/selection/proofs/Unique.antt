@@ -13,7 +13,8 @@ use Rattle.numbers.proofs.Powers.{power-unique}
 use Rattle.selection.specs.Plan.{Problem, planLoad, planEnergy, rounded, NotAfter, IsChosenOf, fastest, QualifiesOf, FallsShortOf, IsUsedOf, IsPlannedOf}
 use Rattle.selection.proofs.Bounds.{least-unique}
 
-not-after-both : (n : ℕ) (P Q : List ℕ) → NotAfter n P Q → NotAfter n Q P → (t : ℕ) → t < n → getD P t 0 ≡ getD Q t 0
+pub not-after-both : (n : ℕ) (P Q : List ℕ) → NotAfter n P Q → NotAfter n Q P
+    → (t : ℕ) → t < n → getD P t 0 ≡ getD Q t 0
 not-after-both zero P Q a b t l = absurd (omega arith)
 not-after-both (suc n) P Q (inl a) (inl b) t l = absurd (omega arith)
 not-after-both (suc n) P Q (inl a) (inr b) t l = absurd (omega arith)
