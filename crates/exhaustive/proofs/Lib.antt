@@ -1,0 +1,5 @@
+pub mod Order
+pub mod Seeing
+pub mod Hands
+pub mod Chosen
+pub mod Counting
