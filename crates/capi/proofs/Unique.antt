@@ -7,14 +7,15 @@ use mathlib.Core.Logic.{⊎-elim}
 use lib.ListN.{length, drop}
 use Rattle.selection.specs.Plan.{Fitting}
 use Rattle.taskset.specs.Quantities.{problem}
-use Rattle.taskset.specs.Refusals.{number, second, Check, roomCheck, noneCheck, readyChecks, walkChecks}
-use Rattle.taskset.specs.Calls.{code, plannerValues, walkValues, PlannerGives, WalkAnswers}
+use Rattle.taskset.specs.Refusals.{number, second, Check, roomCheck, noneCheck, readyChecks, dullReadyChecks, dullChecks, walkChecks}
+use Rattle.taskset.specs.Calls.{code, plannerValues, walkValues, PlannerGives, DullGives, WalkAnswers}
 use Rattle.taskset.proofs.Checks.{AllSingle, not-both}
-use Rattle.taskset.proofs.Unique.{short-single, none-single, single-next, ready-single, walk-single, planner-unique, walk-unique, refusal-unique}
+use Rattle.taskset.proofs.Unique.{short-single, none-single, single-next, ready-single, dull-ready-single, dull-single}
+use Rattle.taskset.proofs.Unique.{walk-single, planner-unique, plan-unique, walk-unique, refusal-unique}
 use Rattle.draws.specs.Calls.{generatorChecks, GeneratorGives}
 use Rattle.draws.proofs.Unique.{generator-single, generator-unique}
 use Rattle.capi.specs.Entry.{resultBytes, resultSize, EntryGives, walkEntryChecks, WalkEntryGives, beforeSeven}
-use Rattle.capi.specs.Entry.{planEntryChecks, PlanEntry, generateEntryChecks, generatorValues, GenerateEntryGives}
+use Rattle.capi.specs.Entry.{planEntryChecks, PlanEntry, DullEntry, generateEntryChecks, generatorValues, GenerateEntryGives}
 
 -- ---- every entry. l₁ and l₂ are the other lists as two answers give them back: equal where the call's own answers make
 -- them so, and where both leave them as they were.
@@ -85,6 +86,16 @@ plan-entry-unique s plan work d plan₁ work₁ d₁ plan₂ work₂ d₂ x y g 
     (λ l₁ l₂ p q. lent-same l₁ l₂ (p .0 ∙ sym (q .0)) (p .1 ∙ sym (q .1)))
     (record { plan = plan₁; work = work₁ }) (record { plan = plan₂; work = work₂ }) d d₁ d₂ x y (g .gives) (h .gives) in
     record { returned = u .0; plan = ap (λ (l : Lent). l .plan) (u .1); work = ap (λ (l : Lent). l .work) (u .1); results = u .2 }
+
+-- ---- the dull engine
+pub dull-entry-unique : (s plan d plan₁ d₁ plan₂ d₂ : List ℕ) (x y : ℕ)
+    → DullEntry s plan d plan₁ d₁ x → DullEntry s plan d plan₂ d₂ y → (x ≡ y) × (plan₁ ≡ plan₂) × (d₁ ≡ d₂)
+dull-entry-unique s plan d plan₁ d₁ plan₂ d₂ x y g h =
+    let ready = dullReadyChecks s (length plan) in
+    entry-unique (planEntryChecks ready s (length d)) (plan-entry-single ready (dull-ready-single s (length plan)) s (length d))
+    (DullGives s plan) plannerValues (λ l. l ≡ plan)
+    (λ l₁ l₂ a b p q. plan-unique (dullChecks s (length plan)) (dull-single s (length plan)) s plan l₁ l₂ a b p q)
+    (λ l₁ l₂ p q. p ∙ sym q) plan₁ plan₂ d d₁ d₂ x y (g .gives) (h .gives)
 
 -- ---- the generator
 generate-entry-single : (seed n setLength size : ℕ) → AllSingle (generateEntryChecks seed n setLength size)

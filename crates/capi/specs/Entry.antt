@@ -9,8 +9,8 @@ use Rattle.selection.specs.Plan.{Fitting, planLoad}
 use Rattle.layout.specs.Words.{rateCount, taskCount}
 use Rattle.layout.specs.declared.Layout.the-variants.{Ordinary}
 use Rattle.taskset.specs.Quantities.{hyperPeriod, problem, walkTasks}
-use Rattle.taskset.specs.Refusals.{number, second, Check, Accepts, Refuses, _▹_, roomCheck, noneCheck, readyChecks, walkChecks}
-use Rattle.taskset.specs.Calls.{code, plannerValues, walkValues, RateNumber, PlannerGives, WalkAnswers}
+use Rattle.taskset.specs.Refusals.{number, second, Check, Accepts, Refuses, _▹_, roomCheck, noneCheck, readyChecks, dullReadyChecks, walkChecks}
+use Rattle.taskset.specs.Calls.{code, plannerValues, walkValues, RateNumber, PlannerGives, DullGives, WalkAnswers}
 use Rattle.taskset.specs.DemandThree.{Keeps, margin, PlanPromise, NoneKeeps, Together, KeptOwes, MissedOwes}
 use Rattle.taskset.specs.declared.Refusal.{Refusal}
 use Rattle.taskset.specs.declared.PlannerAnswer.{PlannerAnswer}
@@ -103,6 +103,10 @@ abbrev pub PlanEntry : (s plan work results plan′ work′ results′ : List �
 PlanEntry s plan work results plan′ work′ =
     PlansEntry (readyChecks s (length plan) (length work)) (PlannerGives s plan work plan′ work′) ((plan′ ≡ plan) × (work′ ≡ work)) s
     plan′ results
+
+-- THE DULL ENGINE FROM C (document 02, note 7). plan and results are the lists as lent, plan′ and results′ as given back.
+abbrev pub DullEntry : (s plan results plan′ results′ : List ℕ) → ℕ → Type 0
+DullEntry s plan results plan′ = PlansEntry (dullReadyChecks s (length plan)) (DullGives s plan plan′) (plan′ ≡ plan) s plan′ results
 
 -- THE GENERATOR FROM C (document 02, note 1). Its own checks, then the result bytes. The lengths are those of the set's
 -- list and of the result bytes.

@@ -6,7 +6,7 @@ ghost use Prim.Native.Nat.{_+_, _<_, _≤_, _^_};
 ghost use lib.ListN.{length};
 ghost use Rattle.taskset.specs.Refusals.{second};
 ghost use Rattle.taskset.specs.Calls.{code};
-ghost use Rattle.capi.specs.Entry.{PlanEntry, WalkEntry, GenerateEntry};
+ghost use Rattle.capi.specs.Entry.{PlanEntry, DullEntry, WalkEntry, GenerateEntry};
 ghost use Rattle.capi.specs.Put.{Placed, Four};
 use generator::Room;
 use taskset::Checked;
@@ -108,6 +108,40 @@ pub extern "C" fn seedspell_plan(
                 return code_of(Refusal::TooShort(32));
             }
             let answer = planner::plan_checked(set, plan, work, rates, tasks, hyper);
+            match answer {
+                PlannerAnswer::Refused(r) => code_of(r),
+                PlannerAnswer::Planned {
+                    unit,
+                    load,
+                    hyper,
+                    energy,
+                } => {
+                    put_values(results, unit, load, hyper, energy);
+                    0
+                }
+            }
+        }
+    }
+}
+
+// The dull engine: 0 and 32 result bytes (unit, load, L, energy), or a refusal. Too few result bytes are refused before 7.
+#[no_mangle]
+pub extern "C" fn seedspell_plan_dull(set: &[u32], plan: &mut [u32], results: &mut [u8]) -> u64
+    ensures { λ r. ⌜ DullEntry (now (set .entry)) (now (plan .entry)) (now (results .entry)) (now (plan .exit)) (now (results .exit)) r ⌝ }
+{
+    let checked = dull::ready(set, plan.len());
+    match checked {
+        Checked::Refused(r) => code_of(r),
+        Checked::Good {
+            rates,
+            tasks,
+            hyper,
+        } => {
+            let size = results.len();
+            if size < 32 {
+                return code_of(Refusal::TooShort(32));
+            }
+            let answer = dull::plan_checked(set, plan, rates, tasks, hyper);
             match answer {
                 PlannerAnswer::Refused(r) => code_of(r),
                 PlannerAnswer::Planned {

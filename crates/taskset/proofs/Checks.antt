@@ -59,9 +59,9 @@ module _ (c : Check) (ds : List Check) where
   accepts-leave [] a = a .1
   accepts-leave (d ∷ cs) a = (a .0, accepts-leave cs (a .1))
 
-  pub refuses-leave : (cs : List Check) (n k : ℕ) → (n ≡ c .number → ⊥) → Refuses (cs ++ (c ∷ ds)) n k → Refuses (cs ++ ds) n k
-  refuses-leave [] n k other r = ⊎-elim (λ h. absurd (other (h .0))) (λ h. h .1) r
-  refuses-leave (d ∷ cs) n k other r = ⊎-elim (λ h. inl h) (λ h. inr (h .0, refuses-leave cs n k other (h .1))) r
+  pub refuses-leave : (cs : List Check) (n k : ℕ) → ((n ≡ c .number) × c .cause k → ⊥) → Refuses (cs ++ (c ∷ ds)) n k → Refuses (cs ++ ds) n k
+  refuses-leave [] n k not r = ⊎-elim (λ h. absurd (not h)) (λ h. h .1) r
+  refuses-leave (d ∷ cs) n k not r = ⊎-elim (λ h. inl h) (λ h. inr (h .0, refuses-leave cs n k not (h .1))) r
 
   -- And taken in, where it passes.
   pub accepts-take : (cs : List Check) → Passes c → Accepts (cs ++ ds) → Accepts (cs ++ (c ∷ ds))

@@ -27,9 +27,10 @@ refusedWith (NotPlanned r) = number r
 
 -- What a call gives that makes one check less, or one more that passes.
 module _ (cs : List Check) (c : Check) (ds : List Check) (s plan plan′ : List ℕ) where
-  leave : (a : PlannerAnswer) → (refusedWith a ≡ c .number → ⊥) → PlanGives (cs ++ (c ∷ ds)) s plan plan′ a → PlanGives (cs ++ ds) s plan plan′ a
-  leave (Planned u l h e) other g = (accepts-leave c ds cs (g .0), g .1)
-  leave (NotPlanned r) other g = (refuses-leave c ds cs (number r) (second r) other (g .0), g .1)
+  pub leave : (a : PlannerAnswer) → ((k : ℕ) → (refusedWith a ≡ c .number) × c .cause k → ⊥) → PlanGives (cs ++ (c ∷ ds)) s plan plan′ a
+      → PlanGives (cs ++ ds) s plan plan′ a
+  leave (Planned u l h e) not g = (accepts-leave c ds cs (g .0), g .1)
+  leave (NotPlanned r) not g = (refuses-leave c ds cs (number r) (second r) (not (second r)) (g .0), g .1)
 
   take-in : (a : PlannerAnswer) → Passes c → PlanGives (cs ++ ds) s plan plan′ a → PlanGives (cs ++ (c ∷ ds)) s plan plan′ a
   take-in (Planned u l h e) pass g = (accepts-take c ds cs pass (g .0), g .1)
@@ -37,13 +38,13 @@ module _ (cs : List Check) (c : Check) (ds : List Check) (s plan plan′ : List 
 
 module _ (s : List ℕ) where
   -- The checks that both make, before 5 or 11 and after it.
-  abbrev set : List Check
+  abbrev pub set : List Check
   set = idleChecks Ordinary s ▹ hyperCheck Ordinary s
 
-  abbrev rest : ℕ → List Check
+  abbrev pub rest : ℕ → List Check
   rest planLength = roomCheck (taskCount Ordinary s) planLength ∷ noneCheck (Fitting (problem s)) ∷ []
 
-  both-single : (planLength : ℕ) → AllSingle (set ++ rest planLength)
+  pub both-single : (planLength : ℕ) → AllSingle (set ++ rest planLength)
   both-single pl =
       single-next (set ▹ roomCheck (taskCount Ordinary s) pl) (noneCheck (Fitting (problem s)))
       (single-next set (roomCheck (taskCount Ordinary s) pl) (covered-single Ordinary s) (short-single (taskCount Ordinary s) pl))
@@ -69,12 +70,12 @@ module _ (s : List ℕ) where
         → (refusedWith a ≡ 5 → ⊥) → (refusedWith b ≡ 11 → ⊥) → (a ≡ b) × (plan₁ ≡ plan₂)
     one-answer a b x y not-5 not-11 =
         plan-unique (set ++ rest (length plan)) (both-single (length plan)) s plan plan₁ plan₂ a b
-        (leave set (workCheck (workNeeded s) (length work)) (rest (length plan)) s plan plan₁ a not-5 (x .0))
-        (leave set (manyCheck Ordinary s) (rest (length plan)) s plan plan₂ b not-11 y)
+        (leave set (workCheck (workNeeded s) (length work)) (rest (length plan)) s plan plan₁ a (λ k h. not-5 (h .0)) (x .0))
+        (leave set (manyCheck Ordinary s) (rest (length plan)) s plan plan₂ b (λ k h. not-11 (h .0)) y)
 
   -- What the planner gives with any answer but 5, the dull engine gives where the plans are few enough.
   pub as-dull : (plan work plan′ work′ : List ℕ) (a : PlannerAnswer) → PlannerGives s plan work plan′ work′ a → (refusedWith a ≡ 5 → ⊥)
       → Passes (manyCheck Ordinary s) → DullGives s plan plan′ a
   as-dull plan work plan′ work′ a x not-5 many =
       take-in set (manyCheck Ordinary s) (rest (length plan)) s plan plan′ a many
-      (leave set (workCheck (workNeeded s) (length work)) (rest (length plan)) s plan plan′ a not-5 (x .0))
+      (leave set (workCheck (workNeeded s) (length work)) (rest (length plan)) s plan plan′ a (λ k h. not-5 (h .0)) (x .0))
