@@ -3,4 +3,4 @@ pub mod Entries
 pub mod PlanEntries
 pub mod GenerateEntries
 pub mod Unique
-pub mod Engines
+pub mod TwoEngines

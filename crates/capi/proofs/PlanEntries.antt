@@ -1,7 +1,7 @@
 -- From the answers of a call that plans to what its C entry gives.
 -- Assumes nothing.
 use Prim.Native.Nat.{ℕ, _-_, _^_, _≤_, _<_}
-use mathlib.Core.Path.{_≡_, refl, sym, ap, _∙_}
+use mathlib.Core.Path.{_≡_, refl, sym, ap, subst, _∙_}
 use mathlib.Core.List.{List, [], _∷_, _++_}
 use mathlib.Core.Logic.{inl, inr}
 use native.Mathlib.Omega.{arith}
@@ -16,13 +16,14 @@ use Rattle.taskset.specs.DemandThree.{PlanPromise}
 use Rattle.taskset.specs.declared.Refusal.{Refusal}
 use Rattle.taskset.specs.declared.Refusal.the-variants.{TooShort}
 use Rattle.taskset.specs.declared.PlannerAnswer.{PlannerAnswer}
-use Rattle.taskset.specs.declared.PlannerAnswer.the-variants.{Planned}
+use Rattle.taskset.specs.declared.PlannerAnswer.the-variants.{Planned, Refused as NotPlanned}
 use Rattle.taskset.proofs.Checks.{without-next, accepts-back, accepts-but-last, accepts-next}
 use Rattle.taskset.proofs.Checks.{refuses-next, refuses-before, refuses-back, refuses-rest}
 use Rattle.taskset.proofs.Sets.{energy-small}
 use Rattle.taskset.proofs.DemandThree.{Plans, refusal-owes, answer-owes}
 use Rattle.taskset.proofs.Margin.{unit-small, margin-small}
 use Rattle.capi.specs.Entry.{resultBytes, resultAt, resultSize, beforeSeven, planEntryChecks, PlansEntry}
+use Rattle.capi.specs.Put.{Four, AnswerSmall, AnswerPut}
 use Rattle.capi.proofs.Bytes.{result-value}
 use Rattle.capi.proofs.Entries.{code-positive}
 
@@ -67,7 +68,7 @@ module _ (s : List ℕ) (cs : List Check) (plans : Plans s cs)
         }
 
     -- The checks before 7 have passed, and the results fit: what is left to refuse is 7.
-    pub answer-refused : (r : Refusal) (x : ℕ) → x ≡ code r → Accepts cs → 32 ≤ length d → Refuses (cs ▹ seven) (number r) (second r)
+    answer-refused : (r : Refusal) (x : ℕ) → x ≡ code r → Accepts cs → 32 ≤ length d → Refuses (cs ▹ seven) (number r) (second r)
         → PlansEntry cs Gives Unchanged s plan′ d d x
     answer-refused r x e a enough h =
         refused r x e (small (number r) (second r) h)
@@ -100,7 +101,7 @@ module _ (s : List ℕ) (cs : List Check) (plans : Plans s cs)
     read : (k : ℕ) → k < 4 → getD (unit ∷ load ∷ hyper ∷ energy ∷ []) k 0 < 2 ^ 64 → resultAt d′ k ≡ getD (unit ∷ load ∷ hyper ∷ energy ∷ []) k 0
     read k l h = ap (λ (x : List ℕ). resultAt x k) bytes ∙ result-value (unit ∷ load ∷ hyper ∷ energy ∷ []) (drop 32 d) k l h
 
-    pub entry-planned : PlansEntry cs Gives Unchanged s plan′ d d′ 0
+    entry-planned : PlansEntry cs Gives Unchanged s plan′ d d′ 0
     entry-planned =
         let set = before-plans .set six-passes in
         let P = g .1 .0 in
@@ -133,3 +134,30 @@ module _ (s : List ℕ) (cs : List Check) (plans : Plans s cs)
           hyper-is = λ z. hyper-read ∙ hyper-is;
           seven-iff = ((λ z. absurd (omega arith)), (λ n. absurd (n .1 (take (taskCount Ordinary s) plan′) (promise .keeps))));
         }
+
+  -- Any answer, after the checks before 7, and what was put of it.
+  pub answered : Accepts cs → 32 ≤ length d → (plan plan′ d′ : List ℕ) (x : ℕ) (a : PlannerAnswer)
+      → PlanGives (cs ▹ seven) s plan plan′ a → Gives a → ((r : Refusal) → Gives (NotPlanned r) → Unchanged) → RateNumbers s plan′ a
+      → AnswerPut a d d′ x → PlansEntry cs Gives Unchanged s plan′ d d′ x
+  answered accepts enough plan plan′ d′ x (Planned unit load hyper energy) g gives unchanged numbers put =
+      rw (put .0) (entry-planned enough plan plan′ d′ unit load hyper energy g gives numbers (put .1 .bytes))
+  answered accepts enough plan plan′ d′ x (NotPlanned r) g gives unchanged numbers put =
+      rw (put .1) (answer-refused plan′ (unchanged r gives) r x (put .0) accepts enough (g .0))
+
+-- The second number of an answer is small where those of its checks are.
+pub answer-small : (s : List ℕ) (cs : List Check) → ((n k : ℕ) → Refuses cs n k → k < 2 ^ 32) → (plan plan′ : List ℕ) (a : PlannerAnswer)
+    → PlanGives cs s plan plan′ a → AnswerSmall a
+answer-small s cs small plan plan′ (Planned unit load hyper energy) g = tt
+answer-small s cs small plan plan′ (NotPlanned r) g = small (number r) (second r) (g .0)
+
+-- What is put of an answer, by its cases; it leaves as many bytes as there were.
+pub put-refused : (d : List ℕ) (x : ℕ) (r : Refusal) (a : PlannerAnswer) → a ≡ NotPlanned r → x ≡ code r → AnswerPut a d d x
+put-refused d x r a e h = subst (λ (z : PlannerAnswer). AnswerPut z d d x) (sym e) (h, refl)
+
+pub put-planned : (d d′ : List ℕ) (unit load hyper energy : ℕ) (a : PlannerAnswer) → a ≡ Planned unit load hyper energy
+    → Four unit load hyper energy d d′ → AnswerPut a d d′ 0
+put-planned d d′ unit load hyper energy a e f = subst (λ (z : PlannerAnswer). AnswerPut z d d′ 0) (sym e) (refl, f)
+
+pub put-size : (a : PlannerAnswer) (d d′ : List ℕ) (x : ℕ) → AnswerPut a d d′ x → length d′ ≡ length d
+put-size (Planned unit load hyper energy) d d′ x put = put .1 .size
+put-size (NotPlanned r) d d′ x put = ap length (put .1)

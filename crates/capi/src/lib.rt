@@ -7,7 +7,7 @@ ghost use lib.ListN.{length};
 ghost use Rattle.taskset.specs.Refusals.{second};
 ghost use Rattle.taskset.specs.Calls.{code};
 ghost use Rattle.capi.specs.Entry.{PlanEntry, DullEntry, WalkEntry, GenerateEntry};
-ghost use Rattle.capi.specs.Put.{Placed, Four};
+ghost use Rattle.capi.specs.Put.{Placed, Four, AnswerSmall, AnswerPut};
 use generator::Room;
 use taskset::Checked;
 use taskset::PlannerAnswer;
@@ -45,6 +45,25 @@ fn put_values(d: &mut [u8], a: u64, b: u64, c: u64, e: u64)
     put_value(d, 8, b);
     put_value(d, 16, c);
     put_value(d, 24, e);
+}
+
+// Leaves the answer of a call that plans: 0 and its four values, or a refusal.
+fn put_answer(d: &mut [u8], answer: PlannerAnswer) -> u64
+    requires { ⌜ (32 ≤ length (now d)) × AnswerSmall answer ⌝ }
+    ensures { λ r. ⌜ AnswerPut answer (now (d .entry)) (now (d .exit)) r ⌝ }
+{
+    match answer {
+        PlannerAnswer::Refused(r) => code_of(r),
+        PlannerAnswer::Planned {
+            unit,
+            load,
+            hyper,
+            energy,
+        } => {
+            put_values(d, unit, load, hyper, energy);
+            0
+        }
+    }
 }
 
 // The walk: 0 and 32 result bytes (1, busy, idle, preempted; or 0, tick, task, 0), or a refusal. Too few result bytes
@@ -108,18 +127,7 @@ pub extern "C" fn seedspell_plan(
                 return code_of(Refusal::TooShort(32));
             }
             let answer = planner::plan_checked(set, plan, work, rates, tasks, hyper);
-            match answer {
-                PlannerAnswer::Refused(r) => code_of(r),
-                PlannerAnswer::Planned {
-                    unit,
-                    load,
-                    hyper,
-                    energy,
-                } => {
-                    put_values(results, unit, load, hyper, energy);
-                    0
-                }
-            }
+            put_answer(results, answer)
         }
     }
 }
@@ -142,18 +150,7 @@ pub extern "C" fn seedspell_plan_dull(set: &[u32], plan: &mut [u32], results: &m
                 return code_of(Refusal::TooShort(32));
             }
             let answer = dull::plan_checked(set, plan, rates, tasks, hyper);
-            match answer {
-                PlannerAnswer::Refused(r) => code_of(r),
-                PlannerAnswer::Planned {
-                    unit,
-                    load,
-                    hyper,
-                    energy,
-                } => {
-                    put_values(results, unit, load, hyper, energy);
-                    0
-                }
-            }
+            put_answer(results, answer)
         }
     }
 }

@@ -232,13 +232,12 @@ module _ (q : Request) where
     cost-is = c;
   }
 
-  pub going-start : {loads cost : List ℕ} {s : Sums} {l r : ℕ} → Posed q loads cost
-      → InHand q loads cost (replicate 32 1) s
-      → Going q loads cost (replicate 32 1) s 0 (record { cost = noCost; load = l; rank = r })
-  going-start {loads} {cost} g h = record {
+  pub going-start : {loads cost : List ℕ} {s : Sums} {b : Best} → Posed q loads cost → b .cost ≡ noCost
+      → InHand q loads cost (replicate 32 1) s → Going q loads cost (replicate 32 1) s 0 b
+  going-start {loads} {cost} g none h = record {
     hand = h;
     place = λ l. ones-rank (g .tasks .1);
-    seen = seen-none (arrays q loads cost);
+    seen = seen-none (arrays q loads cost) none;
   }
 
 module _ {q : Request} {loads cost P : List ℕ} {s : Sums} {i : ℕ} {b : Best} (g : Posed q loads cost)

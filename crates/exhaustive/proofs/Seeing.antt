@@ -1,7 +1,7 @@
 -- The best of the plans looked at so far, a plan a turn; and the best of all is the plan chosen.
 -- Assumes nothing.
 use Prim.Native.Nat.{ℕ, _+_, _^_, _≤_, _<_}
-use mathlib.Core.Path.{_≡_, refl, sym, ap, _∙_}
+use mathlib.Core.Path.{_≡_, sym, ap, _∙_}
 use mathlib.Core.List.{List}
 use mathlib.Core.Logic.{_⊎_, inl, inr, ⊎-elim}
 use native.Mathlib.Nat.{eq-or-lt-of-le}
@@ -21,9 +21,9 @@ pub plan-numbered : {p : Problem} {P : List ℕ} → IsPlan p P → Numbered (p 
 plan-numbered g = record { above = g .above; below = g .below }
 
 -- Before the first plan.
-pub seen-none : (p : Problem) {l r : ℕ} → Seen p 0 (record { cost = noCost; load = l; rank = r })
-seen-none p = record {
-  kept = inl refl;
+pub seen-none : (p : Problem) {b : Best} → b .cost ≡ noCost → Seen p 0 b
+seen-none p none = record {
+  kept = inl none;
   least-cost = λ Q f l. absurd (omega arith);
   least-load = λ Q f l e. absurd (omega arith);
   first = λ Q f l e w. absurd (omega arith);

@@ -6,7 +6,7 @@ ghost use mathlib.Core.Path.{_≡_};
 ghost use Prim.Native.Nat.{suc, _+_, _^_, _≤_, min};
 ghost use lib.ListN.{replicate};
 ghost use Rattle.arrays.specs.Arrays.{arrays, ChosenBy};
-ghost use Rattle.exhaustive.specs.Engine.{mostPlans, Looked, Seen, Posed, InHand, ChangeReady, Changed};
+ghost use Rattle.exhaustive.specs.Engine.{mostPlans, noCost, Looked, Seen, Posed, InHand, ChangeReady, Changed};
 ghost use Rattle.exhaustive.specs.Engine.{BlockReady, AdvanceReady, Advanced, AllReady, UnitReady, ChosenAt};
 ghost use Rattle.exhaustive.specs.Engine.{UnitUsed, PutReady, PlanPut, ExhaustiveReady};
 use arrays::Choice;
@@ -103,11 +103,11 @@ fn look(limit: u32, s: Sums, rank: usize, b: Best) -> Best
     if (limit as u64) < s.load {
         return b;
     }
-    if s.cost < b.cost {
-        return here;
-    }
     if b.cost < s.cost {
         return b;
+    }
+    if s.cost < b.cost {
+        return here;
     }
     if s.load < b.load {
         return here;
@@ -159,15 +159,15 @@ fn advance(
     sums
 }
 
-// The best of all plans.
-fn best_plan(loads: &[u64; 512], cost: &[usize; 512], q: Request, plans: usize) -> Best
-    requires { ⌜ Posed q (now loads) (now cost) × (plans ≡ q .rates ^ q .tasks) ⌝ }
+// The best of all plans; none is the cost of what is kept before the first.
+fn best_plan(loads: &[u64; 512], cost: &[usize; 512], q: Request, plans: usize, none: usize) -> Best
+    requires { ⌜ Posed q (now loads) (now cost) × (plans ≡ q .rates ^ q .tasks) × (none ≡ noCost) ⌝ }
     ensures { λ r. ⌜ Seen (arrays q (now (loads .entry)) (now (cost .entry))) (q .rates ^ q .tasks) r ⌝ }
 {
     let mut hand: [usize; 32] = [1; 32];
     let mut s = first_sums(loads, cost, q);
     let mut b = Best {
-        cost: NO_COST,
+        cost: none,
         load: 0,
         rank: 0,
     };
@@ -180,25 +180,32 @@ fn best_plan(loads: &[u64; 512], cost: &[usize; 512], q: Request, plans: usize) 
     b
 }
 
-// The plan chosen by a unit.
-fn best_at(loads: &[u64; 512], energies: &[u64; 512], q: Request, unit: Power, plans: usize) -> Best
-    requires { ⌜ UnitReady q (now loads) (now energies) unit plans ⌝ }
+// The plan chosen by a unit; none is the cost of what is kept before the first plan.
+fn best_at(
+    loads: &[u64; 512],
+    energies: &[u64; 512],
+    q: Request,
+    unit: Power,
+    plans: usize,
+    none: usize,
+) -> Best
+    requires { ⌜ UnitReady q (now loads) (now energies) unit plans × (none ≡ noCost) ⌝ }
     ensures { λ r. ⌜ ChosenAt (arrays q (now (loads .entry)) (now (energies .entry))) (2 ^ unit .exponent) r ⌝ }
 {
     let mut cost: [usize; 512] = [0; 512];
     arrays::round_up(energies, q.tasks, unit, &mut cost);
-    best_plan(loads, &cost, q, plans)
+    best_plan(loads, &cost, q, plans, none)
 }
 
-// Finds the unit used: tries the first unit and halves it until the rule stops. Nothing is kept from one unit to the
+// Finds the unit used: tries the first unit and halves it until the rule stops. No plan is kept from one unit to the
 // next.
 fn find_unit(loads: &[u64; 512], energies: &[u64; 512], q: Request, plans: usize) -> Used
     requires { ⌜ AllReady q (now loads) (now energies) plans ⌝ }
     ensures { λ r. ⌜ UnitUsed q (now (loads .entry)) (now (energies .entry)) r ⌝ }
 {
     let mut unit = numbers::least_power(arrays::fastest_sum(energies, q.tasks, q.rates));
+    let mut best = best_at(loads, energies, q, unit, plans, NO_COST);
     loop {
-        let best = best_at(loads, energies, q, unit, plans);
         if arrays::stops(unit, q.tasks, q.slack, best.cost) {
             return Used {
                 unit: unit.value,
@@ -206,6 +213,7 @@ fn find_unit(loads: &[u64; 512], energies: &[u64; 512], q: Request, plans: usize
             };
         }
         unit = arrays::halved(unit);
+        best = best_at(loads, energies, q, unit, plans, NO_COST);
     }
 }
 

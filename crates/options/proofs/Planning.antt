@@ -2,7 +2,7 @@
 -- Assumes nothing.
 use Prim.Native.Nat.{ℕ, _+_, _-_, _*_, _^_, _≤_, _<_}
 use mathlib.Core.Path.{_≡_, refl, _∙_}
-use mathlib.Core.List.{List, [], _∷_}
+use mathlib.Core.List.{List}
 use mathlib.Core.Logic.{⊎-elim}
 use native.Mathlib.Omega.{arith}
 use lib.ListN.{length, take, getD}
@@ -10,9 +10,9 @@ use lib.Seq.{getD-take}
 use Rattle.numbers.proofs.Tests.{lt-or-le}
 use Rattle.selection.specs.Plan.{Problem, planLoad, Fitting, IsPlan}
 use Rattle.selection.proofs.Same.{plan-same, load-same, energy-same, planned-same}
-use Rattle.layout.specs.Words.{mostTasks, mostIdle, idlePlace, slack, idle, rateCount, taskCount}
+use Rattle.layout.specs.Words.{slack, idle, rateCount, taskCount}
 use Rattle.layout.specs.declared.Layout.the-variants.{Ordinary}
-use Rattle.taskset.specs.Quantities.{hyperLimit, hyperPeriod, problem, reportedEnergy}
+use Rattle.taskset.specs.Quantities.{hyperPeriod, problem, reportedEnergy}
 use Rattle.taskset.specs.Refusals.{IsShort, Check, Accepts, _▹_, noneCheck}
 use Rattle.taskset.specs.Calls.{plannerValues, SetAfter, Selected, HoldsPlan, RateNumbers, PlanGives}
 use Rattle.taskset.specs.declared.Refusal.the-variants.{NoPlan}

@@ -49,12 +49,12 @@ many-plans : tie.Need-returns
 many-plans c =
     let w = c .before in
     own-refused _ (eleven w) (start (good w) .args .plan-len) (passed (good w)) TooManyPlans refl
-    (too-many (passed (good w)) (w .plan-count .ensures) (c .if1 .taken))
+    (too-many (passed (good w)) (w .plan-count .ensures) (omega (arith, c .if1 .taken)))
 
 short-plan : tie.Need-returns-2
 short-plan c =
     let w = c .before .before in
-    plan-short _ (eleven w) (start (good w) .args .plan-len) (passed (good w)) (few w (c .before .if1 .left)) (c .if2 .taken)
+    plan-short _ (eleven w) (start (good w) .args .plan-len) (passed (good w)) (few w (omega (arith, c .before .if1 .left))) (c .if2 .taken)
 
 refused : tie.Need-returns-3
 refused c =
@@ -68,7 +68,7 @@ refused c =
 all-passed : tie.Need-returns-4
 all-passed c =
     let w = c .before .before in
-    is-ready _ (eleven w) (start (good w) .args .plan-len) (passed (good w)) (few w (c .before .if1 .left)) (c .if2 .left)
+    is-ready _ (eleven w) (start (good w) .args .plan-len) (passed (good w)) (few w (omega (arith, c .before .if1 .left))) (c .if2 .left)
 
 pub ready-spec : {M : Type 1} → statement M
 ready-spec =

@@ -10,10 +10,10 @@ returns : tie.Need-returns
 returns c = inl (refl, λ l. absurd (omega arith))
 
 returns-2 : tie.Need-returns-2
-returns-2 c = inr (refl, record { fits = omega arith; cost = omega arith; load = λ e. absurd (omega arith) })
+returns-2 c = inl (refl, λ l. (omega arith, λ e. absurd (omega arith)))
 
 returns-3 : tie.Need-returns-3
-returns-3 c = inl (refl, λ l. (omega arith, λ e. absurd (omega arith)))
+returns-3 c = inr (refl, record { fits = omega arith; cost = omega arith; load = λ e. absurd (omega arith) })
 
 returns-4 : tie.Need-returns-4
 returns-4 c = inr (refl, record { fits = omega arith; cost = omega arith; load = λ e. omega arith })

@@ -3,7 +3,6 @@
 use native.Mathlib.Omega.{arith}
 use Rattle.options.specs.Posed.{SetGiven}
 use Rattle.options.proofs.Posing.{hyper-fits, some-words, tasks-given, sum-given, none-fits, posed}
-use borrow.Author.Needs.{needs}
 use Rattle.options.proofs.pose.Statement.{statement}
 use Rattle.options.proofs.pose.Tie as tie
 
