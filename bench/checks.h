@@ -71,8 +71,8 @@ static inline uint64_t job_time(uint64_t cycles, uint64_t rate)
     return (cycles + rate - 1) / rate;
 }
 
-/* Check 10, which the planner makes alone: no energy is below what waiting would
-   draw in the ticks of the job. */
+/* Check 10, which the planner and the dull engine make alone: no energy is below
+   what waiting would draw in the ticks of the job. */
 static inline uint64_t check_energies(const uint32_t *set)
 {
     size_t rates = set[2], at = 4 + rates;

@@ -284,7 +284,8 @@ static int measure(const char *name, int count, int repetitions)
         fprintf(stderr, "bench: %s, %" PRIu32 " tasks, %" PRIu32 " rates: no set has a plan\n", name, tasks, rates);
         return 0;
     }
-    printf("%-9s %3" PRIu32 " %2" PRIu32 " %5" PRIu32 " %4d %7" PRIu64 " %6.1f %11.2f %11.2f %6.2f %8.3f %11.2f %9.2f\n",
+    printf("%-9s %3" PRIu32 " %2" PRIu32 " %5" PRIu32 " %4d %7" PRIu64
+           " %6.1f %11.2f %11.2f %6.2f %8.3f %11.2f %9.2f\n",
            name, tasks, rates, slack, timed, plans, units / timed, time[ARCHIVE] / timed / 1e3,
            time[PLAIN] / timed / 1e3, time[ARCHIVE] / time[PLAIN], time[ARCHIVE] / steps,
            time[TABLE] / timed / 1e3, time[ARCHIVE] / time[TABLE]);

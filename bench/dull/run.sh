@@ -1,10 +1,10 @@
 #!/usr/bin/env bash
 # Times the archive's dull engine beside the same in plain C, and beside the archive's planner:
 #     bash bench/dull/run.sh [REPETITIONS [SEED]]
-# All are first held to equal answers on small sets. Then prints a line a case, see bench.c: sets of as many plans as the
-# dull engine takes, and a ladder of smaller ones, which shows from how many plans on the planner's table is the faster
-# way. With SELFTEST=1 in the environment nothing is proved or built with rt: a second copy of the plain dull engine and
-# the plain planner take the archive's place, which tries the harness.
+# All are first held to equal answers on small sets. Then prints a line a case, see bench.c: sets of as many plans as
+# the dull engine takes, and a ladder of smaller ones, which shows from how many plans on the planner's table is the
+# faster way. With SELFTEST=1 in the environment nothing is proved or built with rt: a second copy of the plain dull
+# engine and the plain planner take the archive's place, which tries the harness.
 set -eu
 cd "$(dirname "$0")/../.."
 
