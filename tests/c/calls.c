@@ -52,7 +52,8 @@
 
 enum entry { PLAN, DULL, WALK, GENERATE, ENTRIES };
 
-static const char *const names[ENTRIES] = {"seedspell_plan", "seedspell_plan_dull", "seedspell_walk", "seedspell_generate"};
+static const char *const names[ENTRIES] = {"seedspell_plan", "seedspell_plan_dull", "seedspell_walk",
+                                           "seedspell_generate"};
 
 struct call {
     enum entry entry;
@@ -74,7 +75,8 @@ static struct {
     uint64_t unit_1, unit_above_1, highest_last, full_load, one_over, alike, both_ways[2], preempted, full_walk, missed_at_end;
     uint64_t long_span;
     uint64_t judged_1, judged_above_1, above_least, margin_used, margin_of_several, margin_with_idle;
-    uint64_t dull_planned, dull_idle, dull_full, dull_unit_1, dull_unit_above_1, dull_alike, dull_first, dull_last, dull_large;
+    uint64_t dull_planned, dull_idle, dull_full, dull_unit_1, dull_unit_above_1, dull_alike;
+    uint64_t dull_first, dull_last, dull_large;
     uint64_t one_task_over, power_wraps, compared, compared_planned, planned_beside_11;
     uint64_t generated, one_task, most_tasks, room_to_spare, generated_planned, generated_unplanned;
 } count;
@@ -660,8 +662,8 @@ static void ask_both_ways(const struct call *c, const struct answer *want)
     count.both_ways[want->plans > FEW_PLANS]++;
 }
 
-/* Makes a call and leaves what was expected of it, and is, in the lists too; ends the run if the call departs from that.
-   Returns what the call did. */
+/* Makes a call and leaves what was expected of it; ends the run if the call departs from that. Returns what the call
+   did. */
 static uint64_t try_call(const struct call *c, struct answer *want)
 {
     uint64_t code;
@@ -703,8 +705,8 @@ static void print_outcome(const char *who, const struct outcome *outcome, size_t
 {
     print_code(who, outcome->code);
     if (outcome->code == 0)
-        printf("; results %" PRIu64 " %" PRIu64 " %" PRIu64 " %" PRIu64, outcome->value[0], outcome->value[1], outcome->value[2],
-               outcome->value[3]);
+        printf("; results %" PRIu64 " %" PRIu64 " %" PRIu64 " %" PRIu64, outcome->value[0], outcome->value[1],
+               outcome->value[2], outcome->value[3]);
     print_words("; plan", outcome->plan, outcome->code == 0 ? tasks : 0);
     printf("\n");
 }
@@ -1094,10 +1096,12 @@ static void cases_of_margin(void)
     demand(least_energy(set.word) == NO_ENERGY, "a least energy where no plan fits");
 }
 
-/* Document 01's set for the dull engine, and sets worked by hand in which the order of the plans decides: the first of two
-   twins is fast, 3 1 and not 1 2, the first plan of all where none differs, and the last where no other fits. */
+/* Document 01's set for the dull engine, and sets worked by hand in which the order of the plans decides: the first of
+   two twins is fast, 3 1 and not 1 2, the first plan of all where none differs, and the last where no other fits. */
 static void cases_of_dull(void)
 {
+    static const uint32_t over[][2] = {{2, 20}, {4, 10}, {8, 7}, {3, 13}, {6, 8}, {5, 9}, {7, 8}};
+    struct shape shape;
     static const struct {
         size_t len, tasks;
         uint32_t word[24];
@@ -1123,7 +1127,8 @@ static void cases_of_dull(void)
         set = list_of(cases[i].word, cases[i].len);
         dull_lending(&set, cases[i].tasks, RESULT_BYTES, &want);
         demand(has_values(&want, value[0], value[1], value[2], value[3])
-                   && memcmp(want.plan, cases[i].plan, cases[i].tasks * sizeof *want.plan) == 0, "a plan of the dull engine");
+                   && memcmp(want.plan, cases[i].plan, cases[i].tasks * sizeof *want.plan) == 0,
+               "a plan of the dull engine");
         dull_lending(&set, cases[i].tasks - 1, RESULT_BYTES, &want);
         demand(is_refusal(&want, 6, cases[i].tasks), "the dull engine's plan list");
         dull_lending(&set, cases[i].tasks, RESULT_BYTES - 1, &want);
@@ -1136,6 +1141,12 @@ static void cases_of_dull(void)
     demand(is_refusal(&want, 6, 32), "the dull engine's results before 7");
     dull_lending(&set, 0, RESULT_BYTES - 1, &want);
     demand(is_refusal(&want, 6, 1), "the dull engine's plan list before its results");
+    for (size_t i = 0; i < COUNT(over); i++) {          /* from 1,048,576 plans to 5,764,801 */
+        plain_shape(&shape, over[i][0], over[i][1]);
+        flatten(&shape, &set);
+        dull_lending(&set, over[i][1], RESULT_BYTES, &want);
+        demand(is_refusal(&want, 11, 0), "too many plans");
+    }
 }
 
 /* Worked with a calculator: from seed 0 the draws are 15470, 18256, 53708, 43769, 25170, 40750, 22526, 41945, 33277,
@@ -1550,6 +1561,47 @@ static void edge_most_plans(void)
         }
 }
 
+/* Two tasks, the second with one job in a hyper-period of 2^23: loads, costs and energies that pass 32 bits, some of
+   which are small again there. A long hyper-period takes the dull engine no longer. */
+static void edge_large_sums(void)
+{
+    static const struct {
+        uint32_t idle, rate[2], period, cycles, energy[2];      /* of the first task */
+        uint32_t last_cycles;
+        uint64_t plan;                                          /* its rate number, or 0 where no plan fits */
+    } cases[] = {
+        {0, {1, 8}, 1, 512, {1, 9}, 4 << 23, 0},                /* 2^23 jobs of 64 ticks, or of 512, which are 2^32 */
+        {0, {1, 8}, 1, 4096, {1, 9}, 1 << 20, 0},
+        {0, {1, 8}, 1, 4000000000u, {1, 9}, 8, 0},
+        {0, {1, 1000000}, 2, 1024, {1, 9}, 1024, 2},            /* 2^22 jobs of 1,024 ticks are 2^32 */
+        {0, {1, 1000000}, 2, 1025, {1, 9}, 1024, 2},
+        {0, {1, 1000000}, 2, 512, {1, 9}, 1 << 22, 2},
+        {1, {1, 2}, 2, 1, {1025, 1}, 2, 2},                     /* 2^22 jobs of 1,024 above waiting, or of none */
+        {1, {1, 2}, 2, 1, {2049, 1}, 2, 2},
+        {0, {1, 2}, 2, 1, {1000000, 1000000}, 1, 1},            /* and of 1,000,000, which is given as the energy */
+        {1000, {1, 2}, 2, 1, {1000000, 1000000}, 1, 1},
+    };
+    struct shape shape;
+    struct list set;
+    struct answer want;
+
+    for (size_t i = 0; i < COUNT(cases); i++)
+        for (uint32_t slack = 1; slack <= 1000; slack += 333) {
+            shape = (struct shape){.slack = slack, .idle = cases[i].idle, .rates = 2, .tasks = 2};
+            memcpy(shape.rate, cases[i].rate, sizeof cases[i].rate);
+            memcpy(shape.energy[0], cases[i].energy, sizeof cases[i].energy);
+            shape.period[0] = cases[i].period;
+            shape.cycles[0] = cases[i].cycles;
+            shape.period[1] = 1 << 23;
+            shape.cycles[1] = cases[i].last_cycles;
+            shape.energy[1][0] = shape.energy[1][1] = 3000;
+            flatten(&shape, &set);
+            dull_lending(&set, 2, RESULT_BYTES, &want);
+            demand(cases[i].plan == 0 ? is_refusal(&want, 7, 0) : want.code == 0 && want.plan[0] == cases[i].plan,
+                   "sums past 32 bits");
+        }
+}
+
 /* The generator's lists of each length about what it needs, in all combinations, also where N is none that it takes. */
 static void edge_generate(uint32_t tasks)
 {
@@ -1885,6 +1937,7 @@ static void edge_calls(void)
     edge_load();
     edge_powers();
     edge_most_plans();
+    edge_large_sums();
     edge_small_walks();
     edge_generated_tasks();
     edge_seeds();

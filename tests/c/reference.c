@@ -445,12 +445,12 @@ struct pass {
     uint64_t rates, tasks, span;
     uint64_t ticks[MOST_TASKS][MOST_RATES + 1], units[MOST_TASKS][MOST_RATES + 1];
     uint32_t plan[MOST_TASKS];          /* the one that is looked at */
-    uint64_t k, load, alike;            /* of the best so far the rounded energy and the load; how many have both, 0 at first */
+    uint64_t k, load, alike;            /* of the best so far the rounded energy and the load; how many have both */
     uint32_t best[MOST_TASKS];          /* and the first of these */
 };
 
 /* 'Among fitting plans with rounded energy k(d), take those with least load.' Of plans with both alike the first stays:
-   in the order of the pass it has 'the lowest rate number for task N, then for task N - 1, and so on down to task 1'. */
+   as they come, it has 'the lowest rate number for task N, then for task N - 1, and so on down to task 1'. */
 static void look_at(struct pass *p, uint64_t units, uint64_t load)
 {
     if (load > p->span)
@@ -467,8 +467,8 @@ static void look_at(struct pass *p, uint64_t units, uint64_t load)
     memcpy(p->best, p->plan, sizeof p->best);
 }
 
-/* 'In order of rate numbers with task 1 changing fastest': the first n tasks take all their rates while the others, which
-   add up to so much, stay as they are. */
+/* 'In order of rate numbers with task 1 changing fastest': the first n tasks take all their rates while the others,
+   which add up to so much, stay as they are. */
 static void go_through(struct pass *p, uint64_t n, uint64_t units, uint64_t load)
 {
     if (n == 0) {
@@ -481,8 +481,8 @@ static void go_through(struct pass *p, uint64_t n, uint64_t units, uint64_t load
     }
 }
 
-/* What a task's jobs cost in a hyper-period beyond waiting. That a job costs no less is check 10, which a stand-in may be
-   without. */
+/* What a task's jobs cost in a hyper-period beyond waiting. That a job costs no less is check 10, which a stand-in may
+   be without. */
 static uint64_t beyond_waiting(const struct task_set *s, uint64_t t, uint64_t r)
 {
     uint64_t idle = s->idle * ((s->task[t].cycles + s->rate[r] - 1) / s->rate[r]);
@@ -521,9 +521,9 @@ static uint64_t check_dull(const struct task_set *s, size_t plan_len, size_t res
     return RESULT_BYTES > results_len ? refusal(6, RESULT_BYTES) : 0;
 }
 
-static void give_best(const struct task_set *s, uint64_t unit, const struct pass *p, struct answer *answer)
+static void give_best(const struct task_set *s, uint64_t d, const struct pass *p, struct answer *answer)
 {
-    answer->value[0] = unit;
+    answer->value[0] = d;
     answer->value[1] = p->load;
     answer->value[2] = p->span;
     answer->value[3] = s->idle * p->span;

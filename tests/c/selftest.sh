@@ -1,8 +1,9 @@
 #!/usr/bin/env bash
-# Shows that the C test can fail: bash tests/c/selftest.sh (two to three minutes, so no part of the gate)
+# Shows that the C test can fail: bash tests/c/selftest.sh (five to ten minutes, so no part of the gate)
 # The reference takes the archive's place (standin.c), as it is and then with one error planted at a time; as it is no
-# call may depart, and with an error some call must. What compares energies with the least of all plans gets errors of
-# its own, and must find those that the stand-in and the test's reference have alike.
+# call may depart, and with an error some call must. What compares energies with the least of all plans, and the planner
+# with the dull engine, must find errors that the stand-in and the test's reference have alike; the first gets errors of
+# its own too.
 set -eu
 cd "$(dirname "$0")/../.."
 
@@ -16,7 +17,7 @@ done
 # it is. Parts of the test that were compiled in the folder take the place of those that are as they should be.
 build() {
     local renamed="-Dexpect_plan=standin_plan -Dexpect_walk=standin_walk -Dexpect_generate=standin_generate" part parts=()
-    renamed="$renamed -Dcan_be_written=standin_can_be_written"
+    renamed="$renamed -Dexpect_dull=standin_dull -Dcan_be_written=standin_can_be_written"
     for part in calls sets least reference; do
         if [ -f "$1/$part.o" ]; then parts+=("$1/$part.o"); else parts+=("$out/$part.o"); fi
     done
@@ -70,6 +71,25 @@ departs_by_energy() {
     if grep -q -E '^unit [0-9]+ and energy [0-9]+, where some plan has [0-9]+$' "$1/output"; then departs "$1"; fi
 }
 
+# departs_by_engines FOLDER: the same, where it departs in that the planner and the dull engine differ.
+departs_by_engines() {
+    if grep -q '^the planner and the dull engine differ$' "$1/output"; then departs "$1"; fi
+}
+
+# run_without FOLDER NAME PART..: the test without these lines, which compare.
+judge='judge_energy(c);'
+compare='compare_engines(&c, planner, &dull);'
+run_without() {
+    local folder=$1 name=$2 part
+    shift 2
+    cp tests/c/calls.c "$folder"
+    for part in "$@"; do
+        change "$name" "$folder/calls.c" "$part" ';'
+    done
+    compile_test "$folder" calls.c
+    run "$folder"
+}
+
 # passes FOLDER: whether the run came to its end and turned nothing down.
 passes() {
     ! grep -q departs "$1/output" && grep -q '^hyper-period over' "$1/output"
@@ -113,24 +133,48 @@ plant_in_test() {
     note "$1" "$(departs_by_energy "$folder")"
 }
 
-# plant_in_both NAME OLD NEW: an error in the reference, as the stand-in and as the test has it, so that they agree;
-# expects that a call departs by its energy, and that none departs where energies are not compared with the least.
-plant_in_both() {
-    local folder found
+# lay_out_both NAME OLD NEW: an error in the reference, as the stand-in and as the test has it, so that they agree, in a
+# folder that it prints.
+lay_out_both() {
+    local folder
     folder=$(lay_out "$1")
     change "$1" "$folder/reference.c" "$2" "$3"
     compile_test "$folder" reference.c
-    run "$folder"
-    found=$(departs_by_energy "$folder")
-    cp tests/c/calls.c "$folder"
-    change "$1" "$folder/calls.c" 'judge_energy(c);' ';'
-    compile_test "$folder" calls.c
-    run "$folder"
-    if ! passes "$folder"; then
-        echo "selftest: $1: found without the least energy too: see $folder/output" >&2
-        found=
+    echo "$folder"
+}
+
+# only_by NAME FOLDER FOUND: what was found, if nothing departs without what found it.
+only_by() {
+    if passes "$2"; then
+        echo "$3"
+    else
+        echo "selftest: $1: found by more than what compares: see $2/output" >&2
     fi
+}
+
+# plant_in_both NAME OLD NEW: such an error, of the planner; expects that a call departs by its energy, and without this
+# from the dull engine's, and that none departs without either.
+plant_in_both() {
+    local folder by_energy by_engines found=
+    folder=$(lay_out_both "$@")
+    run_without "$folder" "$1" "$compare"
+    by_energy=$(departs_by_energy "$folder")
+    run_without "$folder" "$1" "$judge"
+    by_engines=$(departs_by_engines "$folder")
+    run_without "$folder" "$1" "$judge" "$compare"
+    if [ -n "$by_energy" ] && [ -n "$by_engines" ]; then found=$(only_by "$1" "$folder" "$by_energy; $by_engines"); fi
     note "$1" "$found"
+}
+
+# plant_in_both_dull NAME OLD NEW: such an error, of the dull engine; expects that a call departs from the planner's, and
+# that none departs without this.
+plant_in_both_dull() {
+    local folder found
+    folder=$(lay_out_both "$@")
+    run "$folder"
+    found=$(departs_by_engines "$folder")
+    run_without "$folder" "$1" "$compare"
+    note "$1" "$(only_by "$1" "$folder" "$found")"
 }
 
 folder=$(lay_out none)
@@ -275,17 +319,17 @@ plant 10-with-its-period reference.c 'return refusal(10, place_of(s, t) + 2 + r)
 plant 10-with-the-task reference.c 'return refusal(10, place_of(s, t) + 2 + r);' 'return refusal(10, t + 1);'
 plant 10-before-3 reference.c 'if (refused == 0)
         refused = check_3(s);
-    if (refused == 0 && call == PLANNER)
-        refused = check_10(s);' 'if (refused == 0 && call == PLANNER)
+    if (refused == 0 && call != WALK)
+        refused = check_10(s);' 'if (refused == 0 && call != WALK)
         refused = check_10(s);
     if (refused == 0)
         refused = check_3(s);'
-plant 10-after-4 reference.c 'if (refused == 0 && call == PLANNER)
+plant 10-after-4 reference.c 'if (refused == 0 && call != WALK)
         refused = check_10(s);
     if (refused == 0)
         refused = check_4(s);' 'if (refused == 0)
         refused = check_4(s);
-    if (refused == 0 && call == PLANNER)
+    if (refused == 0 && call != WALK)
         refused = check_10(s);'
 plant 10-after-5-and-6 reference.c 'check_set(PLANNER, set, set_len, &s);
     if (answer->code != 0)
@@ -304,8 +348,8 @@ plant 10-after-5-and-6 reference.c 'check_set(PLANNER, set, set_len, &s);
 plant 10-after-7 reference.c 'check_set(PLANNER, set, set_len, &s);' 'check_set(WALK, set, set_len, &s);
     if (answer->code == 0 && (check_lent(&s, plan_len, work_len, results_len) != 0 || least_load(&s) <= s.span))
         answer->code = check_10(&s);'
-plant 10-never reference.c 'if (refused == 0 && call == PLANNER)' 'if (0)'
-plant 10-by-the-walk reference.c 'if (refused == 0 && call == PLANNER)' 'if (refused == 0)'
+plant 10-never reference.c 'if (refused == 0 && call != WALK)' 'if (0)'
+plant 10-by-the-walk reference.c 'if (refused == 0 && call != WALK)' 'if (refused == 0)'
 
 # The least energy: calls that are as they should be go beyond a margin that is too narrow, and depart from the least of
 # other plans or of other energies
@@ -331,6 +375,160 @@ plant_in_both unit-2-as-1-in-both 'answer->value[0] = unit;' 'answer->value[0] =
 plant_in_both unit-a-step-low-in-both 'answer->value[0] = unit;' 'answer->value[0] = unit > 2 && s->tasks > 3 ? unit / 2 : unit;'
 plant_in_both highest-for-4-tasks-in-both 'uint64_t r = *rate_of(best, t);' 'uint64_t r = s->tasks > 3 ? s->rates : *rate_of(best, t);'
 plant_in_both idle-of-4-tasks-more-in-both 'answer->value[3] += s->idle * (s->span - answer->value[1]);' 'answer->value[3] += s->idle * (s->span - answer->value[1] + (s->tasks > 3));'
+
+plant_in_both_dull dull-fourth-task-free-in-both 'p->units[t][r] = (beyond_waiting(s, t, r) + unit - 1) / unit;' 'p->units[t][r] = t > 2 ? 0 : (beyond_waiting(s, t, r) + unit - 1) / unit;'
+plant_in_both_dull dull-third-at-8-bits-in-both 'p->units[t][r] = (beyond_waiting(s, t, r) + unit - 1) / unit;' 'p->units[t][r] = (beyond_waiting(s, t, r) + unit - 1) / unit % (t == 2 ? 256 : UINT64_MAX);'
+plant_in_both_dull dull-second-of-6-left-out-in-both 'p->plan[n - 1] = r;' 'if (r == 2 && p->rates > 5)
+            continue;
+        p->plan[n - 1] = r;'
+plant_in_both_dull dull-last-alike-of-4-in-both 'p->alike++;
+        return;' 'p->alike++;
+        if (p->tasks == 4)
+            memcpy(p->best, p->plan, sizeof p->best);
+        return;'
+plant_in_both_dull dull-stops-early-of-4-in-both 's.slack * p.k < 2000 * s.tasks' 's.slack * p.k < 2000 * s.tasks - 200 * (s.tasks > 3)'
+plant_in_both_dull dull-unit-2-as-1-in-both 'answer->value[0] = d;' 'answer->value[0] = d == 2 && s->tasks > 3 ? 1 : d;'
+plant_in_both_dull dull-load-of-4-over-in-both 'if (load > p->span)' 'if (load > p->span + (p->tasks > 3))'
+
+# The dull engine
+plant dull-task-n-fastest reference.c 'p->plan[n - 1] = r;
+        go_through(p, n - 1, units + p->units[n - 1][r], load + p->ticks[n - 1][r]);' 'p->plan[p->tasks - n] = r;
+        go_through(p, n - 1, units + p->units[p->tasks - n][r], load + p->ticks[p->tasks - n][r]);'
+plant dull-highest-rate-first reference.c \
+    'for (uint32_t r = 1; r <= p->rates; r++) {' \
+    'for (uint32_t r = (uint32_t)p->rates; r >= 1; r--) {'
+plant dull-highest-rate-left-out reference.c \
+    'for (uint32_t r = 1; r <= p->rates; r++) {' \
+    'for (uint32_t r = 1; r < p->rates; r++) {'
+plant dull-lowest-rate-left-out reference.c \
+    'for (uint32_t r = 1; r <= p->rates; r++) {' \
+    'for (uint32_t r = 2; r <= p->rates; r++) {'
+plant dull-last-plan-left-out reference.c 'look_at(p, units, load);
+        return;' 'uint64_t t = 0;
+        while (t < p->tasks && p->plan[t] == p->rates)
+            t++;
+        if (t < p->tasks)
+            look_at(p, units, load);
+        return;'
+plant dull-first-plan-left-out reference.c 'look_at(p, units, load);
+        return;' 'uint64_t t = 0;
+        while (t < p->tasks && p->plan[t] == 1)
+            t++;
+        if (t < p->tasks)
+            look_at(p, units, load);
+        return;'
+plant dull-last-of-those-alike reference.c 'p->alike++;
+        return;' 'p->alike++;
+        memcpy(p->best, p->plan, sizeof p->best);
+        return;'
+plant dull-first-of-equal-energy reference.c \
+    '(units > p->k || (units == p->k && load > p->load))' \
+    'units >= p->k'
+plant dull-last-of-equal-energy reference.c \
+    '(units > p->k || (units == p->k && load > p->load))' \
+    'units > p->k'
+plant dull-load-before-energy reference.c \
+    '(units > p->k || (units == p->k && load > p->load))' \
+    '(load > p->load || (load == p->load && units > p->k))'
+plant dull-first-that-fits reference.c \
+    '(units > p->k || (units == p->k && load > p->load))' \
+    '1'
+plant dull-least-from-the-unit-before reference.c 'unit /= 2;
+        pass_through(&s, unit, &p);' 'struct pass before = p;
+        unit /= 2;
+        pass_through(&s, unit, &p);
+        if (before.k <= p.k)
+            p = before;'
+plant dull-best-of-the-unit-before reference.c 'unit /= 2;
+        pass_through(&s, unit, &p);' 'struct pass before = p;
+        unit /= 2;
+        pass_through(&s, unit, &p);
+        memcpy(p.best, before.best, sizeof p.best);'
+plant dull-full-load-refused reference.c 'if (load > p->span)' 'if (load >= p->span)'
+plant dull-load-one-over reference.c 'if (load > p->span)' 'if (load > p->span + 1)'
+plant dull-load-at-32-bits reference.c 'load + p->ticks[n - 1][r]);' '(uint32_t)(load + p->ticks[n - 1][r]));'
+plant dull-units-at-32-bits reference.c 'units + p->units[n - 1][r],' '(uint32_t)(units + p->units[n - 1][r]),'
+plant dull-energy-at-32-bits reference.c \
+    'answer->value[3] += beyond_waiting(s, t, p->best[t]);' \
+    'answer->value[3] += (uint32_t)beyond_waiting(s, t, p->best[t]);'
+plant dull-rounded-down reference.c '(beyond_waiting(s, t, r) + unit - 1) / unit;' 'beyond_waiting(s, t, r) / unit;'
+plant dull-rounded-to-nearest reference.c '(beyond_waiting(s, t, r) + unit - 1) / unit;' '(beyond_waiting(s, t, r) + unit / 2) / unit;'
+plant dull-job-time-rounded-down reference.c \
+    'p->ticks[t][r] = s->span / s->task[t].period * ((s->task[t].cycles + s->rate[r] - 1) / s->rate[r]);' \
+    'p->ticks[t][r] = s->span / s->task[t].period * (s->task[t].cycles / s->rate[r]);'
+plant dull-load-of-one-job reference.c \
+    'p->ticks[t][r] = s->span / s->task[t].period * (' \
+    'p->ticks[t][r] = ('
+plant dull-selected-as-given reference.c 'period * (s->task[t].energy[r] - idle);' 'period * s->task[t].energy[r];'
+plant dull-idle-not-reported reference.c 'answer->value[3] = s->idle * p->span;' 'answer->value[3] = 0;'
+plant dull-idle-for-idle-ticks reference.c 'answer->value[3] = s->idle * p->span;' 'answer->value[3] = s->idle * (p->span - p->load);'
+plant dull-first-unit-of-lowest-rate reference.c 'fastest += beyond_waiting(&s, t, s.rates);' 'fastest += beyond_waiting(&s, t, 1);'
+plant dull-stops-only-above reference.c 's.slack * p.k < 2000 * s.tasks' 's.slack * p.k <= 2000 * s.tasks'
+plant dull-stops-at-the-first-unit reference.c 's.slack * p.k < 2000 * s.tasks && unit > 1' '0'
+plant dull-down-to-unit-1 reference.c 's.slack * p.k < 2000 * s.tasks && unit > 1' 'unit > 1'
+plant dull-smallest-unit-2 reference.c 's.slack * p.k < 2000 * s.tasks && unit > 1' 's.slack * p.k < 2000 * s.tasks && unit > 2'
+plant dull-by-a-first-release reference.c '.span = s->span};' '.span = s->span - s->task[0].first};'
+plant dull-every-set-refused reference.c 'if (p.alike == 0) {' 'if (1) {'
+plant dull-7-by-the-first-plan reference.c 'if (p.alike == 0) {' 'for (uint64_t t = 0; t < s.tasks; t++)
+        p.load += t == 0 ? p.ticks[0][1] - p.load : p.ticks[t][1];
+    if (p.load > s.span) {'
+plant dull-no-11 reference.c 'if (too_many(s))' 'if (0)'
+plant dull-11-at-823543 reference.c 'power <= 1000000; t++)
+        power *= s->rates;
+    return power > 1000000;' 'power <= 823542; t++)
+        power *= s->rates;
+    return power > 823542;'
+plant dull-11-from-1048577 reference.c 'power <= 1000000; t++)
+        power *= s->rates;
+    return power > 1000000;' 'power <= 1048576; t++)
+        power *= s->rates;
+    return power > 1048576;'
+plant dull-11-at-32-bits reference.c 't < s->tasks && power <= 1000000; t++)
+        power *= s->rates;' 't < s->tasks; t++)
+        power = (uint32_t)(power * s->rates);'
+plant dull-11-by-n-to-the-m reference.c 't < s->tasks && power <= 1000000; t++)
+        power *= s->rates;' 't < s->rates && power <= 1000000; t++)
+        power *= s->tasks;'
+plant dull-11-by-one-task-less reference.c 't < s->tasks && power' 't + 1 < s->tasks && power'
+plant dull-11-by-one-task-more reference.c 't < s->tasks && power' 't <= s->tasks && power'
+plant dull-11-with-1000000 reference.c 'return refusal(11, 0);' 'return refusal(11, 1000000);'
+plant dull-11-with-n reference.c 'return refusal(11, 0);' 'return refusal(11, s->tasks);'
+plant dull-7-for-11 reference.c 'return refusal(11, 0);' 'return refusal(7, 0);'
+plant dull-5-for-11 reference.c 'return refusal(11, 0);' 'return refusal(5, words_needed(s));'
+plant dull-11-before-4 reference.c 'answer->code = check_set(DULL, set, set_len, &s);' 'answer->code = check_set(DULL, set, set_len, &s);
+    if (answer->code >> 32 == 4 && too_many(&s))
+        answer->code = refusal(11, 0);'
+plant dull-11-before-10 reference.c 'answer->code = check_set(DULL, set, set_len, &s);' 'answer->code = check_set(DULL, set, set_len, &s);
+    if (answer->code >> 32 == 10 && too_many(&s))
+        answer->code = refusal(11, 0);'
+plant dull-11-before-3 reference.c 'answer->code = check_set(DULL, set, set_len, &s);' 'answer->code = check_set(DULL, set, set_len, &s);
+    if (answer->code >> 32 == 3 && too_many(&s))
+        answer->code = refusal(11, 0);'
+plant dull-no-10 reference.c 'check_set(DULL, set, set_len, &s);' 'check_set(WALK, set, set_len, &s);'
+plant dull-11-after-the-plan-list reference.c 'if (too_many(s))
+        return refusal(11, 0);
+    if (s->tasks > plan_len)
+        return refusal(6, s->tasks);' 'if (s->tasks > plan_len)
+        return refusal(6, s->tasks);
+    if (too_many(s))
+        return refusal(11, 0);'
+plant dull-11-after-the-results reference.c 'if (too_many(s))' 'if (too_many(s) && (s->tasks > plan_len || results_len >= RESULT_BYTES))'
+plant dull-11-after-7 reference.c 'if (too_many(s))' 'if (too_many(s) && s->tasks <= plan_len && results_len >= RESULT_BYTES && least_load(s) > s->span)
+        return refusal(7, 0);
+    if (too_many(s))'
+plant dull-plan-list-one-short reference.c 'if (s->tasks > plan_len)' 'if (s->tasks > plan_len + 1)'
+plant dull-plan-list-one-more reference.c 'if (s->tasks > plan_len)' 'if (s->tasks >= plan_len)'
+plant dull-results-31-allowed reference.c 'return RESULT_BYTES > results_len ?' 'return RESULT_BYTES - 1 > results_len ?'
+plant dull-results-33-asked reference.c 'return RESULT_BYTES > results_len ?' 'return RESULT_BYTES >= results_len ?'
+plant dull-results-before-the-plan-list reference.c 'if (s->tasks > plan_len)' 'if (RESULT_BYTES > results_len)
+        return refusal(6, RESULT_BYTES);
+    if (s->tasks > plan_len)'
+plant dull-7-before-the-results reference.c 'return RESULT_BYTES > results_len ?' 'if (least_load(s) > s->span)
+        return refusal(7, 0);
+    return RESULT_BYTES > results_len ?'
+plant dull-7-before-the-plan-list reference.c 'if (s->tasks > plan_len)' 'if (least_load(s) > s->span)
+        return refusal(7, 0);
+    if (s->tasks > plan_len)'
 
 # The walk
 plant ties-to-higher-task reference.c 'job[t].deadline < earliest->deadline))' 'job[t].deadline <= earliest->deadline))'
@@ -522,6 +720,36 @@ plant set-changed standin.c 'memset(work, 0, answer.work_words * sizeof *work);'
     ((uint32_t *)set)[set_len - 1] ^= 1;'
 plant walk-plan-changed standin.c 'expect_walk(set, set_len, plan, plan_len, results_len, &answer);' 'expect_walk(set, set_len, plan, plan_len, results_len, &answer);
     ((uint32_t *)plan)[plan_len] = 0;'
+plant dull-plan-word-past-n standin.c \
+    't < answer.plan_words; t++)' \
+    't < answer.plan_words + (answer.plan_words > 0); t++)'
+plant dull-plan-word-left standin.c 't < answer.plan_words; t++)' 't + 1 < answer.plan_words; t++)'
+plant dull-plan-untouched standin.c 'plan[t] = answer.plan[t];' ';'
+plant dull-plan-from-0 standin.c 'plan[t] = answer.plan[t];' 'plan[t] = answer.plan[t] - 1;'
+plant dull-plan-backwards standin.c 'plan[t] = answer.plan[t];' 'plan[t] = answer.plan[answer.plan_words - 1 - t];'
+plant dull-plan-list-cleared standin.c 'plan[t] = answer.plan[t];' 'plan[t] = answer.plan[t];
+    for (size_t t = answer.plan_words; t < plan_len && answer.code == 0; t++)
+        plan[t] = 0;'
+plant dull-writes-when-refusing-7 standin.c 'expect_dull(set, set_len, plan_len, results_len, &answer);' 'expect_dull(set, set_len, plan_len, results_len, &answer);
+    if (answer.code >> 32 == 7)
+        plan[0] = 1;'
+plant dull-writes-when-refusing-6 standin.c 'expect_dull(set, set_len, plan_len, results_len, &answer);' 'expect_dull(set, set_len, plan_len, results_len, &answer);
+    if (answer.code >> 32 == 6 && plan_len > 0)
+        plan[0] = 1;'
+plant dull-writes-when-refusing-11 standin.c 'expect_dull(set, set_len, plan_len, results_len, &answer);' 'expect_dull(set, set_len, plan_len, results_len, &answer);
+    if (answer.code >> 32 == 11 && plan_len > 0)
+        plan[0] = 1;'
+plant dull-results-when-refusing-7 standin.c \
+    'if (answer.plan_words > 0)' \
+    'if (answer.plan_words > 0 || answer.code >> 32 == 7)'
+plant dull-results-when-refusing-11 standin.c \
+    'if (answer.plan_words > 0)' \
+    'if (answer.plan_words > 0 || (answer.code >> 32 == 11 && results_len >= 32))'
+plant dull-results-untouched standin.c 'if (answer.plan_words > 0)' 'if (0)'
+plant dull-reads-its-room standin.c 'plan[t] = answer.plan[t];' 'plan[t] = answer.plan[t] + (plan[t] == answer.plan[t]);'
+plant dull-set-changed standin.c 'if (answer.plan_words > 0)' 'if (answer.plan_words > 0)
+        ((uint32_t *)set)[1] ^= 1;
+    if (answer.plan_words > 0)'
 plant generated-word-past standin.c \
     'memcpy(set, answer.set, answer.set_words * sizeof *set);' \
     'memcpy(set, answer.set, (answer.set_words + (answer.set_words > 0)) * sizeof *set);'
