@@ -701,13 +701,14 @@ static void take(const struct call *c, uint64_t code, struct outcome *outcome)
         outcome->value[k] = result(k);
 }
 
-static void print_outcome(const char *who, const struct outcome *outcome, size_t tasks)
+static void print_outcome(const char *who, const struct call *c, const struct outcome *outcome)
 {
     print_code(who, outcome->code);
-    if (outcome->code == 0)
+    if (outcome->code == 0) {
         printf("; results %" PRIu64 " %" PRIu64 " %" PRIu64 " %" PRIu64, outcome->value[0], outcome->value[1],
                outcome->value[2], outcome->value[3]);
-    print_words("; plan", outcome->plan, outcome->code == 0 ? tasks : 0);
+        print_words("; plan", outcome->plan, c->set.word[3 + c->set.word[2]]);
+    }
     printf("\n");
 }
 
@@ -720,8 +721,8 @@ static void compare_engines(const struct call *c, const struct outcome *planner,
     if (memcmp(planner, dull, sizeof *planner) != 0) {
         print_call(c);
         printf("the planner and the dull engine differ\n");
-        print_outcome("planner", planner, c->set.word[3 + c->set.word[2]]);
-        print_outcome("dull engine", dull, c->set.word[3 + c->set.word[2]]);
+        print_outcome("planner", c, planner);
+        print_outcome("dull engine", c, dull);
         exit(1);
     }
     count.compared++;
