@@ -5,9 +5,9 @@
    TICK is the length of a tick in microseconds, 1 to 1,000,000,000. LIST is the set's words as plain numbers with
    spaces or line ends between them; include/seedspell.h says which words those are.
 
-   Ends with 0 where there is a plan, with 1 where the planner refuses the set (and the sheet says what to mend), with 2
-   where there is no whole sheet, since the input cannot be used, there is no memory to plan with, or the sheet cannot
-   be written: then standard error says which.
+   Ends with 0 where there is a plan, with 1 where the set is refused (and the sheet says what to mend), with 2 where
+   there is no whole sheet, since the input cannot be used or the sheet cannot be written: then standard error says
+   which.
 
    All arithmetic is in whole numbers. What is rounded is rounded up, so that no rounding makes a page promise too much;
    only what the slack allows is rounded down, which promises nothing more, as energies are whole. The energy is that of
@@ -31,10 +31,17 @@
 #define DAY UINT64_C(86400000000)                       /* in microseconds */
 #define LONGEST_TICK 1000000000
 
+/* The working words that this host has room for: as many as any set needs, unless it is built for less. What needs more
+   goes to the dull engine, which needs none. */
+#ifndef MOST_WORK
+#define MOST_WORK 4224033
+#endif
+
 /* One word more than the longest set: a longer list is refused by the words up to there, whatever follows. */
 static uint32_t set[MOST_WORDS + 1];
 static size_t set_len;
 static uint32_t plan[MOST_TASKS];
+static size_t needed;                                   /* the set's working words, once the planner has said so */
 
 static uint32_t idle_energy(void)
 {
@@ -264,6 +271,19 @@ static void explain_energy(size_t at)
     printf("To mend: give all that the job draws, also what waiting would draw; or a lower idle energy.\n");
 }
 
+/* A set that went to the dull engine, since its working words could not be had, and has too many plans for it. */
+static void explain_plans(void)
+{
+    printf("The planner needs %zu working words for this set, and this host ", needed);
+    if (needed > MOST_WORK)
+        printf("has room for %zu.\n", (size_t)MOST_WORK);
+    else
+        printf("cannot get the memory for them.\n");
+    printf("Without them every plan is tried, and there are too many: %" PRIu32 " to the power %" PRIu32
+           ", more than 1000000.\n", rates(), tasks());
+    printf("To mend: a higher slack, fewer tasks or fewer rates, or a host with more room.\n");
+}
+
 static void explain(uint32_t number, uint32_t second)
 {
     printf("NO PLAN: refusal %" PRIu32 " with %" PRIu32 "\n", number, second);
@@ -290,10 +310,12 @@ static void explain(uint32_t number, uint32_t second)
         printf("With every task at rate number %" PRIu32 ", the highest, the jobs still take more ticks than there are.\n", rates());
         printf("To mend: fewer cycles a job, longer periods, fewer tasks, or a higher rate.\n");
         break;
+    case SEEDSPELL_REFUSED_TOO_MANY_PLANS:
+        explain_plans();
+        break;
     default:
-        /* 5 and 6 too: this host lends as much as the planner asks for. 1 and 9 are of texts, which it does not read,
-           8 is of the walk's plan, and 11 of the dull engine, which it does not call: a sheet may have any number of
-           plans, and the planner takes them all. */
+        /* 5 and 6 too: this host lends as much as the planner asks for, or has the dull engine plan. 1 and 9 are of
+           texts, which it does not read, and 8 is of the walk's plan. */
         give_up("there is no cause for this refusal: host and archive do not belong together");
     }
 }
@@ -301,21 +323,20 @@ static void explain(uint32_t number, uint32_t second)
 /* ---- Planning */
 
 /* The planner says itself how many working words a set needs. It is first lent one, too few for every set, and refuses
-   with 5 and that number, unless the set itself is at fault; then it is lent as many. */
+   with 5 and that number, unless the set itself is at fault; then it is lent as many. Where they cannot be had the dull
+   engine plans without them: its answer is the planner's own, or 11 where the set has too many plans for it. */
 static uint64_t plan_set(uint8_t *results)
 {
-    uint32_t one[1], *work;
+    uint32_t one[1], *work = NULL;
     uint64_t returned = seedspell_plan(set, set_len, plan, MOST_TASKS, one, 1, results, SEEDSPELL_RESULT_BYTES);
-    size_t needed = SEEDSPELL_SECOND(returned);
 
     if (SEEDSPELL_REFUSAL(returned) != SEEDSPELL_REFUSED_WORKING_LIST_SHORT)
         return returned;
-    work = malloc(needed * sizeof *work);
-    if (work == NULL) {
-        fprintf(stderr, "sheet: there is no memory for the %zu working words of %" PRIu32 " tasks at slack %" PRIu32
-                "\n", needed, tasks(), set[0]);
-        exit(2);
-    }
+    needed = SEEDSPELL_SECOND(returned);
+    if (needed <= MOST_WORK)
+        work = malloc(needed * sizeof *work);
+    if (work == NULL)
+        return seedspell_plan_dull(set, set_len, plan, MOST_TASKS, results, SEEDSPELL_RESULT_BYTES);
     returned = seedspell_plan(set, set_len, plan, MOST_TASKS, work, needed, results, SEEDSPELL_RESULT_BYTES);
     free(work);
     return returned;
