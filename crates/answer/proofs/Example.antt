@@ -146,7 +146,8 @@ below : Refuses (plannerChecks (slow-or-fast 10 899) planLent workLent) 10 9
 below =
     let plan : List ℕ = replicate planLent 0 in
     let work : List ℕ = replicate workLent 0 in
-    let refuses : Refuses (plannerChecks (slow-or-fast 10 899) (length plan) (length work)) 10 9 = cases .idle-above plan work .0 .0 in
+    let refuses : Refuses (plannerChecks (slow-or-fast 10 899) (length plan) (length work)) 10 9
+    = cases .idle-above plan work .0 .0 in
     subst (λ (w : ℕ). Refuses (plannerChecks (slow-or-fast 10 899) planLent w) 10 9) (length-replicate {A = ℕ} workLent 0)
     (subst (λ (p : ℕ). Refuses (plannerChecks (slow-or-fast 10 899) p (length work)) 10 9)
     (length-replicate {A = ℕ} planLent 0) refuses)

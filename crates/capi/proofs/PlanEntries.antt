@@ -27,8 +27,8 @@ use Rattle.capi.specs.Put.{Four, AnswerSmall, AnswerPut}
 use Rattle.capi.proofs.Bytes.{result-value}
 use Rattle.capi.proofs.Entries.{code-positive}
 
--- s is the set, and d the result bytes as lent; cs are the call's own checks but 7, whose second numbers are small, with
--- that of 7. Gives and Unchanged are of the lists that the call is lent besides.
+-- s is the set, and d the result bytes as lent; cs are the call's own checks but 7, whose second numbers are small,
+-- with that of 7. Gives and Unchanged are of the lists that the call is lent besides.
 module _ (s : List ℕ) (cs : List Check) (plans : Plans s cs)
     (small : (n k : ℕ) → Refuses (cs ▹ noneCheck (Fitting (problem s))) n k → k < 2 ^ 32)
     (d : List ℕ) (Gives : PlannerAnswer → Type 0) (Unchanged : Type 0) where
@@ -51,7 +51,8 @@ module _ (s : List ℕ) (cs : List Check) (plans : Plans s cs)
   module _ (plan′ : List ℕ) (unchanged : Unchanged) where
     -- Any refusal. It is not 0; and it is 7 with 0 only by the last check, as the second number does not reach into the
     -- first.
-    refused : (r : Refusal) (x : ℕ) → x ≡ code r → second r < 2 ^ 32 → Refuses (planEntryChecks cs s (length d)) (number r) (second r)
+    refused : (r : Refusal) (x : ℕ) → x ≡ code r → second r < 2 ^ 32
+        → Refuses (planEntryChecks cs s (length d)) (number r) (second r)
         → PlansEntry cs Gives Unchanged s plan′ d d x
     refused r x e few h =
         let none : x ≡ 0 → ⊥ = λ z. code-positive r (sym e ∙ z) in
@@ -68,28 +69,31 @@ module _ (s : List ℕ) (cs : List Check) (plans : Plans s cs)
         }
 
     -- The checks before 7 have passed, and the results fit: what is left to refuse is 7.
-    answer-refused : (r : Refusal) (x : ℕ) → x ≡ code r → Accepts cs → 32 ≤ length d → Refuses (cs ▹ seven) (number r) (second r)
-        → PlansEntry cs Gives Unchanged s plan′ d d x
+    answer-refused : (r : Refusal) (x : ℕ) → x ≡ code r → Accepts cs → 32 ≤ length d
+        → Refuses (cs ▹ seven) (number r) (second r) → PlansEntry cs Gives Unchanged s plan′ d d x
     answer-refused r x e a enough h =
         refused r x e (small (number r) (second r) h)
         (refuses-back before (seven ∷ []) (number r) (second r) (accepts-next cs six a (λ k l. omega (arith, l .0)))
         (refuses-rest cs (seven ∷ []) (number r) (second r) a h))
 
     -- A refusal of the checks before 7 is the entry's.
-    pub ready-refused : (r : Refusal) (x : ℕ) → x ≡ code r → Refuses cs (number r) (second r) → PlansEntry cs Gives Unchanged s plan′ d d x
+    pub ready-refused : (r : Refusal) (x : ℕ) → x ≡ code r → Refuses cs (number r) (second r)
+        → PlansEntry cs Gives Unchanged s plan′ d d x
     ready-refused r x e h =
         refused r x e (small (number r) (second r) (refuses-before cs seven (number r) (second r) h))
         (refuses-before before seven (number r) (second r) (refuses-before cs six (number r) (second r) h))
 
     -- Too few result bytes, after the checks before 7.
-    pub results-few : (x : ℕ) → x ≡ code (TooShort 32) → Accepts cs → length d < 32 → PlansEntry cs Gives Unchanged s plan′ d d x
+    pub results-few : (x : ℕ) → x ≡ code (TooShort 32) → Accepts cs → length d < 32
+        → PlansEntry cs Gives Unchanged s plan′ d d x
     results-few x e a l =
         refused (TooShort resultSize) x e (omega arith)
         (refuses-before before seven 6 resultSize (refuses-next cs six resultSize a (l, refl)))
 
   -- A plan.
   module _ (enough : 32 ≤ length d) (plan plan′ d′ : List ℕ) (unit load hyper energy : ℕ)
-      (g : PlanGives (cs ▹ seven) s plan plan′ (Planned unit load hyper energy)) (gives : Gives (Planned unit load hyper energy))
+      (g : PlanGives (cs ▹ seven) s plan plan′ (Planned unit load hyper energy))
+      (gives : Gives (Planned unit load hyper energy))
       (numbers : RateNumbers s plan′ (Planned unit load hyper energy))
       (bytes : d′ ≡ resultBytes (unit ∷ load ∷ hyper ∷ energy ∷ []) ++ drop 32 d) where
     six-passes : Accepts before
@@ -132,26 +136,28 @@ module _ (s : List ℕ) (cs : List Check) (plans : Plans s cs)
           energy-fits = λ z. omega (arith, energy-few, energy-read);
           load-is = λ z. load-read ∙ load-is ∙ ap (planLoad (problem s)) (sym (g .1 .2 .front));
           hyper-is = λ z. hyper-read ∙ hyper-is;
-          seven-iff = ((λ z. absurd (omega arith)), (λ n. absurd (n .1 (take (taskCount Ordinary s) plan′) (promise .keeps))));
+          seven-iff =
+              ((λ z. absurd (omega arith)), (λ n. absurd (n .1 (take (taskCount Ordinary s) plan′) (promise .keeps))));
         }
 
   -- Any answer, after the checks before 7, and what was put of it.
   pub answered : Accepts cs → 32 ≤ length d → (plan plan′ d′ : List ℕ) (x : ℕ) (a : PlannerAnswer)
-      → PlanGives (cs ▹ seven) s plan plan′ a → Gives a → ((r : Refusal) → Gives (NotPlanned r) → Unchanged) → RateNumbers s plan′ a
-      → AnswerPut a d d′ x → PlansEntry cs Gives Unchanged s plan′ d d′ x
+      → PlanGives (cs ▹ seven) s plan plan′ a → Gives a → ((r : Refusal) → Gives (NotPlanned r) → Unchanged)
+      → RateNumbers s plan′ a → AnswerPut a d d′ x → PlansEntry cs Gives Unchanged s plan′ d d′ x
   answered accepts enough plan plan′ d′ x (Planned unit load hyper energy) g gives unchanged numbers put =
       rw (put .0) (entry-planned enough plan plan′ d′ unit load hyper energy g gives numbers (put .1 .bytes))
   answered accepts enough plan plan′ d′ x (NotPlanned r) g gives unchanged numbers put =
       rw (put .1) (answer-refused plan′ (unchanged r gives) r x (put .0) accepts enough (g .0))
 
 -- The second number of an answer is small where those of its checks are.
-pub answer-small : (s : List ℕ) (cs : List Check) → ((n k : ℕ) → Refuses cs n k → k < 2 ^ 32) → (plan plan′ : List ℕ) (a : PlannerAnswer)
-    → PlanGives cs s plan plan′ a → AnswerSmall a
+pub answer-small : (s : List ℕ) (cs : List Check) → ((n k : ℕ) → Refuses cs n k → k < 2 ^ 32)
+    → (plan plan′ : List ℕ) (a : PlannerAnswer) → PlanGives cs s plan plan′ a → AnswerSmall a
 answer-small s cs small plan plan′ (Planned unit load hyper energy) g = tt
 answer-small s cs small plan plan′ (NotPlanned r) g = small (number r) (second r) (g .0)
 
 -- What is put of an answer, by its cases; it leaves as many bytes as there were.
-pub put-refused : (d : List ℕ) (x : ℕ) (r : Refusal) (a : PlannerAnswer) → a ≡ NotPlanned r → x ≡ code r → AnswerPut a d d x
+pub put-refused : (d : List ℕ) (x : ℕ) (r : Refusal) (a : PlannerAnswer) → a ≡ NotPlanned r → x ≡ code r
+    → AnswerPut a d d x
 put-refused d x r a e h = subst (λ (z : PlannerAnswer). AnswerPut z d d x) (sym e) (h, refl)
 
 pub put-planned : (d d′ : List ℕ) (unit load hyper energy : ℕ) (a : PlannerAnswer) → a ≡ Planned unit load hyper energy

@@ -1,5 +1,5 @@
--- The planner and the dull engine over the contracts of their calls, and of their C entries: "where both succeed the four
--- numbers and the plan list are equal" (document 02, note 7); 5 and 11 apart, all is.
+-- The planner and the dull engine over the contracts of their calls, and of their C entries: "where both succeed the
+-- four numbers and the plan list are equal" (document 02, note 7); 5 and 11 apart, all is.
 -- Assumes nothing.
 use Prim.Native.Nat.{ℕ}
 use mathlib.Core.Path.{_≡_, sym, _∙_}
@@ -21,25 +21,29 @@ use Rattle.dull.specs.Answers.{DullCall}
 use Rattle.capi.specs.Entry.{resultSize, EntryGives, PlanEntry, DullEntry}
 use Rattle.capi.proofs.Unique.{entry-unique}
 
--- ---- the calls. On one list and one plan list, unless the planner refuses with 5 or the dull engine with 11, there is one
--- answer, a plan's four numbers or a refusal, and one plan list.
+-- ---- the calls. On one list and one plan list, unless the planner refuses with 5 or the dull engine with 11, there is
+-- one answer, a plan's four numbers or a refusal, and one plan list.
 pub calls-agree : (s plan work plan₁ work₁ plan₂ : List ℕ) (a b : PlannerAnswer)
     → PlannerCall s plan work plan₁ work₁ a → DullCall s plan plan₂ b
     → (refusedWith a ≡ 5 → ⊥) → (refusedWith b ≡ 11 → ⊥) → (a ≡ b) × (plan₁ ≡ plan₂)
 calls-agree s plan work plan₁ work₁ plan₂ a b x y = one-answer s plan work plan₁ work₁ plan₂ a b (x .gives) (y .gives)
 
--- ---- the entries. Where W working words are lent and the plans are at most 1,000,000, both return the same number, and
--- leave the same plan list and the same result bytes.
+-- ---- the entries. Where W working words are lent and the plans are at most 1,000,000, both return the same number,
+-- and leave the same plan list and the same result bytes.
 module _ (s plan d : List ℕ) where
   -- The checks that both make after 5 or 11.
   abbrev after : List Check
-  after = roomCheck (taskCount Ordinary s) (length plan) ∷ roomCheck resultSize (length d) ∷ noneCheck (Fitting (problem s)) ∷ []
+  after =
+      roomCheck (taskCount Ordinary s) (length plan) ∷ roomCheck resultSize (length d) ∷
+      noneCheck (Fitting (problem s)) ∷ []
 
   after-single : AllSingle (set s ++ after)
   after-single =
-      single-next (set s ++ (roomCheck (taskCount Ordinary s) (length plan) ∷ roomCheck resultSize (length d) ∷ [])) (noneCheck (Fitting (problem s)))
+      single-next (set s ++ (roomCheck (taskCount Ordinary s) (length plan) ∷ roomCheck resultSize (length d) ∷ []))
+      (noneCheck (Fitting (problem s)))
       (single-next (set s ++ (roomCheck (taskCount Ordinary s) (length plan) ∷ [])) (roomCheck resultSize (length d))
-      (single-next (set s) (roomCheck (taskCount Ordinary s) (length plan)) (covered-single Ordinary s) (short-single (taskCount Ordinary s) (length plan)))
+      (single-next (set s) (roomCheck (taskCount Ordinary s) (length plan)) (covered-single Ordinary s)
+      (short-single (taskCount Ordinary s) (length plan)))
       (short-single resultSize (length d)))
       (none-single (Fitting (problem s)))
 
@@ -48,7 +52,8 @@ module _ (s plan d : List ℕ) where
       (gives : (a : PlannerAnswer) → Gives a → PlanGives (set s ++ (c ∷ rest s (length plan))) s plan plan′ a)
       (same : Unchanged → plan′ ≡ plan) where
     without : (d′ : List ℕ) (x : ℕ) → EntryGives (set s ++ (c ∷ after)) Gives plannerValues Unchanged d d′ x
-        → EntryGives (set s ++ after) (PlanGives (set s ++ rest s (length plan)) s plan plan′) plannerValues (plan′ ≡ plan) d d′ x
+        → EntryGives (set s ++ after) (PlanGives (set s ++ rest s (length plan)) s plan plan′) plannerValues
+        (plan′ ≡ plan) d d′ x
     without d′ x =
         ⊎-elim
         (λ g. inl (
@@ -71,7 +76,8 @@ module _ (s plan d : List ℕ) where
       → PlanEntry s plan work d plan₁ work₁ d₁ x → DullEntry s plan d plan₂ d₂ y
       → (x ≡ y) × (plan₁ ≡ plan₂) × (d₁ ≡ d₂)
   entries-agree work plan₁ work₁ d₁ plan₂ d₂ x y five eleven g h =
-      entry-unique (set s ++ after) after-single (PlanGives (set s ++ rest s (length plan)) s plan) plannerValues (λ l. l ≡ plan)
+      entry-unique (set s ++ after) after-single (PlanGives (set s ++ rest s (length plan)) s plan)
+      plannerValues (λ l. l ≡ plan)
       (λ l₁ l₂ a b p q. plan-unique (set s ++ rest s (length plan)) (both-single s (length plan)) s plan l₁ l₂ a b p q)
       (λ l₁ l₂ p q. p ∙ sym q) plan₁ plan₂ d d₁ d₂ x y
       (without (workCheck (workNeeded s) (length work)) five plan₁ _ _ (λ a z. z .0) (λ z. z .0) d₁ x (g .gives))

@@ -7,7 +7,8 @@ use mathlib.Core.Logic.{⊎-elim}
 use lib.ListN.{length, drop}
 use Rattle.selection.specs.Plan.{Fitting}
 use Rattle.taskset.specs.Quantities.{problem}
-use Rattle.taskset.specs.Refusals.{number, second, Check, roomCheck, noneCheck, readyChecks, dullReadyChecks, dullChecks, walkChecks}
+use Rattle.taskset.specs.Refusals.{number, second, Check, roomCheck, noneCheck}
+use Rattle.taskset.specs.Refusals.{readyChecks, dullReadyChecks, dullChecks, walkChecks}
 use Rattle.taskset.specs.Calls.{code, plannerValues, walkValues, PlannerGives, DullGives, WalkAnswers}
 use Rattle.taskset.proofs.Checks.{AllSingle, not-both}
 use Rattle.taskset.proofs.Unique.{short-single, none-single, single-next, ready-single, dull-ready-single, dull-single}
@@ -15,7 +16,8 @@ use Rattle.taskset.proofs.Unique.{walk-single, planner-unique, plan-unique, wal
 use Rattle.draws.specs.Calls.{generatorChecks, GeneratorGives}
 use Rattle.draws.proofs.Unique.{generator-single, generator-unique}
 use Rattle.capi.specs.Entry.{resultBytes, resultSize, EntryGives, walkEntryChecks, WalkEntryGives, beforeSeven}
-use Rattle.capi.specs.Entry.{planEntryChecks, PlanEntry, DullEntry, generateEntryChecks, generatorValues, GenerateEntryGives}
+use Rattle.capi.specs.Entry.{planEntryChecks, PlanEntry, DullEntry}
+use Rattle.capi.specs.Entry.{generateEntryChecks, generatorValues, GenerateEntryGives}
 
 -- ---- every entry. l₁ and l₂ are the other lists as two answers give them back: equal where the call's own answers make
 -- them so, and where both leave them as they were.
@@ -92,7 +94,8 @@ pub dull-entry-unique : (s plan d plan₁ d₁ plan₂ d₂ : List ℕ) (x y : �
     → DullEntry s plan d plan₁ d₁ x → DullEntry s plan d plan₂ d₂ y → (x ≡ y) × (plan₁ ≡ plan₂) × (d₁ ≡ d₂)
 dull-entry-unique s plan d plan₁ d₁ plan₂ d₂ x y g h =
     let ready = dullReadyChecks s (length plan) in
-    entry-unique (planEntryChecks ready s (length d)) (plan-entry-single ready (dull-ready-single s (length plan)) s (length d))
+    entry-unique (planEntryChecks ready s (length d))
+    (plan-entry-single ready (dull-ready-single s (length plan)) s (length d))
     (DullGives s plan) plannerValues (λ l. l ≡ plan)
     (λ l₁ l₂ a b p q. plan-unique (dullChecks s (length plan)) (dull-single s (length plan)) s plan l₁ l₂ a b p q)
     (λ l₁ l₂ p q. p ∙ sym q) plan₁ plan₂ d d₁ d₂ x y (g .gives) (h .gives)

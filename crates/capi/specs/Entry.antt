@@ -9,7 +9,8 @@ use Rattle.selection.specs.Plan.{Fitting, planLoad}
 use Rattle.layout.specs.Words.{rateCount, taskCount}
 use Rattle.layout.specs.declared.Layout.the-variants.{Ordinary}
 use Rattle.taskset.specs.Quantities.{hyperPeriod, problem, walkTasks}
-use Rattle.taskset.specs.Refusals.{number, second, Check, Accepts, Refuses, _▹_, roomCheck, noneCheck, readyChecks, dullReadyChecks, walkChecks}
+use Rattle.taskset.specs.Refusals.{number, second, Check, Accepts, Refuses, _▹_, roomCheck}
+use Rattle.taskset.specs.Refusals.{noneCheck, readyChecks, dullReadyChecks, walkChecks}
 use Rattle.taskset.specs.Calls.{code, plannerValues, walkValues, RateNumber, PlannerGives, DullGives, WalkAnswers}
 use Rattle.taskset.specs.DemandThree.{Keeps, margin, PlanPromise, NoneKeeps, Together, KeptOwes, MissedOwes}
 use Rattle.taskset.specs.declared.Refusal.{Refusal}
@@ -73,8 +74,8 @@ pub record WalkEntry (s P results results′ : List ℕ) (returned : ℕ) : Type
   pub keeps-kept : returned ≡ 0 → KeepsForEver (walkTasks Ordinary s P) → resultAt results′ 0 ≡ 1
   pub kept-iff-keeps : returned ≡ 0 → Together s → (resultAt results′ 0 ≡ 1) ↔ Keeps s P
 
--- A CALL THAT PLANS, FROM C. cs are its own checks but 7; then come the result bytes, then 7. size is how many of them are
--- lent.
+-- A CALL THAT PLANS, FROM C. cs are its own checks but 7; then come the result bytes, then 7. size is how many of them
+-- are lent.
 abbrev pub beforeSeven : List Check → ℕ → List Check
 beforeSeven cs size = cs ▹ roomCheck resultSize size
 
@@ -86,8 +87,8 @@ planEntryChecks cs s size = beforeSeven cs size ▹ noneCheck (Fitting (problem 
 -- plan keeps its promise, with notes 5 and 6, with the unit that the first value is and the energy that the fourth is;
 -- the second value is its load, the third the hyper-period. Margin and energy are so small that a host can work with
 -- them in 64 bits. And 7 is returned if and only if no cause before it holds and no plan keeps every deadline for ever.
-pub record PlansEntry (cs : List Check) (Gives : PlannerAnswer → Type 0) (Unchanged : Type 0) (s plan′ results results′ : List ℕ)
-    (returned : ℕ) : Type 0 where
+pub record PlansEntry (cs : List Check) (Gives : PlannerAnswer → Type 0) (Unchanged : Type 0)
+    (s plan′ results results′ : List ℕ) (returned : ℕ) : Type 0 where
   pub gives : EntryGives (planEntryChecks cs s (length results)) Gives plannerValues Unchanged results results′ returned
   pub numbers : returned ≡ 0 → (t : ℕ) → t < taskCount Ordinary s → RateNumber (rateCount Ordinary s) (getD plan′ t 0)
   pub promise : returned ≡ 0
@@ -101,12 +102,14 @@ pub record PlansEntry (cs : List Check) (Gives : PlannerAnswer → Type 0) (Unch
 -- THE PLANNER FROM C. plan, work and results are the lists as lent, plan′, work′ and results′ as given back.
 abbrev pub PlanEntry : (s plan work results plan′ work′ results′ : List ℕ) → ℕ → Type 0
 PlanEntry s plan work results plan′ work′ =
-    PlansEntry (readyChecks s (length plan) (length work)) (PlannerGives s plan work plan′ work′) ((plan′ ≡ plan) × (work′ ≡ work)) s
-    plan′ results
+    PlansEntry (readyChecks s (length plan) (length work)) (PlannerGives s plan work plan′ work′)
+    ((plan′ ≡ plan) × (work′ ≡ work)) s plan′ results
 
--- THE DULL ENGINE FROM C (document 02, note 7). plan and results are the lists as lent, plan′ and results′ as given back.
+-- THE DULL ENGINE FROM C (document 02, note 7). plan and results are the lists as lent, plan′ and results′ as given
+-- back.
 abbrev pub DullEntry : (s plan results plan′ results′ : List ℕ) → ℕ → Type 0
-DullEntry s plan results plan′ = PlansEntry (dullReadyChecks s (length plan)) (DullGives s plan plan′) (plan′ ≡ plan) s plan′ results
+DullEntry s plan results plan′ =
+    PlansEntry (dullReadyChecks s (length plan)) (DullGives s plan plan′) (plan′ ≡ plan) s plan′ results
 
 -- THE GENERATOR FROM C (document 02, note 1). Its own checks, then the result bytes. The lengths are those of the set's
 -- list and of the result bytes.

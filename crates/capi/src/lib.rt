@@ -132,7 +132,8 @@ pub extern "C" fn seedspell_plan(
     }
 }
 
-// The dull engine: 0 and 32 result bytes (unit, load, L, energy), or a refusal. Too few result bytes are refused before 7.
+// The dull engine: 0 and 32 result bytes (unit, load, L, energy), or a refusal. Too few result bytes are refused before
+// 7.
 #[no_mangle]
 pub extern "C" fn seedspell_plan_dull(set: &[u32], plan: &mut [u32], results: &mut [u8]) -> u64
     ensures { λ r. ⌜ DullEntry (now (set .entry)) (now (plan .entry)) (now (results .entry)) (now (plan .exit)) (now (results .exit)) r ⌝ }

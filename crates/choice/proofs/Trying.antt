@@ -244,7 +244,10 @@ module _ {q : Request} {loads energies load₀ cost₀ work₀ : List ℕ}
         rule = tried-turn (w .rule) least (goes-on .0) (goes-on .1) is;
         reach = (least .plan, least .ok, rw (is .0) (omega (arith, halved, least .reached)));
         narrow =
-            omega (arith, next-in-table (q .slack) (q .tasks) k (2 * k) (g .asked .slacks .0) (goes-on .1) (omega arith));
+            omega (
+              arith,
+              next-in-table (q .slack) (q .tasks) k (2 * k) (g .asked .slacks .0) (goes-on .1) (omega arith),
+            );
         cost-size = u .cost-size ∙ w .cost-size;
         work-size = work-same;
         above = above;

@@ -30,7 +30,8 @@ use Rattle.options.proofs.Planning.{long-enough, set-given, none-given, engine-
 use Rattle.dull.specs.Answers.{DullCall}
 
 -- What meets the definition keeps what demand 3 asks of it.
-called : (s plan plan′ : List ℕ) (a : PlannerAnswer) → DullGives s plan plan′ a → RateNumbers s plan′ a → DullCall s plan plan′ a
+called : (s plan plan′ : List ℕ) (a : PlannerAnswer) → DullGives s plan plan′ a → RateNumbers s plan′ a
+    → DullCall s plan plan′ a
 called s plan plan′ a g n = record {
   gives = g;
   numbers = n;
@@ -69,7 +70,8 @@ module _ {s plan : List ℕ} {m n l : ℕ} (prepared : Prepared s plan m n l) wh
   few : rateCount Ordinary s ^ taskCount Ordinary s ≤ mostPlans
   few =
       ⊎-elim
-      (λ (h : mostPlans < rateCount Ordinary s ^ taskCount Ordinary s). absurd (passed 11 checks refl (good .0) 0 (refl, h)))
+      (λ (h : mostPlans < rateCount Ordinary s ^ taskCount Ordinary s).
+      absurd (passed 11 checks refl (good .0) 0 (refl, h)))
       (λ (h : rateCount Ordinary s ^ taskCount Ordinary s ≤ mostPlans). h)
       (lt-or-le mostPlans (rateCount Ordinary s ^ taskCount Ordinary s))
 

@@ -13,10 +13,11 @@ use Rattle.taskset.proofs.Unique.{dull-ready-single, dull-single, set-unique, p
 use Rattle.dull.specs.Answers.{DullCall}
 
 pub ready-unique : (s : List ℕ) (planLength : ℕ) (a b : Checked)
-    → SetAfter (dullReadyChecks s planLength) Ordinary s a → SetAfter (dullReadyChecks s planLength) Ordinary s b → a ≡ b
+    → SetAfter (dullReadyChecks s planLength) Ordinary s a
+    → SetAfter (dullReadyChecks s planLength) Ordinary s b → a ≡ b
 ready-unique s pl = set-unique (dullReadyChecks s pl) (dull-ready-single s pl) Ordinary s
 
-pub dull-unique : (s plan plan₁ plan₂ : List ℕ) (a b : PlannerAnswer) → DullCall s plan plan₁ a → DullCall s plan plan₂ b
-    → (a ≡ b) × (plan₁ ≡ plan₂)
+pub dull-unique : (s plan plan₁ plan₂ : List ℕ) (a b : PlannerAnswer)
+    → DullCall s plan plan₁ a → DullCall s plan plan₂ b → (a ≡ b) × (plan₁ ≡ plan₂)
 dull-unique s plan p₁ p₂ a b x y =
     plan-unique (dullChecks s (length plan)) (dull-single s (length plan)) s plan p₁ p₂ a b (x .gives) (y .gives)

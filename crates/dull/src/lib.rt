@@ -1,6 +1,6 @@
-// The dull engine (document 02, note 7), for small sets: the planner's answer without working words. The checks in their
-// order, then the choice among the set's options by going through all plans. How options are laid out is left to the
-// crate options, how all plans are gone through to the crate exhaustive.
+// The dull engine (document 02, note 7), for small sets: the planner's answer without working words. The checks in
+// their order, then the choice among the set's options by going through all plans. How options are laid out is left to
+// the crate options, how all plans are gone through to the crate exhaustive.
 ghost use lib.ListN.{length};
 ghost use Rattle.taskset.specs.declared.Checked.the-variants.{Good};
 ghost use Rattle.taskset.specs.Refusals.{dullReadyChecks};

@@ -8,7 +8,8 @@ use lib.ListN.{length}
 use Rattle.layout.specs.Words.{slackPlace, taskCount}
 use Rattle.layout.specs.declared.Layout.the-variants.{Ordinary}
 use Rattle.layout.proofs.Whole.{IsWhole, whole-of}
-use Rattle.taskset.specs.Refusals.{number, second, Check, Passes, Accepts, Refuses, _▹_, idleChecks, hyperCheck, roomCheck}
+use Rattle.taskset.specs.Refusals.{number, second, Check, Passes, Accepts}
+use Rattle.taskset.specs.Refusals.{Refuses, _▹_, idleChecks, hyperCheck, roomCheck}
 use Rattle.taskset.specs.Calls.{SetAfter}
 use Rattle.taskset.specs.declared.Refusal.{Refusal}
 use Rattle.taskset.specs.declared.Refusal.the-variants.{TooShort}
@@ -22,7 +23,8 @@ pub record SetPassed (s : List ℕ) (m n l : ℕ) : Type 0 where
 module _ {s : List ℕ} {m n l : ℕ} (passed-set : SetPassed s m n l) where
   pub whole : IsWhole Ordinary s
   whole =
-      whole-of Ordinary s (no-word-fault Ordinary s (passed 2 (idleChecks Ordinary s ▹ hyperCheck Ordinary s) refl (passed-set .after .0)))
+      whole-of Ordinary s
+      (no-word-fault Ordinary s (passed 2 (idleChecks Ordinary s ▹ hyperCheck Ordinary s) refl (passed-set .after .0)))
 
   pub some-words : slackPlace < length s
   some-words = omega (arith, whole .size)
@@ -35,7 +37,8 @@ module _ (s : List ℕ) (c : Check) (planLength : ℕ) where
   room = roomCheck (taskCount Ordinary s) planLength
 
   -- A refusal of the set is this call's.
-  pub set-refused : (r : Refusal) → SetAfter set Ordinary s (NotGood r) → SetAfter (set ▹ c ▹ room) Ordinary s (NotGood r)
+  pub set-refused : (r : Refusal) → SetAfter set Ordinary s (NotGood r)
+      → SetAfter (set ▹ c ▹ room) Ordinary s (NotGood r)
   set-refused r h = refuses-before (set ▹ c) room (number r) (second r) (refuses-before set c (number r) (second r) h)
 
   module _ {m n l : ℕ} (passed-set : SetPassed s m n l) where
@@ -43,7 +46,8 @@ module _ (s : List ℕ) (c : Check) (planLength : ℕ) where
     good = passed-set .after
 
     -- The call's own check holds.
-    pub own-refused : (r : Refusal) → number r ≡ c .number → c .cause (second r) → SetAfter (set ▹ c ▹ room) Ordinary s (NotGood r)
+    pub own-refused : (r : Refusal) → number r ≡ c .number → c .cause (second r)
+        → SetAfter (set ▹ c ▹ room) Ordinary s (NotGood r)
     own-refused r e h =
         refuses-before (set ▹ c) room (number r) (second r)
         (subst (λ (x : ℕ). Refuses (set ▹ c) x (second r)) (sym e) (refuses-next set c (second r) (good .0) h))

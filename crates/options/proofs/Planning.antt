@@ -49,7 +49,8 @@ module _ (s : List ℕ) (cs : List Check) (plans : Plans s cs) where
 
   module _ (accepts : Accepts cs) where
     -- No plan fits.
-    pub none-given : (plan : List ℕ) → ((P : List ℕ) → Fitting (problem s) P → ⊥) → PlanGives (cs ▹ seven) s plan plan (NotPlanned NoPlan)
+    pub none-given : (plan : List ℕ) → ((P : List ℕ) → Fitting (problem s) P → ⊥)
+        → PlanGives (cs ▹ seven) s plan plan (NotPlanned NoPlan)
     none-given plan none = (refuses-next cs seven 0 accepts (refl, none), refl)
 
     -- A request for the set, q.
@@ -77,7 +78,13 @@ module _ (s : List ℕ) (cs : List Check) (plans : Plans s cs) where
         own-plan = plan-same array (problem s) (p .same) P plan-is
 
         fits : planLoad (problem s) P ≤ hyperPeriod Ordinary s
-        fits = omega (arith, chose .planned .chosen .ok .fits, load-same array (problem s) (p .same) P plan-is, p .same .limit)
+        fits =
+            omega (
+              arith,
+              chose .planned .chosen .ok .fits,
+              load-same array (problem s) (p .same) P plan-is,
+              p .same .limit,
+            )
 
         -- l is the hyper-period.
         module _ {l : ℕ} (l-is : l ≡ hyperPeriod Ordinary s) where
@@ -102,16 +109,20 @@ module _ (s : List ℕ) (cs : List Check) (plans : Plans s cs) where
             exponent = chose .exponent;
             planned =
                 rw (← p .slack-is)
-                (planned-same array (problem s) (p .same) (p .asked .rates .0) (q .slack) (chose .exponent) P (chose .planned));
-            values-are = cc (chose .unit-is, chose .load-is ∙ load-same array (problem s) (p .same) P plan-is, l-is, energy-is);
+                (planned-same array (problem s) (p .same) (p .asked .rates .0) (q .slack) (chose .exponent) P
+                (chose .planned));
+            values-are =
+                cc (chose .unit-is, chose .load-is ∙ load-same array (problem s) (p .same) P plan-is, l-is, energy-is);
           }
 
           holds : HoldsPlan (taskCount Ordinary s) P plan plan′
           holds = rw (← p .same .count) (record { front = refl; rest = chose .rest })
 
           pub plan-given : PlanGives (cs ▹ seven) s plan plan′ (Planned (c .unit) (c .load) l (c .energy + idle s * l))
-          plan-given =
-              (accepts-next cs seven accepts (λ k none. none .1 P (record { plan = own-plan; fits = fits })), (P, selected, holds))
+          plan-given = (
+            accepts-next cs seven accepts (λ k none. none .1 P (record { plan = own-plan; fits = fits })),
+            (P, selected, holds),
+          )
 
           pub numbers : RateNumbers s plan′ (Planned (c .unit) (c .load) l (c .energy + idle s * l))
           numbers t h =

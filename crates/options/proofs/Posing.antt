@@ -1,5 +1,5 @@
--- From a set to what an engine is asked for it: the arrays give the set's own problem, and some plan fits exactly when the
--- plan with every task at the last rate does.
+-- From a set to what an engine is asked for it: the arrays give the set's own problem, and some plan fits exactly when
+-- the plan with every task at the last rate does.
 -- Assumes nothing.
 use Prim.Native.Nat.{ℕ, _≤_, _<_}
 use mathlib.Core.Path.{_≡_, _∙_}
@@ -29,8 +29,10 @@ module _ {s : List ℕ} {m n l : ℕ} (given : SetGiven s m n l) where
   some-words = omega (arith, given .set .whole .size)
 
   rates-range : (2 ≤ m) × (m ≤ mostRates)
-  rates-range =
-      (omega (arith, given .rates, given .set .whole .rates-range .0), omega (arith, given .rates, given .set .whole .rates-range .1))
+  rates-range = (
+    omega (arith, given .rates, given .set .whole .rates-range .0),
+    omega (arith, given .rates, given .set .whole .rates-range .1),
+  )
 
   few : n ≤ mostTasks
   few = omega (arith, given .tasks, given .set .whole .tasks-range .1)
@@ -76,9 +78,11 @@ module _ {s : List ℕ} {m n l : ℕ} (given : SetGiven s m n l) where
       fastest-is : f ≡ planLoad (problem s) (fastest (problem s))
       fastest-is = array-sum ∙ fastest-load-same chosenFrom (problem s) same (omega (arith, rates-range .0))
 
-      fits-iff : ((P : List ℕ) × Fitting (problem s) P) ↔ (planLoad (problem s) (fastest (problem s)) ≤ hyperPeriod Ordinary s)
+      fits-iff : ((P : List ℕ) × Fitting (problem s) P)
+          ↔ (planLoad (problem s) (fastest (problem s)) ≤ hyperPeriod Ordinary s)
       fits-iff =
-          some-fits-iff-fastest (problem s) (omega (arith, given .set .whole .rates-range .0)) (falling Ordinary s (given .set))
+          some-fits-iff-fastest (problem s) (omega (arith, given .set .whole .rates-range .0))
+          (falling Ordinary s (given .set))
 
       -- Where the fastest plan does not fit, none does.
       pub none-fits : l < f → (P : List ℕ) → Fitting (problem s) P → ⊥

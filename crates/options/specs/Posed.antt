@@ -1,5 +1,5 @@
--- What an engine is asked for a set. Not part of what a reader must believe: the calls' contracts speak of the set's own
--- problem.
+-- What an engine is asked for a set. Not part of what a reader must believe: the calls' contracts speak of the set's
+-- own problem.
 use Prim.Native.Nat.{ℕ}
 use mathlib.Core.Path.{_≡_}
 use mathlib.Core.List.{List}

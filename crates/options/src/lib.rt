@@ -68,8 +68,8 @@ pub fn put_tasks(
     }
 }
 
-// The options of a set that has passed the checks before 7, and check 7. No load is lower than at the last rate, so some
-// plan fits exactly when the plan with every task at that rate does.
+// The options of a set that has passed the checks before 7, and check 7. No load is lower than at the last rate, so
+// some plan fits exactly when the plan with every task at that rate does.
 pub fn pose(
     loads: &mut [u64; 512],
     energies: &mut [u64; 512],

@@ -31,7 +31,11 @@ called : (s plan work plan′ work′ : List ℕ) (a : PlannerAnswer) → Planne
     → RateNumbers s plan′ a → PlannerCall s plan work plan′ work′ a
 called s plan work plan′ work′ a g n =
     let plans = planner-plans s (length plan) (length work) in
-    record { gives = g; numbers = n; owes = answer-owes s (readyChecks s (length plan) (length work)) plans plan plan′ a (g .0) }
+    record {
+      gives = g;
+      numbers = n;
+      owes = answer-owes s (readyChecks s (length plan) (length work)) plans plan plan′ a (g .0);
+    }
 
 -- A refusal by the checks before 7 is the call's, and leaves the lists as they were.
 pub ready-refused : (s plan work : List ℕ) (r : Refusal)
@@ -39,7 +43,8 @@ pub ready-refused : (s plan work : List ℕ) (r : Refusal)
     → PlannerCall s plan work plan work (NotPlanned r)
 ready-refused s plan work r h =
     let refuses : Refuses (plannerChecks s (length plan) (length work)) (number r) (second r)
-    = refuses-before (readyChecks s (length plan) (length work)) (noneCheck (Fitting (problem s))) (number r) (second r) h in
+    = refuses-before (readyChecks s (length plan) (length work)) (noneCheck (Fitting (problem s)))
+    (number r) (second r) h in
     called s plan work plan work (NotPlanned r) ((refuses, refl), refl) tt
 
 -- A set of m rates, n tasks and hyper-period l has passed the checks before 7.
@@ -64,7 +69,8 @@ module _ {s plan work : List ℕ} {m n l : ℕ} (prepared : Prepared s plan work
 
   -- No plan fits.
   pub none-fits : ((P : List ℕ) → Fitting (problem s) P → ⊥) → PlannerCall s plan work plan work (NotPlanned NoPlan)
-  none-fits none = called s plan work plan work (NotPlanned NoPlan) (none-given s checks plans (good .0) plan none, refl) tt
+  none-fits none =
+      called s plan work plan work (NotPlanned NoPlan) (none-given s checks plans (good .0) plan none, refl) tt
 
   -- A request for the set, and what was chosen for it.
   module _ {loads energies : List ℕ} {q : Request} (p : Poses s loads energies q) where

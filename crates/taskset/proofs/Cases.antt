@@ -24,7 +24,8 @@ use Rattle.selection.proofs.Compute.{trace, leastEnergy, choose, usedFrom, used
 use Rattle.layout.specs.Words.{slack, rateCount, taskCount, headKinds, extraKinds, kindIn, headKind, taskKind, kindAt, allows}
 use Rattle.layout.specs.declared.Layout.the-variants.{Ordinary}
 use Rattle.taskset.specs.Quantities.{hyperPeriod, problem, walkTasks, jobsEnergy, reportedEnergy, workNeeded}
-use Rattle.taskset.specs.Refusals.{mostPlans, number, second, Check, Accepts, _▹_, wordChecks, idleChecks, hyperCheck}
+use Rattle.taskset.specs.Refusals.{mostPlans, number, second, Check, Accepts}
+use Rattle.taskset.specs.Refusals.{_▹_, wordChecks, idleChecks, hyperCheck}
 use Rattle.taskset.specs.Refusals.{workCheck, roomCheck, noneCheck, planCheck, readyChecks, plannerChecks}
 use Rattle.taskset.specs.Refusals.{walkChecks}
 use Rattle.taskset.specs.Calls.{code, plannerValues, walkValues, SetAfter, PlannerGives, DullGives, WalkAnswers}
@@ -170,8 +171,8 @@ module _ (s : List ℕ) where
     planned P a unit load energy some-rate fits size used chosen u w j plan work p q =
         let fit : Fitting (problem s) (fastest (problem s)) = fastest-fits (problem s) some-rate fits in (
           (
-            accepts-next (readyChecks s (length plan) (length work)) (noneCheck (Fitting (problem s))) (enough plan work (omega arith) (omega arith))
-                (λ k h. h .1 (fastest (problem s)) fit),
+            accepts-next (readyChecks s (length plan) (length work)) (noneCheck (Fitting (problem s)))
+                (enough plan work (omega arith) (omega arith)) (λ k h. h .1 (fastest (problem s)) fit),
             (
               P,
               record {
@@ -181,7 +182,9 @@ module _ (s : List ℕ) where
               },
               record {
                 front = take-all (taskCount Ordinary s) P (omega arith);
-                rest = drop-of-length-le P {i = taskCount Ordinary s} (omega arith) ∙ sym (drop-of-length-le plan {i = taskCount Ordinary s} (omega arith));
+                rest =
+                    drop-of-length-le P {i = taskCount Ordinary s} (omega arith) ∙
+                    sym (drop-of-length-le plan {i = taskCount Ordinary s} (omega arith));
               },
             ),
           ),
@@ -193,8 +196,10 @@ module _ (s : List ℕ) where
         → PlannerGives s plan work plan work (NotPlanned (TooShort (taskCount Ordinary s)))
     plan-short plan work q p = (
       (
-        refuses-before (readyChecks s (length plan) (length work)) (noneCheck (Fitting (problem s))) 6 (taskCount Ordinary s)
-            (refuses-next (upTo5 plan work) (roomCheck (taskCount Ordinary s) (length plan)) (taskCount Ordinary s) (work-enough plan work q) (p, refl)),
+        refuses-before (readyChecks s (length plan) (length work)) (noneCheck (Fitting (problem s)))
+            6 (taskCount Ordinary s)
+            (refuses-next (upTo5 plan work) (roomCheck (taskCount Ordinary s) (length plan)) (taskCount Ordinary s)
+            (work-enough plan work q) (p, refl)),
         refl,
       ),
       refl,
@@ -204,7 +209,9 @@ module _ (s : List ℕ) where
     no-plan : 1 ≤ rateCount Ordinary s → L < planLoad (problem s) (fastest (problem s))
         → (plan work : List ℕ) → taskCount Ordinary s ≤ length plan → workNeeded s ≤ length work → PlannerGives s plan work plan work (NotPlanned NoPlan)
     no-plan some-rate over plan work p q =
-        let refuses = refuses-next (readyChecks s (length plan) (length work)) (noneCheck (Fitting (problem s))) 0 (enough plan work q p) (refl, none-fits) in
+        let refuses =
+        refuses-next (readyChecks s (length plan) (length work)) (noneCheck (Fitting (problem s))) 0
+        (enough plan work q p) (refl, none-fits) in
         ((refuses, refl), refl)
       where
         none-fits : (P : List ℕ) → Fitting (problem s) P → ⊥
@@ -263,8 +270,8 @@ dull-planned : (s P : List ℕ) (unit load hyper energy : ℕ) → Given s P uni
     → (plan : List ℕ) → length plan ≡ taskCount Ordinary s → DullGives s plan P (Planned unit load hyper energy)
 dull-planned s P unit load hyper energy given small plan size =
     let work : List ℕ = replicate (workNeeded s) 0 in
-    as-dull s plan work P work (Planned unit load hyper energy) (given plan work size (length-replicate (workNeeded s) 0))
-    (λ e. omega arith) (few s small)
+    as-dull s plan work P work (Planned unit load hyper energy)
+    (given plan work size (length-replicate (workNeeded s) 0)) (λ e. omega arith) (few s small)
 
 -- ---- the cases
 pub record Cases : Type 0 where
@@ -378,8 +385,8 @@ pub record Cases : Type 0 where
   walk-together : WalkAnswers (with-firsts 2 4 0 0) (1 ∷ 1 ∷ []) (Kept 4 0 1)
   -- With both released together the first set misses where it has to: at L.
   missed-together : WalkAnswers (with-firsts 2 2 0 0) (1 ∷ 1 ∷ []) (Missed 2 2)
-  -- Document 02, note 7: the dull engine has the planner's answers to S, at both slacks, to the tie and to 61 cycles, and
-  -- is lent no working words. Its own edges are in DullCases.antt.
+  -- Document 02, note 7: the dull engine has the planner's answers to S, at both slacks, to the tie and to 61 cycles,
+  -- and is lent no working words. Its own edges are in DullCases.antt.
   dull-100 : (plan : List ℕ) → length plan ≡ 2 → DullGives (S 100) plan (2 ∷ 1 ∷ []) (Planned 1 29 30 41)
   dull-1000 : (plan : List ℕ) → length plan ≡ 2 → DullGives (S 1000) plan (1 ∷ 2 ∷ []) (Planned 8 28 30 42)
   dull-tie : (plan : List ℕ) → length plan ≡ 2 → DullGives even-tasks plan (2 ∷ 1 ∷ []) (Planned 1 4 4 6)
@@ -419,9 +426,11 @@ cases =
     let of-S : Given (S 100) (2 ∷ 1 ∷ []) 1 29 30 41
     = planned (S 100) 3 2 30 refl (2 ∷ 1 ∷ []) 0 1 29 41 (le-by-compare _ _ tt) (le-by-compare _ _ tt) refl refl refl refl refl refl in
     let of-S-1000 : Given (S 1000) (1 ∷ 2 ∷ []) 8 28 30 42
-    = planned (S 1000) 3 2 30 refl (1 ∷ 2 ∷ []) 3 8 28 42 (le-by-compare _ _ tt) (le-by-compare _ _ tt) refl refl refl refl refl refl in
+    = planned (S 1000) 3 2 30 refl (1 ∷ 2 ∷ []) 3 8 28 42
+    (le-by-compare _ _ tt) (le-by-compare _ _ tt) refl refl refl refl refl refl in
     let of-tie : Given even-tasks (2 ∷ 1 ∷ []) 1 4 4 6
-    = planned even-tasks 2 2 4 refl (2 ∷ 1 ∷ []) 0 1 4 6 (le-by-compare _ _ tt) (le-by-compare _ _ tt) refl refl refl refl refl refl in
+    = planned even-tasks 2 2 4 refl (2 ∷ 1 ∷ []) 0 1 4 6
+    (le-by-compare _ _ tt) (le-by-compare _ _ tt) refl refl refl refl refl refl in
     record {
       planned-100 = of-S;
       work-242 = λ plan work h. work-short (S 100) 3 2 30 refl plan work (omega arith);

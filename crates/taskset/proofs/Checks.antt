@@ -59,7 +59,8 @@ module _ (c : Check) (ds : List Check) where
   accepts-leave [] a = a .1
   accepts-leave (d ∷ cs) a = (a .0, accepts-leave cs (a .1))
 
-  pub refuses-leave : (cs : List Check) (n k : ℕ) → ((n ≡ c .number) × c .cause k → ⊥) → Refuses (cs ++ (c ∷ ds)) n k → Refuses (cs ++ ds) n k
+  pub refuses-leave : (cs : List Check) (n k : ℕ) → ((n ≡ c .number) × c .cause k → ⊥)
+      → Refuses (cs ++ (c ∷ ds)) n k → Refuses (cs ++ ds) n k
   refuses-leave [] n k not r = ⊎-elim (λ h. absurd (not h)) (λ h. h .1) r
   refuses-leave (d ∷ cs) n k not r = ⊎-elim (λ h. inl h) (λ h. inr (h .0, refuses-leave cs n k not (h .1))) r
 

@@ -22,16 +22,18 @@ use Rattle.selection.specs.Plan.{Fitting, IsPlan, IsPlanned, planLoad, planEner
 use Rattle.selection.proofs.Bounds.{planned-within, within-margin}
 use Rattle.layout.specs.Words.{longestPeriod, slack, idle, rateCount, taskCount, first}
 use Rattle.taskset.specs.Quantities.{hyperPeriod, problem, endlessTasks, tasksWith, walkTasks, lastTick, reportedEnergy}
-use Rattle.taskset.specs.Refusals.{number, second, Check, Accepts, Refuses, _▹_, NoneOk, PlanFault, IsBadPlan, readyChecks, dullReadyChecks, walkChecks}
+use Rattle.taskset.specs.Refusals.{number, second, Check, Accepts, Refuses, _▹_, NoneOk}
+use Rattle.taskset.specs.Refusals.{PlanFault, IsBadPlan, readyChecks, dullReadyChecks, walkChecks}
 use Rattle.taskset.specs.Refusals.{wordCheck, rateCheck, idleCheck, hyperCheck, noneCheck}
 use Rattle.taskset.specs.Calls.{plannerValues, Selected, PlanGives, outcomeValues, walkOf, WalkAnswers}
-use Rattle.taskset.specs.DemandThree.{Keeps, margin, PlanPromise, NoneKeeps, AreFirsts, PlanOwes, Together, WalkOwes}
+use Rattle.taskset.specs.DemandThree.{Keeps, margin, PlanPromise, NoneKeeps}
+use Rattle.taskset.specs.DemandThree.{AreFirsts, PlanOwes, Together, WalkOwes}
 use Rattle.taskset.specs.declared.PlannerAnswer.{PlannerAnswer}
 use Rattle.taskset.specs.declared.PlannerAnswer.the-variants.{Planned, Refused as NotPlanned}
 use Rattle.taskset.specs.declared.WalkAnswer.{WalkAnswer}
 use Rattle.taskset.specs.declared.WalkAnswer.the-variants.{Kept, Missed, Refused as NotWalked}
-use Rattle.taskset.proofs.Checks.{no-plan-fault, numbered, lacks, Without, without-by, accepts-but-last, refuses-next}
-use Rattle.taskset.proofs.Checks.{refuses-cases, refuses-last, passed, not-both}
+use Rattle.taskset.proofs.Checks.{no-plan-fault, numbered, lacks, Without, without-by, accepts-but-last}
+use Rattle.taskset.proofs.Checks.{refuses-next, refuses-cases, refuses-last, passed, not-both}
 use Rattle.layout.proofs.Whole.{slack-in, first-in}
 use Rattle.layout.specs.declared.Layout.the-variants.{Ordinary}
 use Rattle.taskset.proofs.Sets.{IsSet, set-of, regular, walk-load, keeps-iff-load}
@@ -151,16 +153,18 @@ module _ (s : List ℕ) (set : IsSet Ordinary s) where
           busy-is-load ks (hyperPeriod Ordinary s) busy idle preempted (sym walk-is ∙ e) (set .hyper-range .0) (regular Ordinary s set P) ∙
           walk-load Ordinary s set P
 
--- What the checks that a call which plans makes before 7 come to: the list is a set, with energies that cover idling, and
--- 7 is not among them.
+-- What the checks that a call which plans makes before 7 come to: the list is a set, with energies that cover idling,
+-- and 7 is not among them.
 pub record Plans (s : List ℕ) (cs : List Check) : Type 0 where
   pub set : Accepts cs → IsSet Ordinary s
   pub covered : Accepts cs → Covered Ordinary s
   pub not-7 : Without 7 cs
 
 -- By computing: 2, 3, 4 and 10 are among them.
-pub plans-by : (s : List ℕ) (cs : List Check) → numbered 2 cs ≡ some (wordCheck Ordinary s) → numbered 3 cs ≡ some (rateCheck Ordinary s)
-    → numbered 4 cs ≡ some (hyperCheck Ordinary s) → numbered 10 cs ≡ some (idleCheck Ordinary s) → lacks 7 cs ≡ true → Plans s cs
+pub plans-by : (s : List ℕ) (cs : List Check)
+    → numbered 2 cs ≡ some (wordCheck Ordinary s) → numbered 3 cs ≡ some (rateCheck Ordinary s)
+    → numbered 4 cs ≡ some (hyperCheck Ordinary s) → numbered 10 cs ≡ some (idleCheck Ordinary s)
+    → lacks 7 cs ≡ true → Plans s cs
 plans-by s cs two three four ten none = record {
   set = λ a. set-of Ordinary s (passed 2 cs two a) (passed 3 cs three a) (passed 4 cs four a);
   covered = λ a. covered-of Ordinary s (passed 10 cs ten a);
@@ -173,8 +177,8 @@ planner-plans s pl wl = plans-by s (readyChecks s pl wl) refl refl refl refl ref
 pub dull-plans : (s : List ℕ) (planLength : ℕ) → Plans s (dullReadyChecks s planLength)
 dull-plans s pl = plans-by s (dullReadyChecks s pl) refl refl refl refl refl
 
--- A call with such checks, and 7 last, refuses with 7 exactly when all before it pass and no plan keeps every deadline for
--- ever.
+-- A call with such checks, and 7 last, refuses with 7 exactly when all before it pass and no plan keeps every deadline
+-- for ever.
 module _ (s : List ℕ) (cs : List Check) (plans : Plans s cs) where
   abbrev last : Check
   last = noneCheck (Fitting (problem s))
@@ -198,7 +202,8 @@ module _ (s : List ℕ) (cs : List Check) (plans : Plans s cs) where
   )
 
   -- Whatever meets the definition of what such a call gives keeps what demand 3 asks of it.
-  pub answer-owes : (plan plan′ : List ℕ) (a : PlannerAnswer) → PlanGives (cs ▹ last) s plan plan′ a → PlanOwes cs s plan′ a
+  pub answer-owes : (plan plan′ : List ℕ) (a : PlannerAnswer)
+      → PlanGives (cs ▹ last) s plan plan′ a → PlanOwes cs s plan′ a
   answer-owes plan plan′ (Planned unit load hyper energy) g =
       let ready = accepts-but-last cs last (g .0) in
       rw (g .1 .2 .front)

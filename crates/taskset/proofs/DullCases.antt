@@ -1,5 +1,5 @@
--- The edges of document 02's note 7, proved of the definitions: which powers are over 1,000,000, and where 11 stands among
--- the dull engine's checks. The plans that it gives are in Cases.antt.
+-- The edges of document 02's note 7, proved of the definitions: which powers are over 1,000,000, and where 11 stands
+-- among the dull engine's checks. The plans that it gives are in Cases.antt.
 -- Assumes nothing.
 use Prim.Native.Nat.{ℕ, zero, suc, _^_, _≤_, _<_}
 use native.Mathlib.Bridge.{le-by-compare, IsLe}
@@ -20,7 +20,8 @@ use Rattle.taskset.specs.declared.Checked.{Checked}
 use Rattle.taskset.specs.declared.Checked.the-variants.{Good, Refused as NotGood}
 use Rattle.taskset.specs.declared.PlannerAnswer.the-variants.{Refused as NotPlanned}
 use Rattle.taskset.proofs.Checks.{nothing, same, refuses-early, refuses-next}
-use Rattle.taskset.proofs.Verdict.{isBad, isFall, isOver, isBelow, hasBelow, shapeOf, coverOf, afterShape, coveredOf, covered-answers}
+use Rattle.taskset.proofs.Verdict.{isBad, isFall, isOver, isBelow, hasBelow, shapeOf}
+use Rattle.taskset.proofs.Verdict.{coverOf, afterShape, coveredOf, covered-answers}
 
 -- n tasks of 1 cycle, released together, with m energies of 1; the last has period p, the others q.
 tasks : ℕ → ℕ → ℕ → ℕ → List ℕ
@@ -44,13 +45,17 @@ module _ (s : List ℕ) where
   answered x e = subst (SetAfter set Ordinary s) e (covered-answers Ordinary s)
 
   set-refused : (r : Refusal) → coveredOf Ordinary s ≡ NotGood r → DullDeclined s r
-  set-refused r e plan =
-      (refuses-early set (dullChecks s (length plan)) (same (same (same (same nothing)))) (number r) (second r) (answered (NotGood r) e), refl)
+  set-refused r e plan = (
+    refuses-early set (dullChecks s (length plan)) (same (same (same (same nothing)))) (number r) (second r)
+        (answered (NotGood r) e),
+    refl,
+  )
 
-  too-many : (m n l : ℕ) → coveredOf Ordinary s ≡ Good m n l → mostPlans < rateCount Ordinary s ^ taskCount Ordinary s → DullDeclined s TooManyPlans
+  too-many : (m n l : ℕ) → coveredOf Ordinary s ≡ Good m n l
+      → mostPlans < rateCount Ordinary s ^ taskCount Ordinary s → DullDeclined s TooManyPlans
   too-many m n l e over plan = (
-    refuses-early (set ▹ manyCheck Ordinary s) (dullChecks s (length plan)) (same (same (same (same (same nothing))))) 11 0
-        (refuses-next set (manyCheck Ordinary s) 0 (answered (Good m n l) e .0) (refl, over)),
+    refuses-early (set ▹ manyCheck Ordinary s) (dullChecks s (length plan)) (same (same (same (same (same nothing)))))
+        11 0 (refuses-next set (manyCheck Ordinary s) 0 (answered (Good m n l) e .0) (refl, over)),
     refl,
   )
 
@@ -58,9 +63,9 @@ module _ (s : List ℕ) where
   few h k many = omega (arith, many .1)
 
 pub record DullCases : Type 0 where
-  -- "11, M to the power N is over 1,000,000, with 0". The most that are not over: 2^19, 3^12 and 7^7 = 823,543; the fewest
-  -- that are: 2^20 = 1,048,576; and the most there are, 8^32. 11 stands before 6 and 7: a plan list of no words makes no
-  -- difference.
+  -- "11, M to the power N is over 1,000,000, with 0". The most that are not over: 2^19, 3^12 and 7^7 = 823,543; the
+  -- fewest that are: 2^20 = 1,048,576; and the most there are, 8^32. 11 stands before 6 and 7: a plan list of no words
+  -- makes no difference.
   plans-2-19 : Passes (manyCheck Ordinary (many 2 19 100 100))
   plans-3-12 : Passes (manyCheck Ordinary (many 3 12 100 100))
   plans-7-7 : Passes (manyCheck Ordinary (many 7 7 100 100))

@@ -25,7 +25,8 @@ use Rattle.taskset.specs.Quantities.{jobTicks, jobTime, hyperPeriod, tas
 use Rattle.taskset.specs.Quantities.{reportedEnergy, workNeeded}
 use Rattle.taskset.specs.Refusals.{number, second, RateFault, IsNotAbove, EnergyFault, IsBelowIdle, PassesLimit, IsTooLong}
 use Rattle.taskset.specs.Refusals.{IsShort, NoneOk, Passes, check, wordCheck, plannerChecks}
-use Rattle.taskset.specs.Calls.{plannerValues, Selected, HoldsPlan, PlanGives, Cleared, WorkAfter, DifferInFirsts, PlannerGives}
+use Rattle.taskset.specs.Calls.{plannerValues, Selected, HoldsPlan, PlanGives}
+use Rattle.taskset.specs.Calls.{Cleared, WorkAfter, DifferInFirsts, PlannerGives}
 use Rattle.taskset.specs.declared.PlannerAnswer.{PlannerAnswer}
 use Rattle.taskset.specs.declared.PlannerAnswer.the-variants.{Planned, Refused as NotPlanned}
 use Rattle.taskset.proofs.Checks.{no-word-fault, Agree, AllAgree, _then_, no-more, agree-accepts, agree-refuses}
@@ -247,7 +248,8 @@ module _ (s s′ : List ℕ) (a : Alike s s′) (pass : Passes (wordCheck Ordina
   plan-same plan plan′ pl wl (NotPlanned r) g = (agree-refuses (checks-agree pl wl) (number r) (second r) (g .0), g .1)
 
   cleared-same : (work work′ : List ℕ) (x : PlannerAnswer) → WorkAfter s work work′ x → WorkAfter s′ work work′ x
-  cleared-same work work′ (Planned unit load hyper energy) g = subst (λ (w : ℕ). Cleared w work work′) (work-same s s′ a) g
+  cleared-same work work′ (Planned unit load hyper energy) g =
+      subst (λ (w : ℕ). Cleared w work work′) (work-same s s′ a) g
   cleared-same work work′ (NotPlanned r) g = g
 
   pub gives-same : (plan work plan′ work′ : List ℕ) (x : PlannerAnswer)

@@ -15,8 +15,8 @@ use Rattle.layout.specs.Words.{headSize, slack, rateCount, taskCount, wordCount
 use Rattle.taskset.specs.Quantities.{workNeeded, problem}
 use Rattle.taskset.specs.Refusals.{IsBadWord, IsNotAbove, IsBelowIdle, IsTooLong, IsShort, IsBadPlan, Check}
 use Rattle.taskset.specs.Refusals.{Accepts, Refuses, _▹_, wordChecks, idleCheck, idleChecks, hyperCheck}
-use Rattle.taskset.specs.Refusals.{workCheck, manyCheck, roomCheck, noneCheck, planCheck, readyChecks, plannerChecks}
-use Rattle.taskset.specs.Refusals.{dullReadyChecks, dullChecks, walkChecks}
+use Rattle.taskset.specs.Refusals.{workCheck, manyCheck, roomCheck, noneCheck, planCheck, readyChecks}
+use Rattle.taskset.specs.Refusals.{plannerChecks, dullReadyChecks, dullChecks, walkChecks}
 use Rattle.layout.specs.declared.Kind.{Kind}
 use Rattle.layout.specs.declared.Kind.the-variants.{RateCount, TaskCount}
 use Rattle.taskset.proofs.Checks.{no-word-fault, refuses-cases, passed}
@@ -175,4 +175,5 @@ module _ (s : List ℕ) where
 
     pub dull-second-small : (n k : ℕ) → Refuses (dullChecks s planLength) n k → k < 2 ^ 32
     dull-second-small =
-        next-small (dullReadyChecks s planLength) (noneCheck (Fitting (problem s))) dull-ready-small (λ a k h. omega (arith, h .0))
+        next-small (dullReadyChecks s planLength) (noneCheck (Fitting (problem s))) dull-ready-small
+        (λ a k h. omega (arith, h .0))

@@ -18,10 +18,12 @@ use Rattle.taskset.specs.Quantities.{problem, workNeeded}
 use Rattle.taskset.specs.Refusals.{number, second, IsShort, NoneOk, Check, Refuses, _▹_, wordChecks, idleCheck}
 use Rattle.taskset.specs.Refusals.{idleChecks, hyperCheck, manyCheck, workCheck, roomCheck, noneCheck, planCheck}
 use Rattle.taskset.specs.Refusals.{readyChecks, plannerChecks, dullReadyChecks, dullChecks, walkChecks}
-use Rattle.taskset.specs.Calls.{CopyGives, CountsAfter, SetAfter, Selected, PlanGives, WorkAfter, PlannerGives, WalkAnswers}
+use Rattle.taskset.specs.Calls.{CopyGives, CountsAfter, SetAfter, Selected}
+use Rattle.taskset.specs.Calls.{PlanGives, WorkAfter, PlannerGives, WalkAnswers}
 use Rattle.taskset.specs.declared.Refusal.{Refusal}
 use Rattle.taskset.specs.declared.Refusal.the-variants.{TextDeparts, BadWord, NotAbove, TooLong, WorkShort}
-use Rattle.taskset.specs.declared.Refusal.the-variants.{TooShort, NoPlan, BadPlan, EnergyOver, BelowIdle, TooManyPlans}
+use Rattle.taskset.specs.declared.Refusal.the-variants.{TooShort, NoPlan, BadPlan}
+use Rattle.taskset.specs.declared.Refusal.the-variants.{EnergyOver, BelowIdle, TooManyPlans}
 use Rattle.taskset.specs.declared.Shape.{Shape}
 use Rattle.taskset.specs.declared.Shape.the-variants.{Whole, Refused as NotWhole}
 use Rattle.taskset.specs.declared.Checked.{Checked}
@@ -133,7 +135,8 @@ dull-ready-single s pl =
 
 pub dull-single : (s : List ℕ) (planLength : ℕ) → AllSingle (dullChecks s planLength)
 dull-single s pl =
-    single-next (dullReadyChecks s pl) (noneCheck (Fitting (problem s))) (dull-ready-single s pl) (none-single (Fitting (problem s)))
+    single-next (dullReadyChecks s pl) (noneCheck (Fitting (problem s)))
+    (dull-ready-single s pl) (none-single (Fitting (problem s)))
 
 pub walk-single : (s P : List ℕ) → AllSingle (walkChecks s P)
 walk-single s P = single-next (wordChecks Ordinary s ▹ hyperCheck Ordinary s) (planCheck Ordinary s P) (set-single Ordinary s) lowest-single
@@ -188,20 +191,22 @@ planned-one cs ds s plan p₁ p₂ u l h e u′ l′ h′ e′ x y =
 
 -- And so is the answer of a call that plans, after checks that each hold with one second number at most.
 module _ (cs : List Check) (single : AllSingle cs) (s plan : List ℕ) where
-  pub plan-unique : (plan₁ plan₂ : List ℕ) (a b : PlannerAnswer) → PlanGives cs s plan plan₁ a → PlanGives cs s plan plan₂ b
-      → (a ≡ b) × (plan₁ ≡ plan₂)
+  pub plan-unique : (plan₁ plan₂ : List ℕ) (a b : PlannerAnswer)
+      → PlanGives cs s plan plan₁ a → PlanGives cs s plan plan₂ b → (a ≡ b) × (plan₁ ≡ plan₂)
   plan-unique p₁ p₂ (Planned u l h e) (Planned u′ l′ h′ e′) x y = planned-one cs cs s plan p₁ p₂ u l h e u′ l′ h′ e′ x y
   plan-unique p₁ p₂ (Planned u l h e) (NotPlanned r) x y = absurd (not-both cs (number r) (second r) (x .0) (y .0))
   plan-unique p₁ p₂ (NotPlanned r) (Planned u l h e) x y = absurd (not-both cs (number r) (second r) (y .0) (x .0))
   plan-unique p₁ p₂ (NotPlanned q) (NotPlanned r) x y =
       (ap NotPlanned (refusal-unique cs single q r (x .0) (y .0)), x .1 ∙ sym (y .1))
 
-work-unique : (s work work₁ work₂ : List ℕ) (a : PlannerAnswer) → WorkAfter s work work₁ a → WorkAfter s work work₂ a → work₁ ≡ work₂
+work-unique : (s work work₁ work₂ : List ℕ) (a : PlannerAnswer)
+    → WorkAfter s work work₁ a → WorkAfter s work work₂ a → work₁ ≡ work₂
 work-unique s work w₁ w₂ (Planned u l h e) x y = x ∙ sym y
 work-unique s work w₁ w₂ (NotPlanned r) x y = x ∙ sym y
 
 pub planner-unique : (s plan work plan₁ work₁ plan₂ work₂ : List ℕ) (a b : PlannerAnswer)
-    → PlannerGives s plan work plan₁ work₁ a → PlannerGives s plan work plan₂ work₂ b → SameGiven a b plan₁ work₁ plan₂ work₂
+    → PlannerGives s plan work plan₁ work₁ a → PlannerGives s plan work plan₂ work₂ b
+    → SameGiven a b plan₁ work₁ plan₂ work₂
 planner-unique s plan work p₁ w₁ p₂ w₂ a b x y =
     let checks = plannerChecks s (length plan) (length work) in
     let same = plan-unique checks (planner-single s (length plan) (length work)) s plan p₁ p₂ a b (x .0) (y .0) in
@@ -216,8 +221,8 @@ abbrev pub planGiven : List ℕ → List ℕ → PlannerAnswer → List ℕ
 planGiven s plan′ (Planned unit load hyper energy) = take (taskCount Ordinary s) plan′
 planGiven s plan′ (NotPlanned r) = []
 
--- What is given for a plan list is given for any other, if only the checks are the same: with the same plan, and the rest
--- as it was.
+-- What is given for a plan list is given for any other, if only the checks are the same: with the same plan, and the
+-- rest as it was.
 record GivenFor (cs : List Check) (s plan P : List ℕ) (a : PlannerAnswer) : Type 0 where
   pub plan′ : List ℕ
   pub gives : PlanGives cs s plan plan′ a
@@ -248,7 +253,9 @@ pub planner-by-lengths : (s plan₁ work₁ plan₁′ work₁′ plan₂ work�
 planner-by-lengths s plan₁ work₁ p₁ w₁ plan₂ work₂ p₂ w₂ a b e f x y =
     let checks = plannerChecks s (length plan₂) (length work₂) in
     let z = given-for checks s plan₁ p₁ a (rw (e, f) at (x .0)) plan₂ in
-    let one = plan-unique checks (planner-single s (length plan₂) (length work₂)) s plan₂ (z .plan′) p₂ a b (z .gives) (y .0) in
+    let one =
+    plan-unique checks (planner-single s (length plan₂) (length work₂)) s plan₂ (z .plan′) p₂ a b
+    (z .gives) (y .0) in
     record { answer = one .0; plan = cc (one .1) }
 
 -- ---- the walk

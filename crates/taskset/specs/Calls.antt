@@ -90,11 +90,13 @@ RateNumbers s plan′ (Planned unit load hyper energy) =
     (t : ℕ) → t < taskCount Ordinary s → RateNumber (rateCount Ordinary s) (getD plan′ t 0)
 RateNumbers s plan′ (NotPlanned r) = Unit {0}
 
--- What a call gives that plans a set, with its checks cs: a refusal, the first that holds, leaves the plan list as it was.
+-- What a call gives that plans a set, with its checks cs: a refusal, the first that holds, leaves the plan list as it
+-- was.
 abbrev pub PlanGives : List Check → (s plan plan′ : List ℕ) → PlannerAnswer → Type 0
 PlanGives cs s plan plan′ (Planned unit load hyper energy) =
     Accepts cs ×
-    ((P : List ℕ) × Selected s P (plannerValues (Planned unit load hyper energy)) × HoldsPlan (taskCount Ordinary s) P plan plan′)
+    ((P : List ℕ) × Selected s P (plannerValues (Planned unit load hyper energy)) ×
+    HoldsPlan (taskCount Ordinary s) P plan plan′)
 PlanGives cs s plan plan′ (NotPlanned r) = Refuses cs (number r) (second r) × (plan′ ≡ plan)
 
 -- "the first W working words hold 0, and every other word stays": w of the list work, which is work′ then.
@@ -110,8 +112,8 @@ abbrev pub PlannerGives : (s plan work plan′ work′ : List ℕ) → PlannerAn
 PlannerGives s plan work plan′ work′ a =
     PlanGives (plannerChecks s (length plan) (length work)) s plan plan′ a × WorkAfter s work work′ a
 
--- THE DULL ENGINE (document 02, note 7). "It needs no working words. Its refusals are the planner's without 5, and where both
--- succeed the four numbers and the plan list are equal."
+-- THE DULL ENGINE (document 02, note 7). "It needs no working words. Its refusals are the planner's without 5, and
+-- where both succeed the four numbers and the plan list are equal."
 abbrev pub DullGives : (s plan plan′ : List ℕ) → PlannerAnswer → Type 0
 DullGives s plan plan′ = PlanGives (dullChecks s (length plan)) s plan plan′
 

@@ -14,11 +14,12 @@ use Rattle.layout.specs.declared.Layout.the-variants.{Ordinary}
 use Rattle.taskset.specs.Quantities.{hyperLimit, jobTime, problem, workNeeded}
 use Rattle.taskset.specs.declared.Refusal.{Refusal}
 use Rattle.taskset.specs.declared.Refusal.the-variants.{TextDeparts, BadWord, NotAbove, TooLong, WorkShort}
-use Rattle.taskset.specs.declared.Refusal.the-variants.{TooShort, NoPlan, BadPlan, EnergyOver, BelowIdle, TooManyPlans}
+use Rattle.taskset.specs.declared.Refusal.the-variants.{TooShort, NoPlan, BadPlan}
+use Rattle.taskset.specs.declared.Refusal.the-variants.{EnergyOver, BelowIdle, TooManyPlans}
 
 -- The column 'Number', and the column 'Returned with it'; of document 02, "9, an energy worked out here is over
--- 1,000,000, with the first such task's number", "10, an energy below H × job time, with the first such energy's place",
--- and "11, M to the power N is over 1,000,000, with 0".
+-- 1,000,000, with the first such task's number", "10, an energy below H × job time, with the first such energy's
+-- place", and "11, M to the power N is over 1,000,000, with 0".
 abbrev pub number : Refusal → ℕ
 number (TextDeparts o) = 1
 number (BadWord q) = 2

@@ -23,7 +23,8 @@ returns : tie.Need-returns
 returns c =
     let m = c .before .before in
     let a = m .before .before .before .args in
-    put-refused (a .d .now) (c .code-of .result) (m .answer .given .0 .0) (a .answer) (m .answer .given .1) (c .code-of .ensures)
+    put-refused (a .d .now) (c .code-of .result) (m .answer .given .0 .0) (a .answer) (m .answer .given .1)
+    (c .code-of .ensures)
 
 same-length : tie.Need-same-length
 same-length c = search needs

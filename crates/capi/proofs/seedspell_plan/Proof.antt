@@ -51,8 +51,8 @@ code-of-requires c κs =
     let a = start (c .before .before .before) .args in
     let r = c .before .checked .given .0 .0 in
     planner-second-small (a .set .now) (length (a .plan .now)) (length (a .work .now)) (number r) (second r)
-    (refuses-before (readyChecks (a .set .now) (length (a .plan .now)) (length (a .work .now))) (noneCheck (Fitting (problem (a .set .now))))
-    (number r) (second r) (refused (c .before)))
+    (refuses-before (readyChecks (a .set .now) (length (a .plan .now)) (length (a .work .now)))
+    (noneCheck (Fitting (problem (a .set .now)))) (number r) (second r) (refused (c .before)))
 
 enum-known-checked-2 : tie.Need-enum-known-checked-2
 enum-known-checked-2 c = search needs
@@ -81,8 +81,8 @@ put-answer-requires c κs =
 
 returns-2 : tie.Need-returns-2
 returns-2 c =
-    ready-refused _ _ (planner-plans _ _ _) (planner-second-small _ _ _) _ _ _ _ (refl, refl) (c .before .before .checked .given .0 .0) _
-    (c .code-of .ensures) (refused (c .before .before))
+    ready-refused _ _ (planner-plans _ _ _) (planner-second-small _ _ _) _ _ _ _ (refl, refl)
+    (c .before .before .checked .given .0 .0) _ (c .code-of .ensures) (refused (c .before .before))
 
 same-length : tie.Need-same-length
 same-length c = search needs
@@ -103,9 +103,11 @@ answer-left c =
     let q = called (p .before .before) in
     let a = start (checked q .before .before) .args in
     let h = q .plan-checked .ensures in
-    answered (a .set .now) (readyChecks (a .set .now) (length (a .plan .now)) (length (a .work .now))) (planner-plans (a .set .now) (length (a .plan .now)) (length (a .work .now)))
-    (planner-second-small (a .set .now) (length (a .plan .now)) (length (a .work .now))) (a .results .now) _ _ (good (checked q) .0) (q .before .before .before .if1 .left)
-    (a .plan .now) (q .plan-checked .last .1 .0) (p .put-answer .last .0) (p .put-answer .result) (q .plan-checked .result)
+    answered (a .set .now) (readyChecks (a .set .now) (length (a .plan .now)) (length (a .work .now)))
+    (planner-plans (a .set .now) (length (a .plan .now)) (length (a .work .now)))
+    (planner-second-small (a .set .now) (length (a .plan .now)) (length (a .work .now)))
+    (a .results .now) _ _ (good (checked q) .0) (q .before .before .before .if1 .left) (a .plan .now)
+    (q .plan-checked .last .1 .0) (p .put-answer .last .0) (p .put-answer .result) (q .plan-checked .result)
     (h .gives .0) (h .gives) (λ r g. (g .0 .1, g .1)) (h .numbers) (p .put-answer .ensures)
 
 pub seedspell-plan-spec : {M : Type 1} → statement M

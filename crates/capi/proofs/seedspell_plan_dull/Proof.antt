@@ -29,13 +29,16 @@ called v = v .before .before
 
 -- What the checks gave.
 abbrev Ready : tie.After-ready → Checked → Type 0
-Ready y = let a = start y .args in SetAfter (dullReadyChecks (a .set .now) (length (a .plan .now))) Ordinary (a .set .now)
+Ready y =
+    let a = start y .args in
+    SetAfter (dullReadyChecks (a .set .now) (length (a .plan .now))) Ordinary (a .set .now)
 
 refused : (k : tie.After-checked) → Ready (k .before .before) (NotGood (k .checked .given .0 .0))
 refused k = subst (Ready (k .before .before)) (k .checked .given .1) (k .before .before .ready .ensures)
 
 good : (k : tie.After-checked2)
-    → Ready (k .before .before) (Good (k .checked2 .given .0 .0) (k .checked2 .given .0 .1 .0) (k .checked2 .given .0 .1 .1 .0))
+    → Ready (k .before .before)
+    (Good (k .checked2 .given .0 .0) (k .checked2 .given .0 .1 .0) (k .checked2 .given .0 .1 .1 .0))
 good k = subst (Ready (k .before .before)) (k .checked2 .given .1) (k .before .before .ready .ensures)
 
 ready-requires : tie.Need-ready-requires
@@ -49,8 +52,8 @@ code-of-requires c κs =
     let a = start (c .before .before .before) .args in
     let r = c .before .checked .given .0 .0 in
     dull-second-small (a .set .now) (length (a .plan .now)) (number r) (second r)
-    (refuses-before (dullReadyChecks (a .set .now) (length (a .plan .now))) (noneCheck (Fitting (problem (a .set .now))))
-    (number r) (second r) (refused (c .before)))
+    (refuses-before (dullReadyChecks (a .set .now) (length (a .plan .now)))
+    (noneCheck (Fitting (problem (a .set .now)))) (number r) (second r) (refused (c .before)))
 
 enum-known-checked-2 : tie.Need-enum-known-checked-2
 enum-known-checked-2 c = search needs
@@ -98,9 +101,10 @@ answer-left c =
     let q = called (p .before .before) in
     let a = start (checked q .before .before) .args in
     let h = q .plan-checked .ensures in
-    answered (a .set .now) (dullReadyChecks (a .set .now) (length (a .plan .now))) (dull-plans (a .set .now) (length (a .plan .now)))
-    (dull-second-small (a .set .now) (length (a .plan .now))) (a .results .now) _ _ (good (checked q) .0) (q .before .before .if1 .left)
-    (a .plan .now) (q .plan-checked .last .1 .0) (p .put-answer .last .0) (p .put-answer .result) (q .plan-checked .result)
+    answered (a .set .now) (dullReadyChecks (a .set .now) (length (a .plan .now)))
+    (dull-plans (a .set .now) (length (a .plan .now))) (dull-second-small (a .set .now) (length (a .plan .now)))
+    (a .results .now) _ _ (good (checked q) .0) (q .before .before .if1 .left) (a .plan .now)
+    (q .plan-checked .last .1 .0) (p .put-answer .last .0) (p .put-answer .result) (q .plan-checked .result)
     (h .gives) (h .gives) (λ r g. g .1) (h .numbers) (p .put-answer .ensures)
 
 pub seedspell-plan-dull-spec : {M : Type 1} → statement M

@@ -67,8 +67,10 @@ least-energy-requires c κs =
 stops-requires : tie.Need-stops-requires Inv-loop μ-loop
 stops-requires c κs =
     let u = c .before .before in
-    let l = at-loop u in
-    (start l .pre .asked .tasks, omega (arith, product-small (start l .pre) (l .loop .inv) (u .least-energy .ensures .least .to)))
+    let l = at-loop u in (
+      start l .pre .asked .tasks,
+      omega (arith, product-small (start l .pre) (l .loop .inv) (u .least-energy .ensures .least .to)),
+    )
 
 same-length : tie.Need-same-length Inv-loop μ-loop
 same-length c =

@@ -24,7 +24,8 @@ plan-checked-requires c κs =
     let checked = c .before .before in
     let r = checked .before .before in
     let a = r .before .before .before .args in
-    subst (SetAfter (dullReadyChecks (a .set .now) (length (a .plan .now))) Ordinary (a .set .now)) (checked .checked2 .given .1) (r .ready .ensures)
+    subst (SetAfter (dullReadyChecks (a .set .now) (length (a .plan .now))) Ordinary (a .set .now))
+    (checked .checked2 .given .1) (r .ready .ensures)
 
 returns : tie.Need-returns
 returns c =
@@ -32,7 +33,8 @@ returns c =
     let r = checked .before .before in
     let a = r .before .before .before .args in
     ready-refused (a .set .now) (a .plan .now) (checked .checked .given .0 .0)
-    (subst (SetAfter (dullReadyChecks (a .set .now) (length (a .plan .now))) Ordinary (a .set .now)) (checked .checked .given .1) (r .ready .ensures))
+    (subst (SetAfter (dullReadyChecks (a .set .now) (length (a .plan .now))) Ordinary (a .set .now))
+    (checked .checked .given .1) (r .ready .ensures))
 
 same-length : tie.Need-same-length
 same-length c = search needs

@@ -21,10 +21,15 @@ abbrev good : tie.After-plan-count → tie.After-checked2
 good w = w .before .before
 
 passed : (g : tie.After-checked2)
-    → SetPassed (start g .args .set .now) (g .checked2 .given .0 .0) (g .checked2 .given .0 .1 .0) (g .checked2 .given .0 .1 .1 .0)
+    → SetPassed (start g .args .set .now)
+    (g .checked2 .given .0 .0) (g .checked2 .given .0 .1 .0) (g .checked2 .given .0 .1 .1 .0)
 passed g =
     let s = start g .args .set .now in
-    record { after = subst (SetAfter (idleChecks Ordinary s ▹ hyperCheck Ordinary s) Ordinary s) (g .checked2 .given .1) (g .before .before .check-covered .ensures) }
+    record {
+      after =
+          subst (SetAfter (idleChecks Ordinary s ▹ hyperCheck Ordinary s) Ordinary s) (g .checked2 .given .1)
+          (g .before .before .check-covered .ensures);
+    }
 
 check-covered-requires : tie.Need-check-covered-requires
 check-covered-requires c κs = search needs
@@ -54,7 +59,8 @@ many-plans c =
 short-plan : tie.Need-returns-2
 short-plan c =
     let w = c .before .before in
-    plan-short _ (eleven w) (start (good w) .args .plan-len) (passed (good w)) (few w (omega (arith, c .before .if1 .left))) (c .if2 .taken)
+    plan-short _ (eleven w) (start (good w) .args .plan-len) (passed (good w))
+    (few w (omega (arith, c .before .if1 .left))) (c .if2 .taken)
 
 refused : tie.Need-returns-3
 refused c =
@@ -68,7 +74,8 @@ refused c =
 all-passed : tie.Need-returns-4
 all-passed c =
     let w = c .before .before in
-    is-ready _ (eleven w) (start (good w) .args .plan-len) (passed (good w)) (few w (omega (arith, c .before .if1 .left))) (c .if2 .left)
+    is-ready _ (eleven w) (start (good w) .args .plan-len) (passed (good w))
+    (few w (omega (arith, c .before .if1 .left))) (c .if2 .left)
 
 pub ready-spec : {M : Type 1} → statement M
 ready-spec =

@@ -17,7 +17,8 @@ use Rattle.exhaustive.proofs.find_unit.Tie as tie
 
 abbrev Inv-loop : tie.InvT-loop
 Inv-loop loads energies q plans unit₀ best₀ unit best =
-    Tried (arrays q loads energies) (q .slack) (unit₀ .exponent) unit × ChosenAt (arrays q loads energies) (2 ^ (unit .exponent)) best
+    Tried (arrays q loads energies) (q .slack) (unit₀ .exponent) unit ×
+    ChosenAt (arrays q loads energies) (2 ^ (unit .exponent)) best
 
 abbrev μ-loop : tie.MeasureT-loop
 μ-loop loads energies q plans unit₀ best₀ unit best = unit .exponent
@@ -32,7 +33,8 @@ start p = p .before .before
 -- The first unit is tried; and a unit that is tried can be asked for its plan.
 tried-first : (p : tie.After-least-power Inv-loop μ-loop)
     → let a = start p .args in
-    Tried (arrays (a .q) (a .loads .now) (a .energies .now)) (a .q .slack) (p .least-power .result .exponent) (p .least-power .result)
+    Tried (arrays (a .q) (a .loads .now) (a .energies .now)) (a .q .slack)
+    (p .least-power .result .exponent) (p .least-power .result)
 tried-first p =
     let f = p .before in
     let a = f .before .args in
@@ -58,7 +60,8 @@ goes-on c = stops-false _ _ _ (rw (c .before .stops .ensures) at (c .if1 .left))
 halved-next : (c : tie.After-halved Inv-loop μ-loop)
     → let p = first (c .before .before .before) in
     let a = start p .args in
-    Tried (arrays (a .q) (a .loads .now) (a .energies .now)) (a .q .slack) (p .least-power .result .exponent) (c .halved .result)
+    Tried (arrays (a .q) (a .loads .now) (a .energies .now)) (a .q .slack)
+    (p .least-power .result .exponent) (c .halved .result)
 halved-next c =
     let l = c .before .before .before in
     let on = goes-on (c .before) in

@@ -25,7 +25,8 @@ add-energy c =
 returns : tie.Need-returns
 returns c =
     let a = c .before .before .before .args in
-    ap (λ (h : ℕ). Planned (a .c .unit) (a .c .load) (a .hyper) (a .c .energy + h * a .hyper)) (c .before .idle-of .ensures)
+    ap (λ (h : ℕ). Planned (a .c .unit) (a .c .load) (a .hyper) (a .c .energy + h * a .hyper))
+    (c .before .idle-of .ensures)
 
 pub planned-spec : {M : Type 1} → statement M
 planned-spec = tie.close (tie.spec idle-of-requires cast-idle mul-energy add-energy returns)

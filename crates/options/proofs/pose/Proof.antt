@@ -38,7 +38,8 @@ slack-of-requires c κs = some-words (given (start (put (c .before))))
 request : tie.Need-returns-2
 request c =
     let f = c .before .before in
-    posed (given (start (put f))) (put f .put-tasks .ensures) (f .fastest-sum .ensures) (c .before .if1 .left) (c .slack-of .ensures)
+    posed (given (start (put f))) (put f .put-tasks .ensures) (f .fastest-sum .ensures) (c .before .if1 .left)
+    (c .slack-of .ensures)
 
 pub pose-spec : {M : Type 1} → statement M
 pose-spec =

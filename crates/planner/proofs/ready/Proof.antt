@@ -67,7 +67,8 @@ short-work c =
 short-plan : tie.Need-returns-2
 short-plan c =
     let w = c .before .before in
-    plan-short _ (five w) (start (good w) .args .plan-len) (passed (good w)) (enough w (c .before .if1 .left)) (c .if2 .taken)
+    plan-short _ (five w) (start (good w) .args .plan-len) (passed (good w))
+    (enough w (c .before .if1 .left)) (c .if2 .taken)
 
 refused : tie.Need-returns-3
 refused c =
@@ -81,7 +82,8 @@ refused c =
 all-passed : tie.Need-returns-4
 all-passed c =
     let w = c .before .before in
-    is-ready _ (five w) (start (good w) .args .plan-len) (passed (good w)) (enough w (c .before .if1 .left)) (c .if2 .left)
+    is-ready _ (five w) (start (good w) .args .plan-len) (passed (good w))
+    (enough w (c .before .if1 .left)) (c .if2 .left)
 
 pub ready-spec : {M : Type 1} → statement M
 ready-spec =
