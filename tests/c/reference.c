@@ -133,7 +133,7 @@ static uint64_t check_4(struct task_set *s)
 enum call { PLANNER, DULL, WALK };
 
 /* 'Planner: 2, 3, 4, .. Walk: 2, 3, 4, ..', and 10 'after 3, before 4, and never by walk or writer'; of the dull engine
-   'its refusals are the planner's without 5' */
+   'Its refusals are the planner's without 5' */
 static uint64_t check_set(enum call call, const uint32_t *set, size_t set_len, struct task_set *s)
 {
     uint64_t refused = check_2(set, set_len, s);
@@ -467,7 +467,7 @@ static void look_at(struct pass *p, uint64_t units, uint64_t load)
     memcpy(p->best, p->plan, sizeof p->best);
 }
 
-/* 'In order of rate numbers with task 1 changing fastest': the first n tasks take all their rates while the others,
+/* '.. in order of rate numbers with task 1 changing fastest': the first n tasks take all their rates while the others,
    which add up to so much, stay as they are. */
 static void go_through(struct pass *p, uint64_t n, uint64_t units, uint64_t load)
 {

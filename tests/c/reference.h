@@ -49,7 +49,7 @@ enum way {
 void expect_plan(enum way way, const uint32_t *set, size_t set_len, size_t plan_len, size_t work_len, size_t results_len,
                  struct answer *answer);
 
-/* The dull engine, which shares with the planner's ways no more than the checks of a set. */
+/* The dull engine, which shares with the planner's ways no more than the checks of a set and the count of its plans. */
 void expect_dull(const uint32_t *set, size_t set_len, size_t plan_len, size_t results_len, struct answer *answer);
 
 void expect_walk(const uint32_t *set, size_t set_len, const uint32_t *plan, size_t plan_len, size_t results_len,

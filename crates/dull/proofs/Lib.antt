@@ -1,3 +1,4 @@
 pub mod Enough
 pub mod Calls
 pub mod Unique
+pub mod Firsts

@@ -24,7 +24,7 @@ use Rattle.arrays.proofs.Chosen.{front-size, front-at, sum-ready, chosen-by}
 use Rattle.exhaustive.specs.declared.Best.{Best}
 use Rattle.exhaustive.specs.declared.Used.{Used}
 use Rattle.exhaustive.specs.Order.{rank}
-use Rattle.exhaustive.specs.Engine.{Numbered, Kept, Seen, Posed, AllReady, ChosenAt, UnitUsed}
+use Rattle.exhaustive.specs.Engine.{Numbered, Kept, Seen, ArraysReady, AllReady, ChosenAt, UnitUsed}
 use Rattle.exhaustive.specs.Engine.{PutReady, PlanPut, ExhaustiveReady}
 use Rattle.exhaustive.proofs.Order.{rank-below, rank-order, rank-same}
 use Rattle.exhaustive.proofs.Seeing.{plan-numbered, seen-kept}
@@ -47,7 +47,7 @@ module _ {q : Request} {loads energies : List ℕ} {plans : ℕ} (g : AllReady q
       (λ (l : q .tasks * 16 ≤ k). omega (arith, w .above k l, zeros-at 512 k))
       (lt-or-le k (q .tasks * 16))
 
-  pub all-posed : Posed q loads cost
+  pub all-posed : ArraysReady q loads cost
   all-posed = record {
     tasks = (g .some, g .asked .tasks);
     rates = g .asked .rates;

@@ -18,13 +18,13 @@ use Rattle.arrays.proofs.Adding.{sum-low, sum-turn}
 use Rattle.exhaustive.specs.declared.Sums.{Sums}
 use Rattle.exhaustive.specs.declared.Best.{Best}
 use Rattle.exhaustive.specs.Order.{rank}
-use Rattle.exhaustive.specs.Engine.{noCost, Numbered, Looked, Seen, Posed, InHand, ChangeReady, Changed}
+use Rattle.exhaustive.specs.Engine.{noCost, Numbered, Looked, Seen, ArraysReady, InHand, ChangeReady, Changed}
 use Rattle.exhaustive.specs.Engine.{BlockReady, Advanced}
 use Rattle.exhaustive.proofs.Order.{moves, adds}
 use Rattle.exhaustive.proofs.Seeing.{seen-none, seen-more}
 
 -- ---- another number for one task
-module _ {q : Request} {loads cost P : List ℕ} {s : Sums} (g : Posed q loads cost) (h : InHand q loads cost P s)
+module _ {q : Request} {loads cost P : List ℕ} {s : Sums} (g : ArraysReady q loads cost) (h : InHand q loads cost P s)
     (t r : ℕ) (task : t < q .tasks) (above : 1 ≤ r) (below : r ≤ q .rates) where
   number : (1 ≤ getD P t 0) × (getD P t 0 ≤ 8)
   number = omega (arith, h .numbered .above t task, h .numbered .below t task, g .rates .1)
@@ -128,7 +128,7 @@ pub record Carried (q : Request) (loads cost P₀ P : List ℕ) (s : Sums) (t : 
   pub to : t ≤ q .tasks
   pub carry : rank (q .rates) (q .tasks) P + q .rates ^ t ≡ rank (q .rates) (q .tasks) P₀ + q .rates
 
-pub carry-start : {q : Request} {loads cost P : List ℕ} {s : Sums} → Posed q loads cost → InHand q loads cost P s
+pub carry-start : {q : Request} {loads cost P : List ℕ} {s : Sums} → ArraysReady q loads cost → InHand q loads cost P s
     → Carried q loads cost P P s 1
 carry-start {q} g h = record {
   hand = h;
@@ -137,7 +137,7 @@ carry-start {q} g h = record {
   carry = omega (arith, pow-succ' (q .rates) 0, ap (λ (x : ℕ). q .rates * x) (pow-zero (q .rates)));
 }
 
-module _ {q : Request} {loads cost P₀ P : List ℕ} {s : Sums} {t : ℕ} (g : Posed q loads cost)
+module _ {q : Request} {loads cost P₀ P : List ℕ} {s : Sums} {t : ℕ} (g : ArraysReady q loads cost)
     (w : Carried q loads cost P₀ P s t) where
   -- No task is left: there was no next plan.
   pub carry-end : q .tasks ≤ t → Advanced q loads cost P₀ P s
@@ -218,7 +218,7 @@ module _ (q : Request) where
             (λ t l. rw (ones-at t (omega arith)) (omega arith)),
       )
 
-  pub ones-hand : {loads cost : List ℕ} {s : Sums} → Posed q loads cost
+  pub ones-hand : {loads cost : List ℕ} {s : Sums} → ArraysReady q loads cost
       → s .load ≡ total (optionAt loads) (q .tasks) (replicate 32 1)
       → s .cost ≡ total (optionAt cost) (q .tasks) (replicate 32 1) → InHand q loads cost (replicate 32 1) s
   ones-hand g l c = record {
@@ -232,7 +232,7 @@ module _ (q : Request) where
     cost-is = c;
   }
 
-  pub going-start : {loads cost : List ℕ} {s : Sums} {b : Best} → Posed q loads cost → b .cost ≡ noCost
+  pub going-start : {loads cost : List ℕ} {s : Sums} {b : Best} → ArraysReady q loads cost → b .cost ≡ noCost
       → InHand q loads cost (replicate 32 1) s → Going q loads cost (replicate 32 1) s 0 b
   going-start {loads} {cost} g none h = record {
     hand = h;
@@ -240,7 +240,7 @@ module _ (q : Request) where
     seen = seen-none (arrays q loads cost) none;
   }
 
-module _ {q : Request} {loads cost P : List ℕ} {s : Sums} {i : ℕ} {b : Best} (g : Posed q loads cost)
+module _ {q : Request} {loads cost P : List ℕ} {s : Sums} {i : ℕ} {b : Best} (g : ArraysReady q loads cost)
     (w : Going q loads cost P s i b) (more : i < q .rates ^ q .tasks) where
   pub going-block : BlockReady q loads cost s i b
   going-block = record { posed = g; plan = P; hand = w .hand; rank-is = w .place more; seen = w .seen }

@@ -63,7 +63,7 @@ pub record Seen (p : Problem) (i : ℕ) (b : Best) : Type 0 where
 
 -- ---- the plan in hand
 -- What the arrays keep to: numbers in range, few plans, and sums that fit.
-pub record Posed (q : Request) (loads cost : List ℕ) : Type 0 where
+pub record ArraysReady (q : Request) (loads cost : List ℕ) : Type 0 where
   pub tasks : (1 ≤ q .tasks) × (q .tasks ≤ 32)
   pub rates : (1 ≤ q .rates) × (q .rates ≤ 8)
   pub few : q .rates ^ q .tasks ≤ mostPlans
@@ -91,7 +91,7 @@ pub record Changed (loads cost : List ℕ) (s : Sums) (from to : ℕ) (r : Sums)
 
 -- The plans that differ from one in task 1's rate alone: what a look at them asks.
 pub record BlockReady (q : Request) (loads cost : List ℕ) (s : Sums) (i : ℕ) (b : Best) : Type 0 where
-  pub posed : Posed q loads cost
+  pub posed : ArraysReady q loads cost
   pub plan : List ℕ
   pub hand : InHand q loads cost plan s
   pub rank-is : rank (q .rates) (q .tasks) plan ≡ i
@@ -100,7 +100,7 @@ pub record BlockReady (q : Request) (loads cost : List ℕ) (s : Sums) (i : ℕ)
 -- What going on from a plan asks, and what it gives: the plan of a rank higher by as many as there are rates, if there
 -- is one.
 pub record AdvanceReady (q : Request) (loads cost P : List ℕ) (s : Sums) : Type 0 where
-  pub posed : Posed q loads cost
+  pub posed : ArraysReady q loads cost
   pub hand : InHand q loads cost P s
 
 pub record Advanced (q : Request) (loads cost P P′ : List ℕ) (r : Sums) : Type 0 where

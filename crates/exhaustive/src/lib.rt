@@ -1,12 +1,12 @@
 // The dull way (document 02's note 7), for small sets, over arrays of loads and energies: an engine that goes through
 // all plans, in order of rate numbers with task 1 changing fastest, and applies document 01's choice directly at each
-// unit. It needs no working words. Whose loads and energies these are, and how many plans are too many, is left to
-// others.
+// unit. It needs no working words, and goes through at most 1,000,000 plans. Whose loads and energies these are is left
+// to others.
 ghost use mathlib.Core.Path.{_≡_};
 ghost use Prim.Native.Nat.{suc, _+_, _^_, _≤_, min};
 ghost use lib.ListN.{replicate};
 ghost use Rattle.arrays.specs.Arrays.{arrays, ChosenBy};
-ghost use Rattle.exhaustive.specs.Engine.{mostPlans, noCost, Looked, Seen, Posed, InHand, ChangeReady, Changed};
+ghost use Rattle.exhaustive.specs.Engine.{mostPlans, noCost, Looked, Seen, ArraysReady, InHand, ChangeReady, Changed};
 ghost use Rattle.exhaustive.specs.Engine.{BlockReady, AdvanceReady, Advanced, AllReady, UnitReady, ChosenAt};
 ghost use Rattle.exhaustive.specs.Engine.{UnitUsed, PutReady, PlanPut, ExhaustiveReady};
 use arrays::Choice;
@@ -65,7 +65,7 @@ pub fn plan_count(rates: usize, tasks: usize) -> usize
 
 // The sums of the plan with every task at rate 1.
 fn first_sums(loads: &[u64; 512], cost: &[usize; 512], q: Request) -> Sums
-    requires { ⌜ Posed q (now loads) (now cost) ⌝ }
+    requires { ⌜ ArraysReady q (now loads) (now cost) ⌝ }
     ensures { λ r. ⌜ InHand q (now (loads .entry)) (now (cost .entry)) (replicate 32 1) r ⌝ }
 {
     let mut load = 0;
@@ -161,7 +161,7 @@ fn advance(
 
 // The best of all plans; none is the cost of what is kept before the first.
 fn best_plan(loads: &[u64; 512], cost: &[usize; 512], q: Request, plans: usize, none: usize) -> Best
-    requires { ⌜ Posed q (now loads) (now cost) × (plans ≡ q .rates ^ q .tasks) × (none ≡ noCost) ⌝ }
+    requires { ⌜ ArraysReady q (now loads) (now cost) × (plans ≡ q .rates ^ q .tasks) × (none ≡ noCost) ⌝ }
     ensures { λ r. ⌜ Seen (arrays q (now (loads .entry)) (now (cost .entry))) (q .rates ^ q .tasks) r ⌝ }
 {
     let mut hand: [usize; 32] = [1; 32];

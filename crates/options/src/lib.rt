@@ -48,7 +48,7 @@ fn put_task(
 }
 
 // The same for the first n tasks.
-pub fn put_tasks(
+fn put_tasks(
     loads: &mut [u64; 512],
     energies: &mut [u64; 512],
     set: &[u32],

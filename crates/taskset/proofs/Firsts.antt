@@ -1,7 +1,8 @@
--- The planner looks at no first release (document 02, note 6): two lists that differ in first releases alone, and both
--- pass check 2, agree in every word and number that the planner's definition reads; so it gives the same for both.
+-- The planner looks at no first release (document 02, note 6), nor does the dull engine: two lists that differ in first
+-- releases alone, and both pass check 2, agree in every word and number that their definitions read; so each gives the
+-- same for both.
 -- Assumes nothing.
-use Prim.Native.Nat.{ℕ, suc, _+_, _-_, _*_, _/_, _≤_, _<_}
+use Prim.Native.Nat.{ℕ, suc, _+_, _-_, _*_, _/_, _^_, _≤_, _<_}
 use mathlib.Core.Path.{_≡_, refl, sym, ap, ap₂, subst, _∙_}
 use mathlib.Core.List.{List}
 use native.Mathlib.Omega.{arith}
@@ -24,9 +25,10 @@ use Rattle.layout.proofs.Whole.{whole-of}
 use Rattle.taskset.specs.Quantities.{jobTicks, jobTime, hyperPeriod, taskEnergy, problem}
 use Rattle.taskset.specs.Quantities.{reportedEnergy, workNeeded}
 use Rattle.taskset.specs.Refusals.{number, second, RateFault, IsNotAbove, EnergyFault, IsBelowIdle, PassesLimit, IsTooLong}
-use Rattle.taskset.specs.Refusals.{IsShort, NoneOk, Passes, check, wordCheck, plannerChecks}
+use Rattle.taskset.specs.Refusals.{mostPlans, IsTooMany, IsShort, NoneOk, Check, Passes, _▹_, check, wordCheck}
+use Rattle.taskset.specs.Refusals.{idleChecks, hyperCheck, roomCheck, noneCheck, plannerChecks, dullChecks}
 use Rattle.taskset.specs.Calls.{plannerValues, Selected, HoldsPlan, PlanGives}
-use Rattle.taskset.specs.Calls.{Cleared, WorkAfter, DifferInFirsts, PlannerGives}
+use Rattle.taskset.specs.Calls.{Cleared, WorkAfter, DifferInFirsts, PlannerGives, DullGives}
 use Rattle.taskset.specs.declared.PlannerAnswer.{PlannerAnswer}
 use Rattle.taskset.specs.declared.PlannerAnswer.the-variants.{Planned, Refused as NotPlanned}
 use Rattle.taskset.proofs.Checks.{no-word-fault, Agree, AllAgree, _then_, no-more, agree-accepts, agree-refuses}
@@ -191,6 +193,9 @@ module _ (s s′ : List ℕ) (a : Alike s s′) where
   work-short : (lent k : ℕ) → IsShort (workNeeded s) lent k → IsShort (workNeeded s′) lent k
   work-short lent k h = subst (λ (n : ℕ). IsShort n lent k) (work-same s s′ a) h
 
+  too-many : (k : ℕ) → IsTooMany Ordinary s k → IsTooMany Ordinary s′ k
+  too-many k h = (h .0, subst (λ (n : ℕ). mostPlans < n) (ap₂ _^_ (a .rate-counts) (a .task-counts)) (h .1))
+
   plan-short : (lent k : ℕ) → IsShort (taskCount Ordinary s) lent k → IsShort (taskCount Ordinary s′) lent k
   plan-short lent k h = subst (λ (n : ℕ). IsShort n lent k) (a .task-counts) h
 
@@ -206,16 +211,27 @@ module _ (s s′ : List ℕ) (a : Alike s s′) (pass : Passes (wordCheck Ordina
   words-agree : Agree (wordCheck Ordinary s) (wordCheck Ordinary s′)
   words-agree = (refl, λ k. ((λ h. absurd (pass k h)), (λ h. absurd (pass′ k h))))
 
-  checks-agree : (planLength workLength : ℕ) → AllAgree (plannerChecks s planLength workLength) (plannerChecks s′ planLength workLength)
-  checks-agree pl wl =
+  -- Of a call that plans, c and c′ being the check that it makes between 4 and 6.
+  checks-agree : (planLength : ℕ) {c c′ : Check} → Agree c c′
+      → AllAgree
+      (idleChecks Ordinary s ▹ hyperCheck Ordinary s ▹ c ▹ roomCheck (taskCount Ordinary s) planLength ▹ noneCheck (Fitting (problem s)))
+      (idleChecks Ordinary s′ ▹ hyperCheck Ordinary s′ ▹ c′ ▹ roomCheck (taskCount Ordinary s′) planLength ▹
+      noneCheck (Fitting (problem s′)))
+  checks-agree pl own =
       words-agree then
       agreeing 3 (IsNotAbove Ordinary) not-above s s′ a then
       agreeing 10 (IsBelowIdle Ordinary) below-idle s s′ a then
       agreeing 4 (IsTooLong Ordinary) too-long s s′ a then
-      agreeing 5 (λ s. IsShort (workNeeded s) wl) (λ s s′ a. work-short s s′ a wl) s s′ a then
+      own then
       agreeing 6 (λ s. IsShort (taskCount Ordinary s) pl) (λ s s′ a. plan-short s s′ a pl) s s′ a then
       agreeing 7 (λ s. NoneOk (Fitting (problem s))) none-fits s s′ a then
       no-more
+
+  planner-agree : (planLength workLength : ℕ) → AllAgree (plannerChecks s planLength workLength) (plannerChecks s′ planLength workLength)
+  planner-agree pl wl = checks-agree pl (agreeing 5 (λ s. IsShort (workNeeded s) wl) (λ s s′ a. work-short s s′ a wl) s s′ a)
+
+  dull-agree : (planLength : ℕ) → AllAgree (dullChecks s planLength) (dullChecks s′ planLength)
+  dull-agree pl = checks-agree pl (agreeing 11 (IsTooMany Ordinary) too-many s s′ a)
 
   -- ---- the plan selected, with its values
   selected-same : (P values : List ℕ) → Selected s P values → Selected s′ P values
@@ -233,26 +249,29 @@ module _ (s s′ : List ℕ) (a : Alike s s′) (pass : Passes (wordCheck Ordina
         values-are = c .values-are ∙ cc;
       }
 
-  -- What the planner gives for the one list, it gives for the other.
-  plan-same : (plan plan′ : List ℕ) (planLength workLength : ℕ) (x : PlannerAnswer)
-      → PlanGives (plannerChecks s planLength workLength) s plan plan′ x
-      → PlanGives (plannerChecks s′ planLength workLength) s′ plan plan′ x
-  plan-same plan plan′ pl wl (Planned unit load hyper energy) g = (
-    agree-accepts (checks-agree pl wl) (g .0),
+  -- What a call gives for the one list, where its checks agree, it gives for the other.
+  plan-same : {cs cs′ : List Check} → AllAgree cs cs′ → (plan plan′ : List ℕ) (x : PlannerAnswer)
+      → PlanGives cs s plan plan′ x → PlanGives cs′ s′ plan plan′ x
+  plan-same agree plan plan′ (Planned unit load hyper energy) g = (
+    agree-accepts agree (g .0),
     (
       g .1 .0,
       selected-same (g .1 .0) (plannerValues (Planned unit load hyper energy)) (g .1 .1),
       subst (λ (n : ℕ). HoldsPlan n (g .1 .0) plan plan′) (a .task-counts) (g .1 .2),
     ),
   )
-  plan-same plan plan′ pl wl (NotPlanned r) g = (agree-refuses (checks-agree pl wl) (number r) (second r) (g .0), g .1)
+  plan-same agree plan plan′ (NotPlanned r) g = (agree-refuses agree (number r) (second r) (g .0), g .1)
 
   cleared-same : (work work′ : List ℕ) (x : PlannerAnswer) → WorkAfter s work work′ x → WorkAfter s′ work work′ x
   cleared-same work work′ (Planned unit load hyper energy) g =
       subst (λ (w : ℕ). Cleared w work work′) (work-same s s′ a) g
   cleared-same work work′ (NotPlanned r) g = g
 
+  -- So of the planner, and of the dull engine.
   pub gives-same : (plan work plan′ work′ : List ℕ) (x : PlannerAnswer)
       → PlannerGives s plan work plan′ work′ x → PlannerGives s′ plan work plan′ work′ x
   gives-same plan work plan′ work′ x g =
-      (plan-same plan plan′ (length plan) (length work) x (g .0), cleared-same work work′ x (g .1))
+      (plan-same (planner-agree (length plan) (length work)) plan plan′ x (g .0), cleared-same work work′ x (g .1))
+
+  pub dull-gives-same : (plan plan′ : List ℕ) (x : PlannerAnswer) → DullGives s plan plan′ x → DullGives s′ plan plan′ x
+  dull-gives-same plan plan′ x g = plan-same (dull-agree (length plan)) plan plan′ x g

@@ -242,21 +242,24 @@ given-for cs s plan plan′ (Planned unit load hyper energy) g plan₂ =
     }
 given-for cs s plan plan′ (NotPlanned r) g plan₂ = record { plan′ = plan₂; gives = (g .0, refl); same = refl }
 
--- So the answer and the plan are known by the list and the two lengths.
+-- So the answer and the plan are known by the list and by what the checks look at besides: the lengths.
 pub record SamePlan (s : List ℕ) (a b : PlannerAnswer) (plan₁ plan₂ : List ℕ) : Type 0 where
   pub answer : a ≡ b
   pub plan : planGiven s plan₁ a ≡ planGiven s plan₂ b
+
+pub plan-by-checks : (cs : List Check) → AllSingle cs → (s plan₁ plan₁′ plan₂ plan₂′ : List ℕ) (a b : PlannerAnswer)
+    → PlanGives cs s plan₁ plan₁′ a → PlanGives cs s plan₂ plan₂′ b → SamePlan s a b plan₁′ plan₂′
+plan-by-checks cs single s plan₁ p₁ plan₂ p₂ a b x y =
+    let z = given-for cs s plan₁ p₁ a x plan₂ in
+    let one = plan-unique cs single s plan₂ (z .plan′) p₂ a b (z .gives) y in
+    record { answer = one .0; plan = cc (one .1) }
 
 pub planner-by-lengths : (s plan₁ work₁ plan₁′ work₁′ plan₂ work₂ plan₂′ work₂′ : List ℕ) (a b : PlannerAnswer)
     → length plan₁ ≡ length plan₂ → length work₁ ≡ length work₂
     → PlannerGives s plan₁ work₁ plan₁′ work₁′ a → PlannerGives s plan₂ work₂ plan₂′ work₂′ b → SamePlan s a b plan₁′ plan₂′
 planner-by-lengths s plan₁ work₁ p₁ w₁ plan₂ work₂ p₂ w₂ a b e f x y =
-    let checks = plannerChecks s (length plan₂) (length work₂) in
-    let z = given-for checks s plan₁ p₁ a (rw (e, f) at (x .0)) plan₂ in
-    let one =
-    plan-unique checks (planner-single s (length plan₂) (length work₂)) s plan₂ (z .plan′) p₂ a b
-    (z .gives) (y .0) in
-    record { answer = one .0; plan = cc (one .1) }
+    plan-by-checks (plannerChecks s (length plan₂) (length work₂)) (planner-single s (length plan₂) (length work₂))
+    s plan₁ p₁ plan₂ p₂ a b (rw (e, f) at (x .0)) (y .0)
 
 -- ---- the walk
 pub walk-unique : (s P : List ℕ) (a b : WalkAnswer) → WalkAnswers s P a → WalkAnswers s P b → a ≡ b

@@ -112,8 +112,8 @@ abbrev pub PlannerGives : (s plan work plan′ work′ : List ℕ) → PlannerAn
 PlannerGives s plan work plan′ work′ a =
     PlanGives (plannerChecks s (length plan) (length work)) s plan plan′ a × WorkAfter s work work′ a
 
--- THE DULL ENGINE (document 02, note 7). "It needs no working words. Its refusals are the planner's without 5, and
--- where both succeed the four numbers and the plan list are equal."
+-- THE DULL ENGINE (document 02, note 7). It "applies document 01's choice directly at each unit. It needs no working
+-- words." That its answer is the planner's "where both succeed" is a theorem (proofs/Engines.antt).
 abbrev pub DullGives : (s plan plan′ : List ℕ) → PlannerAnswer → Type 0
 DullGives s plan plan′ = PlanGives (dullChecks s (length plan)) s plan plan′
 

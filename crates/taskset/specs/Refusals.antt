@@ -48,7 +48,7 @@ second TooManyPlans = 0
 
 -- CAUSES. Each says when it holds with a second number k.
 
--- "over 1,000,000": as many plans the dull engine goes through.
+-- "over 1,000,000": so many plans the dull engine goes through at most.
 abbrev pub mostPlans : ℕ
 mostPlans = 1000000
 
