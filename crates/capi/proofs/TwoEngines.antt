@@ -17,7 +17,7 @@ use Rattle.taskset.specs.declared.Refusal.{Refusal}
 use Rattle.taskset.specs.declared.PlannerAnswer.{PlannerAnswer}
 use Rattle.taskset.proofs.Checks.{AllSingle, accepts-back, accepts-leave, refuses-leave}
 use Rattle.taskset.proofs.Unique.{short-single, none-single, single-next, covered-single, plan-unique}
-use Rattle.taskset.proofs.Engines.{refusedWith, set, rest, both-single, leave, one-answer}
+use Rattle.taskset.proofs.TwoEngines.{refusedWith, set, rest, both-single, leave, one-answer}
 use Rattle.planner.specs.Answers.{PlannerCall}
 use Rattle.dull.specs.Answers.{DullCall}
 use Rattle.capi.specs.Entry.{resultSize, EntryGives, PlanEntry, DullEntry}

@@ -24,11 +24,11 @@ use Rattle.selection.proofs.Compute.{trace, leastEnergy, choose, usedFrom, used
 use Rattle.layout.specs.Words.{slack, rateCount, taskCount, headKinds, extraKinds, kindIn, headKind, taskKind, kindAt, allows}
 use Rattle.layout.specs.declared.Layout.the-variants.{Ordinary}
 use Rattle.taskset.specs.Quantities.{hyperPeriod, problem, walkTasks, jobsEnergy, reportedEnergy, workNeeded}
-use Rattle.taskset.specs.Refusals.{mostPlans, number, second, Check, Accepts}
+use Rattle.taskset.specs.Refusals.{number, second, Check, Accepts}
 use Rattle.taskset.specs.Refusals.{_▹_, wordChecks, idleChecks, hyperCheck}
 use Rattle.taskset.specs.Refusals.{workCheck, roomCheck, noneCheck, planCheck, readyChecks, plannerChecks}
 use Rattle.taskset.specs.Refusals.{walkChecks}
-use Rattle.taskset.specs.Calls.{code, plannerValues, walkValues, SetAfter, PlannerGives, DullGives, WalkAnswers}
+use Rattle.taskset.specs.Calls.{code, plannerValues, walkValues, SetAfter, PlannerGives, WalkAnswers}
 use Rattle.taskset.specs.DemandThree.{Keeps, margin, IsLeast, PlanPromise, Together}
 use Rattle.taskset.specs.declared.Refusal.{Refusal}
 use Rattle.taskset.specs.declared.Refusal.the-variants.{BadWord, NotAbove, TooLong, WorkShort, TooShort, NoPlan, BadPlan, BelowIdle}
@@ -41,8 +41,6 @@ use Rattle.taskset.proofs.Verdict.{isBad, isFall, isOver, isBelow, hasB
 use Rattle.taskset.proofs.Verdict.{checkedOf, coveredOf, checked-answers, covered-answers}
 use Rattle.taskset.proofs.PlanVerdict.{isUnfit, planVerdict, PlanSays, plan-verdict-says}
 use Rattle.taskset.proofs.Sets.{IsSet, set-of, falling}
-use Rattle.taskset.proofs.Engines.{as-dull}
-use Rattle.taskset.proofs.DullCases.{few}
 use Rattle.taskset.proofs.DemandThree.{planner-plans, answer-owes, walk-owes}
 use Rattle.taskset.proofs.Margin.{allowance, margin-reached}
 
@@ -55,7 +53,7 @@ unfoldable pub S-from : ℕ → ℕ → List ℕ
 S-from a b = 100 ∷ 0 ∷ 3 ∷ 2 ∷ 4 ∷ 8 ∷ 2 ∷ 10 ∷ 12 ∷ a ∷ 4 ∷ 9 ∷ 20 ∷ 15 ∷ 20 ∷ b ∷ 7 ∷ 15 ∷ 30 ∷ []
 
 -- "Highest rate 2, one task of period 30", of c cycles.
-one-task : ℕ → List ℕ
+unfoldable pub one-task : ℕ → List ℕ
 one-task c = 100 ∷ 0 ∷ 2 ∷ 1 ∷ 2 ∷ 1 ∷ 30 ∷ c ∷ 0 ∷ 5 ∷ 6 ∷ []
 
 -- Two rates, and a task for each period.
@@ -74,7 +72,7 @@ chip-set =
     1200 ∷ 1500 ∷ []
 
 -- Two tasks alike.
-even-tasks : List ℕ
+unfoldable pub even-tasks : List ℕ
 even-tasks = 100 ∷ 0 ∷ 2 ∷ 1 ∷ 3 ∷ 2 ∷ 4 ∷ 3 ∷ 0 ∷ 1 ∷ 5 ∷ 4 ∷ 3 ∷ 0 ∷ 1 ∷ 5 ∷ []
 
 -- Slack 100, idle energy h, rates 1 and 9, one task of period 100 and 90 cycles with energies e and 200: its jobs take 90
@@ -264,15 +262,6 @@ module _ (s P : List ℕ) (unit load hyper energy : ℕ) (size : length P ≤ ta
       → energy ≡ reportedEnergy s Q + margin s unit → IsLeast s Q (reportedEnergy s Q)
   least-by-margin Q busy idle preempted zero w = margin-reached s P unit energy promised Q (kept-keeps s Q busy idle preempted zero w)
 
--- The same of the dull engine.
-dull-planned : (s P : List ℕ) (unit load hyper energy : ℕ) → Given s P unit load hyper energy
-    → rateCount Ordinary s ^ taskCount Ordinary s ≤ mostPlans
-    → (plan : List ℕ) → length plan ≡ taskCount Ordinary s → DullGives s plan P (Planned unit load hyper energy)
-dull-planned s P unit load hyper energy given small plan size =
-    let work : List ℕ = replicate (workNeeded s) 0 in
-    as-dull s plan work P work (Planned unit load hyper energy)
-    (given plan work size (length-replicate (workNeeded s) 0)) (λ e. omega arith) (few s small)
-
 -- ---- the cases
 pub record Cases : Type 0 where
   -- (M) "S: plan 2 1, unit 1, load 29, energy 41." (M) "S has W = 243".
@@ -281,7 +270,7 @@ pub record Cases : Type 0 where
   -- (M) "242 working words: refusal 5 with 243."
   work-242 : (plan work : List ℕ) → length work ≡ 242 → PlannerGives (S 100) plan work plan work (NotPlanned (WorkShort 243))
   -- (M) "S with slack 1,000: plan 1 2, unit 8, load 28, energy 42." (M) "S with slack 1,000: W = 27."
-  planned-1000 : (plan work : List ℕ) → length plan ≡ 2 → length work ≡ 27
+  pub planned-1000 : (plan work : List ℕ) → length plan ≡ 2 → length work ≡ 27
       → PlannerGives (S 1000) plan work (1 ∷ 2 ∷ []) (replicate 27 0) (Planned 8 28 30 42)
   -- (M) "S, walk of 1 1: missed, tick 15, task 2." (M) "Walk of 2 1: kept, 29, 1, 1."
   walk-of-1-1 : WalkAnswers (S 100) (1 ∷ 1 ∷ []) (Missed 15 2)
@@ -291,7 +280,7 @@ pub record Cases : Type 0 where
   walk-of-1-4 : WalkAnswers (S 100) (1 ∷ 4 ∷ []) (NotWalked (BadPlan 1))
   -- (M) "Highest rate 2, one task of period 30: 60 cycles fit," (M) "61 give refusal 7."
   cycles-60 : (plan work : List ℕ) → length plan ≡ 1 → length work ≡ 82 → PlannerGives (one-task 60) plan work (2 ∷ []) (replicate 82 0) (Planned 1 30 30 6)
-  cycles-61 : (plan work : List ℕ) → 1 ≤ length plan → 82 ≤ length work → PlannerGives (one-task 61) plan work plan work (NotPlanned NoPlan)
+  pub cycles-61 : (plan work : List ℕ) → 1 ≤ length plan → 82 ≤ length work → PlannerGives (one-task 61) plan work plan work (NotPlanned NoPlan)
   -- "A slack of 0: refusal 2, place 0. Empty list: refusal 2, place 0. Rates 4 4: refusal 3, place 3."
   slack-0 : Declined (S 0) (BadWord 0)
   empty : Declined [] (BadWord 0)
@@ -308,7 +297,7 @@ pub record Cases : Type 0 where
   -- A plan list of one word for two tasks: refusal 6 with 2. Two plans that differ in rate numbers alone: the lower
   -- number for task 2.
   plan-list-1 : (plan work : List ℕ) → length plan ≡ 1 → length work ≡ 243 → PlannerGives (S 100) plan work plan work (NotPlanned (TooShort 2))
-  tie : (plan work : List ℕ) → length plan ≡ 2 → length work ≡ 243 → PlannerGives even-tasks plan work (2 ∷ 1 ∷ []) (replicate 243 0) (Planned 1 4 4 6)
+  pub tie : (plan work : List ℕ) → length plan ≡ 2 → length work ≡ 243 → PlannerGives even-tasks plan work (2 ∷ 1 ∷ []) (replicate 243 0) (Planned 1 4 4 6)
   -- Document 02, note 4. The slower rate costs 910 - 10 × 90 = 10 over idling, the faster 200 - 10 × 10 = 100: plan 1, and
   -- with 10 idle ticks 910 + 10 × 10 = 1,010 in all, against 200 + 10 × 90 = 1,100 for plan 2.
   pub idle-counts : (plan work : List ℕ) → length plan ≡ 1 → length work ≡ 82
@@ -385,12 +374,6 @@ pub record Cases : Type 0 where
   walk-together : WalkAnswers (with-firsts 2 4 0 0) (1 ∷ 1 ∷ []) (Kept 4 0 1)
   -- With both released together the first set misses where it has to: at L.
   missed-together : WalkAnswers (with-firsts 2 2 0 0) (1 ∷ 1 ∷ []) (Missed 2 2)
-  -- Document 02, note 7: the dull engine has the planner's answers to S, at both slacks, to the tie and to 61 cycles,
-  -- and is lent no working words. Its own edges are in DullCases.antt.
-  dull-100 : (plan : List ℕ) → length plan ≡ 2 → DullGives (S 100) plan (2 ∷ 1 ∷ []) (Planned 1 29 30 41)
-  dull-1000 : (plan : List ℕ) → length plan ≡ 2 → DullGives (S 1000) plan (1 ∷ 2 ∷ []) (Planned 8 28 30 42)
-  dull-tie : (plan : List ℕ) → length plan ≡ 2 → DullGives even-tasks plan (2 ∷ 1 ∷ []) (Planned 1 4 4 6)
-  dull-61 : (plan : List ℕ) → 1 ≤ length plan → DullGives (one-task 61) plan plan (NotPlanned NoPlan)
   -- A chip's list: its plan, and the walk of it.
   pub planned-chip : (plan work : List ℕ) → length plan ≡ 2 → length work ≡ 51
       → PlannerGives chip-set plan work (2 ∷ 2 ∷ []) (replicate 51 0) (Planned 128 20 40 1680)
@@ -455,14 +438,6 @@ cases =
       long-bad-plan = plan-refused (S 100) 3 2 30 refl (1 ∷ 1 ∷ 9 ∷ 9 ∷ []) 2 refl;
       plan-list-1 = λ plan work p q. plan-short (S 100) 3 2 30 refl plan work (omega arith) (omega arith);
       tie = of-tie;
-      dull-100 = dull-planned (S 100) (2 ∷ 1 ∷ []) 1 29 30 41 of-S (le-by-compare _ _ tt);
-      dull-1000 = dull-planned (S 1000) (1 ∷ 2 ∷ []) 8 28 30 42 of-S-1000 (le-by-compare _ _ tt);
-      dull-tie = dull-planned even-tasks (2 ∷ 1 ∷ []) 1 4 4 6 of-tie (le-by-compare _ _ tt);
-      dull-61 = λ plan h.
-          as-dull (one-task 61) plan (replicate 82 0) plan (replicate 82 0) (NotPlanned NoPlan)
-          (no-plan (one-task 61) 2 1 30 refl (le-by-compare _ _ tt) (le-by-compare _ _ tt) plan (replicate 82 0) h
-          (omega (arith, length-replicate {A = ℕ} 82 0)))
-          (λ e. omega arith) (few (one-task 61) (le-by-compare _ _ tt));
       idle-counts = planned (slow-or-fast 10 910) 2 1 100 refl (1 ∷ []) 0 1 90 1010
           (le-by-compare _ _ tt) (le-by-compare _ _ tt) refl refl refl refl refl refl;
       walk-idle = (walks (slow-or-fast 10 910) 2 1 100 refl (1 ∷ []) refl, refl);

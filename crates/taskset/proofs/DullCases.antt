@@ -1,5 +1,5 @@
 -- The edges of document 02's note 7, proved of the definitions: which powers are over 1,000,000, and where 11 stands
--- among the dull engine's checks. The plans that it gives are in Cases.antt.
+-- among the dull engine's checks. The plans that it gives are in WorkedDull.antt.
 -- Assumes nothing.
 use Prim.Native.Nat.{ℕ, zero, suc, _^_, _≤_, _<_}
 use native.Mathlib.Bridge.{le-by-compare, IsLe}

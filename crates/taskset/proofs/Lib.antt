@@ -12,7 +12,8 @@ pub mod Writing
 pub mod Stores
 pub mod Rows
 pub mod Unique
-pub mod Engines
+pub mod TwoEngines
 pub mod DullCases
 pub mod Firsts
 pub mod Cases
+pub mod WorkedDull

@@ -113,7 +113,7 @@ PlannerGives s plan work plan′ work′ a =
     PlanGives (plannerChecks s (length plan) (length work)) s plan plan′ a × WorkAfter s work work′ a
 
 -- THE DULL ENGINE (document 02, note 7). It "applies document 01's choice directly at each unit. It needs no working
--- words." That its answer is the planner's "where both succeed" is a theorem (proofs/Engines.antt).
+-- words." That its answer is the planner's "where both succeed" is a theorem (proofs/TwoEngines.antt).
 abbrev pub DullGives : (s plan plan′ : List ℕ) → PlannerAnswer → Type 0
 DullGives s plan plan′ = PlanGives (dullChecks s (length plan)) s plan plan′
 
