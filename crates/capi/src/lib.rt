@@ -146,8 +146,8 @@ pub extern "C" fn seedspell_plan_dull(set: &[u32], plan: &mut [u32], results: &m
             tasks,
             hyper,
         } => {
-            let size = results.len();
-            if size < 32 {
+            let bytes = results.len();
+            if bytes < 32 {
                 return code_of(Refusal::TooShort(32));
             }
             let answer = dull::plan_checked(set, plan, rates, tasks, hyper);

@@ -103,11 +103,11 @@ pub fn planned(set: &[u32], hyper: u64, c: Choice) -> PlannerAnswer
     ensures { λ a. ⌜ a ≡ Planned (c .unit) (c .load) hyper (c .energy + idle (now (set .entry)) * hyper) ⌝ }
 {
     let idle = checks::idle_of(set) as u64;
-    let energy = c.energy + idle * hyper;
+    let total = c.energy + idle * hyper;
     PlannerAnswer::Planned {
         unit: c.unit,
         load: c.load,
         hyper,
-        energy,
+        energy: total,
     }
 }

@@ -12,13 +12,13 @@ idle-of-requires c κs = search needs
 cast-idle : tie.Need-cast-idle
 cast-idle c = search needs
 
-mul-energy : tie.Need-mul-energy
-mul-energy c =
+mul-total : tie.Need-mul-total
+mul-total c =
     let s = c .before .before in
     omega (arith, s .pre .1, ap (λ (h : ℕ). h * s .args .hyper) (c .idle-of .ensures))
 
-add-energy : tie.Need-add-energy
-add-energy c =
+add-total : tie.Need-add-total
+add-total c =
     let s = c .before .before .before in
     omega (arith, s .pre .1, ap (λ (h : ℕ). h * s .args .hyper) (c .before .idle-of .ensures))
 
@@ -29,4 +29,4 @@ returns c =
     (c .before .idle-of .ensures)
 
 pub planned-spec : {M : Type 1} → statement M
-planned-spec = tie.close (tie.spec idle-of-requires cast-idle mul-energy add-energy returns)
+planned-spec = tie.close (tie.spec idle-of-requires cast-idle mul-total add-total returns)
