@@ -71,6 +71,18 @@ static inline int first_power(const struct problem *p, uint32_t *power)
     return load <= p->span;
 }
 
+/* What both ask after a check of their own: 6 for the plan list and for the
+   results, the options, and 7. No lent word has changed so far. */
+static inline uint64_t pose(struct problem *p, const uint32_t *set, size_t plan_len, size_t results_len, uint32_t *power)
+{
+    if (plan_len < p->tasks)
+        return refusal(6, p->tasks);
+    if (results_len < RESULT_BYTES)
+        return refusal(6, RESULT_BYTES);
+    fill_options(p, set);
+    return first_power(p, power) ? 0 : refusal(7, 0);
+}
+
 static inline void round_up(struct problem *p, uint32_t power)
 {
     uint64_t unit = (uint64_t)1 << power;

@@ -93,14 +93,8 @@ uint64_t DULL(const uint32_t *set, size_t set_len, uint32_t *plan, size_t plan_l
         return refused;
     if (too_many(p.rates, p.tasks))
         return refusal(11, 0);
-    if (plan_len < p.tasks)
-        return refusal(6, p.tasks);
-    if (results_len < RESULT_BYTES)
-        return refusal(6, RESULT_BYTES);
-
-    fill_options(&p, set);
-    if (!first_power(&p, &power))
-        return refusal(7, 0);
+    if ((refused = pose(&p, set, plan_len, results_len, &power)) != 0)
+        return refused;
 
     for (;; power--) {
         round_up(&p, power);

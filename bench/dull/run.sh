@@ -27,5 +27,10 @@ if [ -n "${SELFTEST:-}" ]; then
 else
     build_archive
 fi
+# Where the code stands in the program matters as much as what it is: plain C first, then the archive first.
 gcc "$out/bench.o" "$out/dull.o" "$archive" -o "$out/bench"
+gcc "$out/bench.o" "$archive" "$out/dull.o" -o "$out/bench-archive-first"
+echo "bench: plain C linked before the archive"
 "$out/bench" "$@"
+echo "bench: the archive linked before plain C"
+"$out/bench-archive-first" "$@"

@@ -76,14 +76,8 @@ uint64_t PLANNER(const uint32_t *set, size_t set_len, uint32_t *plan, size_t pla
     needed = (size_t)(p.tasks + 1) * (4000 * p.tasks / p.slack + 1);
     if (work_len < needed)
         return refusal(5, needed);
-    if (plan_len < p.tasks)
-        return refusal(6, p.tasks);
-    if (results_len < RESULT_BYTES)
-        return refusal(6, RESULT_BYTES);
-
-    fill_options(&p, set);
-    if (!first_power(&p, &power))
-        return refusal(7, 0);           /* no lent word has changed so far */
+    if ((refused = pose(&p, set, plan_len, results_len, &power)) != 0)
+        return refused;
 
     /* At the first unit no task costs more than 1 at its highest rate, so the
        least is N at most; halving the unit at most doubles it. */
