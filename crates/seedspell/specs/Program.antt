@@ -7,7 +7,9 @@ use Rattle.answer.specs.Answer.{Prints, Owes}
 use Rattle.seedspell.specs.declared.input.Got.{Got}
 use Rattle.seedspell.specs.declared.input.Got.the-variants.{Bytes, End, Interrupted, Failed}
 use Rattle.seedspell.specs.declared.input.Input.{Input}
-use Rattle.seedspell.specs.declared.input.Input.the-variants.{Taken, Unreadable}
+use Rattle.seedspell.specs.declared.input.Input.the-variants.{Ended, Full, Unreadable}
+use Rattle.seedspell.specs.declared.output.Output.{Output}
+use Rattle.seedspell.specs.declared.output.Output.the-variants.{All, CutShort}
 use Rattle.seedspell.specs.declared.output.Put.{Put}
 use Rattle.seedspell.specs.declared.output.Put.the-variants.{Bytes as Took, Interrupted as NotYet, Failed as Never}
 
@@ -26,9 +28,10 @@ pub record ReadMore (d : List ℕ) (at : ℕ) (d′ : List ℕ) (r : Got) : Type
   pub kept : take at d′ ≡ take at d
   pub fits : GotFits d at r
 
--- "reads at most 8,192 bytes": they are the first of the list d.
+-- "reads at most 8,192 bytes": they are the first of the list d, fewer where the input has ended, else all 8,192.
 abbrev pub InputFits : List ℕ → Input → Type 0
-InputFits d (Taken n) = (n ≤ 8192) × (n ≤ length d)
+InputFits d (Ended n) = (n < 8192) × (n ≤ length d)
+InputFits d (Full n) = (n ≡ 8192) × (n ≤ length d)
 InputFits d Unreadable = Unit {0}
 
 -- One write of d from `at` on.
@@ -36,6 +39,11 @@ abbrev pub WroteMore : List ℕ → ℕ → Put → Type 0
 WroteMore d at (Took k) = Moves d at k
 WroteMore d at NotYet = Unit {0}
 WroteMore d at Never = Unit {0}
+
+-- What is written of d: all of it, or less.
+abbrev pub OutputFits : List ℕ → Output → Type 0
+OutputFits d (All n) = n ≡ length d
+OutputFits d (CutShort n) = n < length d
 
 -- THE ANSWER. The first r bytes of d are what the program is to print for the text t, with what that output owes.
 pub record Answered (t d : List ℕ) (r : ℕ) : Type 0 where

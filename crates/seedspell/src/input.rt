@@ -1,6 +1,6 @@
 // Standard input, read to its end or until 8,192 bytes are there. Every well-formed text is shorter, so that a longer
 // input is refused by what it has in those bytes, and its rest is left unread.
-ghost use Prim.Native.Nat.{_≤_};
+ghost use Prim.Native.Nat.{_<_};
 ghost use lib.ListN.{length};
 ghost use Rattle.seedspell.specs.Program.{ReadMore, InputFits};
 use libc::EINTR;
@@ -18,15 +18,20 @@ pub(crate) enum Got {
     Failed,
 }
 
-// What the reads find in all: so many bytes, or that the input cannot be read.
+// Why the reads stop.
 pub(crate) enum Input {
-    Taken(usize),
+    // A read found the end of the input, behind so many bytes.
+    Ended(usize),
+    // All places are taken, so many: there may be more.
+    Full(usize),
+    // The input cannot be read.
     Unreadable,
 }
 
-// One read, to the places from `at` on. What stands before `at` stays.
+// One read, to the places from `at` on. What stands before `at` stays. At least one place is lent: to a read that is
+// lent none the input always seems to be at its end.
 fn read_more(bytes: &mut [u8], at: usize) -> Got
-    requires { ⌜ at ≤ length (now bytes) ⌝ }
+    requires { ⌜ at < length (now bytes) ⌝ }
     ensures { λ r. ⌜ ReadMore (now (bytes .entry)) at (now (bytes .exit)) r ⌝ }
 {
     let got = libc::read(STDIN_FILENO, &mut bytes[at..]);
@@ -42,8 +47,9 @@ fn read_more(bytes: &mut [u8], at: usize) -> Got
     Got::Failed
 }
 
-// Reads until the input ends or the places are full. Each turn brings a byte or uses up one of 1,000 retries, so that
-// the loop ends: the room that is left and the retries that are left, together, get less with each turn.
+// Reads until the input ends or the places are full: fewer bytes than were asked for are no end, since a pipe hands out
+// what it has. Each turn brings a byte or uses up one of 1,000 retries, so that the loop ends: the room that is left and
+// the retries that are left, together, get less with each turn.
 pub(crate) fn read_input(bytes: &mut [u8; 8192]) -> Input
     ensures { λ r. ⌜ InputFits (now (bytes .exit)) r ⌝ }
 {
@@ -52,7 +58,7 @@ pub(crate) fn read_input(bytes: &mut [u8; 8192]) -> Input
     while n < 8192 {
         match read_more(bytes, n) {
             Got::Bytes(k) => n += k,
-            Got::End => return Input::Taken(n),
+            Got::End => return Input::Ended(n),
             Got::Interrupted => {
                 if retries == 0 {
                     return Input::Unreadable;
@@ -62,5 +68,5 @@ pub(crate) fn read_input(bytes: &mut [u8; 8192]) -> Input
             Got::Failed => return Input::Unreadable,
         }
     }
-    Input::Taken(n)
+    Input::Full(n)
 }

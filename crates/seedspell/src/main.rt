@@ -2,8 +2,9 @@
 // refusal.
 //
 // What it offers to standard output is the answer to the bytes that it has read: write_answer asks for that, and
-// answer_bytes gives it. Which bytes a read brings, and where those of a write go, no contract can say: read, write and
-// errno are taken at their word. The program always returns, however often a signal interrupts it. Its exit status is
+// answer_bytes gives it. It plans what it has read where a read has found the end of the input, or where all 8,192 places
+// are taken, and complains unless all of the answer was taken. Which bytes a read brings, and where those of a write go,
+// no contract can say: read, write and errno are taken at their word. The program always returns, however often a signal interrupts it. Its exit status is
 // always 0, so that an input that cannot be read, or an answer that cannot be written, shows on standard error only.
 mod input;
 mod output;
@@ -11,6 +12,7 @@ mod output;
 ghost use Rattle.seedspell.specs.Program.{Answered};
 use input::Input;
 use libc::STDERR_FILENO;
+use output::Output;
 use taskset::CopyAnswer;
 
 // The answer to a text, at the front of the output: how many bytes. No answer is longer than 2,048 bytes, so that the
@@ -33,15 +35,19 @@ fn complain(line: &[u8]) {
 fn plan(text: &[u8]) {
     let mut output = [0u8; 2048];
     let n = answer_bytes(text, &mut output);
-    if output::write_answer(text, &output[..n]) < n {
-        complain(b"seedspell: the answer cannot be written to standard output\n");
+    match output::write_answer(text, &output[..n]) {
+        Output::All(_) => (),
+        Output::CutShort(_) => complain(
+            b"seedspell: the answer cannot be written to standard output\n",
+        ),
     }
 }
 
 fn main() {
     let mut bytes = [0u8; 8192];
     match input::read_input(&mut bytes) {
-        Input::Taken(n) => plan(&bytes[..n]),
+        Input::Ended(n) => plan(&bytes[..n]),
+        Input::Full(n) => plan(&bytes[..n]),
         Input::Unreadable => complain(b"seedspell: standard input cannot be read\n"),
     }
 }

@@ -1,8 +1,8 @@
 // Standard output. A write may take fewer bytes than it is given, so that the rest is offered again.
-ghost use Prim.Native.Nat.{_≤_};
+ghost use Prim.Native.Nat.{_<_};
 ghost use lib.ListN.{length};
 ghost use Rattle.answer.specs.Answer.{Prints};
-ghost use Rattle.seedspell.specs.Program.{WroteMore};
+ghost use Rattle.seedspell.specs.Program.{WroteMore, OutputFits};
 use libc::EINTR;
 use libc::STDOUT_FILENO;
 
@@ -16,10 +16,18 @@ pub(crate) enum Put {
     Failed,
 }
 
-// One write, of the bytes from `at` on. A write that takes nothing without an error counts as interrupted, so that it
+// How much of the answer the writes take.
+pub(crate) enum Output {
+    // All of it, so many bytes.
+    All(usize),
+    // So many bytes, and not the rest.
+    CutShort(usize),
+}
+
+// One write, of the bytes from `at` on, at least one. A write that takes nothing without an error counts as interrupted, so that it
 // is tried again and uses up a retry.
 fn write_more(answer: &[u8], at: usize) -> Put
-    requires { ⌜ at ≤ length (now answer) ⌝ }
+    requires { ⌜ at < length (now answer) ⌝ }
     ensures { λ r. ⌜ WroteMore (now (answer .entry)) at r ⌝ }
 {
     let put = libc::write(STDOUT_FILENO, &answer[at..]);
@@ -35,12 +43,12 @@ fn write_more(answer: &[u8], at: usize) -> Put
     Put::Failed
 }
 
-// Writes the answer to an input, and gives how many of its bytes were taken: all, unless a write fails or 1,000 retries
-// are used up. Each turn gets rid of a byte or uses up a retry, so that the loop ends. Nothing else writes to standard
-// output; the input is there for the contract to speak of it.
-pub(crate) fn write_answer(input: &[u8], answer: &[u8]) -> usize
+// Writes the answer to an input: all of it, unless a write fails or 1,000 retries are used up. Each turn gets rid of a
+// byte or uses up a retry, so that the loop ends. Nothing else writes to standard output; the input is there for the
+// contract to speak of it.
+pub(crate) fn write_answer(input: &[u8], answer: &[u8]) -> Output
     requires { ⌜ Prints (now input) (now answer) ⌝ }
-    ensures { λ r. ⌜ r ≤ length (now (answer .entry)) ⌝ }
+    ensures { λ r. ⌜ OutputFits (now (answer .entry)) r ⌝ }
 {
     let mut n = 0;
     let mut retries: usize = 1000;
@@ -49,12 +57,12 @@ pub(crate) fn write_answer(input: &[u8], answer: &[u8]) -> usize
             Put::Bytes(k) => n += k,
             Put::Interrupted => {
                 if retries == 0 {
-                    return n;
+                    return Output::CutShort(n);
                 }
                 retries -= 1;
             }
-            Put::Failed => return n,
+            Put::Failed => return Output::CutShort(n),
         }
     }
-    n
+    Output::All(n)
 }

@@ -18,6 +18,12 @@ slice-aggregate-write-answer c = sym (length-take-le _ _ (c .before .answer-byte
 write-answer-requires : tie.Need-write-answer-requires
 write-answer-requires c κs = c .before .answer-bytes .ensures .prints
 
+enum-told : tie.Need-enum-told
+enum-told c = search needs
+
+enum-told-2 : tie.Need-enum-told-2
+enum-told-2 c = search needs
+
 slice-aggregate-complain : tie.Need-slice-aggregate-complain
 slice-aggregate-complain c = search needs
 
@@ -38,6 +44,8 @@ plan-spec =
     array-share-prefix-output
     slice-aggregate-write-answer
     write-answer-requires
+    enum-told
+    enum-told-2
     slice-aggregate-complain
     complain-requires
     returns

@@ -42,8 +42,8 @@ loop-again c = omega (arith, came (c .before) .1)
 enum-told : tie.Need-enum-told Inv-loop μ-loop
 enum-told c = search needs
 
-returns : tie.Need-returns Inv-loop μ-loop
-returns c = search needs
+ended : tie.Need-returns Inv-loop μ-loop
+ended c = search needs
 
 enum-told-2 : tie.Need-enum-told-2 Inv-loop μ-loop
 enum-told-2 c = search needs
@@ -66,8 +66,8 @@ enum-told-3 c = search needs
 returns-3 : tie.Need-returns-3 Inv-loop μ-loop
 returns-3 c = search needs
 
-returns-4 : tie.Need-returns-4 Inv-loop μ-loop
-returns-4 c = search needs
+full : tie.Need-returns-4 Inv-loop μ-loop
+full c = search needs
 
 pub read-input-spec : {M : Type 1} → statement M
 read-input-spec =
@@ -82,7 +82,7 @@ read-input-spec =
     loop-less
     loop-again
     enum-told
-    returns
+    ended
     enum-told-2
     returns-2
     sub-retries
@@ -90,4 +90,4 @@ read-input-spec =
     loop-again-2
     enum-told-3
     returns-3
-    returns-4)
+    full)

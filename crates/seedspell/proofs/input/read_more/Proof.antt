@@ -27,7 +27,7 @@ count c =
 -- What stands before the part that was lent.
 kept : (c : tie.After-read) → let a = c .before .before .before .args in
     take (a .at) (putMid (a .at) (lent c) (now (a .bytes)) (c .read .last .1 .0)) ≡ take (a .at) (now (a .bytes))
-kept c = let a = c .before .before .before in take-put (a .args .at) (lent c) (now (a .args .bytes)) (c .read .last .1 .0) (a .pre)
+kept c = let a = c .before .before .before in take-put (a .args .at) (lent c) (now (a .args .bytes)) (c .read .last .1 .0) (omega (arith, a .pre))
 
 sub-read : tie.Need-sub-read
 sub-read c = search needs

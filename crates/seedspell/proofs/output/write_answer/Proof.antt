@@ -58,11 +58,11 @@ loop-again-2 c = search needs
 enum-told-2 : tie.Need-enum-told-2 Inv-loop μ-loop
 enum-told-2 c = search needs
 
-returns-2 : tie.Need-returns-2 Inv-loop μ-loop
-returns-2 c = search needs
+failed : tie.Need-returns-2 Inv-loop μ-loop
+failed c = search needs
 
-returns-3 : tie.Need-returns-3 Inv-loop μ-loop
-returns-3 c = search needs
+all : tie.Need-returns-3 Inv-loop μ-loop
+all c = search needs
 
 pub write-answer-spec : {M : Type 1} → statement M
 write-answer-spec =
@@ -82,5 +82,5 @@ write-answer-spec =
     loop-less-2
     loop-again-2
     enum-told-2
-    returns-2
-    returns-3)
+    failed
+    all)
