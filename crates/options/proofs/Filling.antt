@@ -24,11 +24,12 @@ put-none f m = record {
   small = λ k. omega (arith, zeros-at 512 k);
   before = λ u q l a b. absurd (omega arith);
   here = λ q a l. absurd (omega arith);
+  elsewhere = λ k h. zeros-at 512 k;
 }
 
-put-more : (f : ℕ → ℕ → ℕ) (m t r v : ℕ) (d : List ℕ) → t < 32 → m ≤ 8 → r ≤ m → v ≡ f t r → v < 2 ^ 58 → Laid f m t r d
+put-more : (f : ℕ → ℕ → ℕ) (m t r v : ℕ) (d : List ℕ) → t < 32 → m ≤ 8 → 1 ≤ r → r ≤ m → v ≡ f t r → v < 2 ^ 58 → Laid f m t r d
     → Laid f m t (r + 1) (set d (t * 16 + r) v)
-put-more f m t r v d task rates rate is fits p =
+put-more f m t r v d task rates from rate is fits p =
     record {
       size = length-set d (t * 16 + r) v ∙ p .size;
       small = λ k. at k (ℕ-discrete k (t * 16 + r));
@@ -38,6 +39,9 @@ put-more f m t r v d task rates rate is fits p =
           (λ (e : q ≡ r). rw e (same ∙ is))
           (λ (e : q < r). getD-set-other d (t * 16 + r) (t * 16 + q) v 0 (omega arith) ∙ p .here q a e)
           (eq-or-lt-of-le (omega arith));
+      elsewhere = λ k h.
+          getD-set-other d (t * 16 + r) k v 0 (λ e. h .here r from (omega arith) e) ∙
+          p .elsewhere k (record { before = h .before; here = λ q a l e. h .here q a (omega arith) e });
     }
   where
     same : getD (set d (t * 16 + r) v) (t * 16 + r) 0 ≡ v
@@ -55,6 +59,11 @@ put-next f m t r d e p = record {
   before = λ u q l a b.
       ⊎-elim (λ (z : u ≡ t). rw z (p .here q a (omega arith))) (λ (z : u < t). p .before u q z a b) (eq-or-lt-of-le (omega arith));
   here = λ q a l. absurd (omega arith);
+  elsewhere = λ k h.
+      p .elsewhere k (record {
+        before = λ u q l a b z. h .before u q (omega arith) a b z;
+        here = λ q a l z. h .before t q (omega arith) a (omega arith) z;
+      });
 }
 
 -- ---- loads and energies of a set
@@ -115,9 +124,9 @@ module _ {layout : Layout} {m l t : ℕ} {s : List ℕ} (g : TaskGiven layout m 
           → LaidBoth layout s m t (r + 1) (set ls (t * 16 + r) (l / p * x)) (set es (t * 16 + r) (l / p * (y - h * x)))
       both-more ls es x-is y-is h-is b = record {
         loads =
-            put-more (taskLoad layout s) m t r (l / p * x) ls task-few rates-few to (rw (g .hyper, p-is, x-is) refl)
+            put-more (taskLoad layout s) m t r (l / p * x) ls task-few rates-few from to (rw (g .hyper, p-is, x-is) refl)
             (omega (arith, load-fits x-is)) (b .loads);
         energies =
-            put-more (taskNet layout s) m t r (l / p * (y - h * x)) es task-few rates-few to (rw (g .hyper, p-is, h-is, x-is, y-is) refl)
+            put-more (taskNet layout s) m t r (l / p * (y - h * x)) es task-few rates-few from to (rw (g .hyper, p-is, h-is, x-is, y-is) refl)
             (omega (arith, energy-fits x-is y-is h-is)) (b .energies);
       }

@@ -12,6 +12,7 @@ use Rattle.taskset.proofs.Sets.{IsSet}
 use Rattle.taskset.proofs.Idle.{Covered}
 use Rattle.arrays.specs.Arrays.{arrays, Asked, Small}
 use Rattle.arrays.specs.declared.Request.{Request}
+use Rattle.options.specs.Options.{LaidBoth}
 use Rattle.options.specs.declared.Posed.{Posed}
 use Rattle.options.specs.declared.Posed.the-variants.{NoneFits, For}
 
@@ -31,6 +32,12 @@ pub record Poses (s loads energies : List ℕ) (q : Request) : Type 0 where
   pub loads-fit : Small loads
   pub energies-fit : Small energies
 
+-- The request where a plan fits, or that none does.
 abbrev pub PosedFor : (s loads energies : List ℕ) → Posed → Type 0
 PosedFor s loads energies NoneFits = (P : List ℕ) → Fitting (problem s) P → ⊥
 PosedFor s loads energies (For q) = Poses s loads energies q
+
+-- What is asked for a set of m rates and n tasks, and what both arrays then hold, also where no plan fits.
+pub record SetPosed (s : List ℕ) (m n : ℕ) (loads energies : List ℕ) (r : Posed) : Type 0 where
+  pub laid : LaidBoth Ordinary s m n 1 loads energies
+  pub posed : PosedFor s loads energies r

@@ -8,7 +8,7 @@ ghost use Rattle.layout.specs.declared.Layout.the-variants.{Ordinary};
 ghost use Rattle.layout.specs.Words.{idlePlace, idle};
 ghost use Rattle.taskset.specs.declared.PlannerAnswer.the-variants.{Planned};
 ghost use Rattle.options.specs.Options.{LaidBoth, TaskGiven, TasksGiven};
-ghost use Rattle.options.specs.Posed.{SetGiven, PosedFor};
+ghost use Rattle.options.specs.Posed.{SetGiven, SetPosed};
 use arrays::Choice;
 use arrays::Request;
 use layout::Layout;
@@ -80,7 +80,7 @@ pub fn pose(
 ) -> Posed
     requires { ⌜ SetGiven (now set) rates tasks hyper ⌝ }
     requires { ⌜ LaidBoth Ordinary (now set) rates 0 1 (now loads) (now energies) ⌝ }
-    ensures { λ r. ⌜ PosedFor (now (set .entry)) (now (loads .exit)) (now (energies .exit)) r ⌝ }
+    ensures { λ r. ⌜ SetPosed (now (set .entry)) rates tasks (now (loads .exit)) (now (energies .exit)) r ⌝ }
 {
     put_tasks(loads, energies, set, Layout::Ordinary, rates, tasks, hyper);
     let fastest = arrays::fastest_sum(loads, tasks, rates);

@@ -55,6 +55,8 @@ module _ {n room : ℕ} {job : Picked} {s : State} (v : TickReady n room job s) 
         ap (λ (x : ℕ). idledFor x g) (sym e) ∙
         sym (ticks-idle g (pred room) (omega (arith, m, picked-is k (s .left) (s .due) n, pick-none (v .picks) none))) ∙
         ap (λ (x : ℕ). ticks x g) e);
+    rest = omega (arith, none);
+    at = rw none refl;
     left = refl;
     due = refl;
     inside = λ h. absurd (omega arith);
@@ -93,6 +95,8 @@ module _ {n room : ℕ} {job : Picked} {s : State} (v : TickReady n room job s) 
             refl refl
             (rw (m, cuts-is) refl)
             (rw (m, l, ← here .1, more-left ran (job .left)) refl));
+        rest = refl;
+        at = rw (lt-ltb 0 (job .left) some) refl;
         left = refl;
         due = refl;
         inside = λ h. here .0;

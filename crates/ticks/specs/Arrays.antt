@@ -1,6 +1,6 @@
 -- The walk's state as arrays hold it, and what the walk's functions take and give. Not part of what a reader must
 -- believe: the call's contract speaks of the walk's own definitions.
-use Prim.Native.Nat.{ℕ, zero, suc, _+_, _≤_, _<_, min}
+use Prim.Native.Nat.{ℕ, zero, suc, _+_, _-_, _≤_, _<_, min}
 use mathlib.Core.Path.{_≡_}
 use mathlib.Core.Bool.{cond}
 use mathlib.Core.List.{List, [], _∷_}
@@ -92,6 +92,8 @@ pub record TickReady (n room : ℕ) (job : Picked) (s : State) : Type 0 where
 pub record Ticked (n room : ℕ) (job : Picked) (s r : State) : Type 0 where
   pub made : r .made ≡ cond (ltb 0 (job .left)) (min (job .left) room) room
   pub goes : (k : ℕ → Task) → going k n (listed job r) ≡ ticks (r .made) (going k n s)
+  pub rest : r .rest ≡ job .left - r .made
+  pub at : r .at ≡ cond (ltb 0 (job .left)) (job .place) n
   pub left : r .left ≡ s .left
   pub due : r .due ≡ s .due
   pub inside : Inside n r

@@ -35,7 +35,7 @@ request p = p .posed .given .0 .0
 
 poses : (p : tie.After-posed)
     → Poses (start (posed p) .args .set .now) (posed p .pose .last .0) (posed p .pose .last .1 .0) (request p)
-poses p = subst (PosedFor _ _ _) (p .posed .given .1) (posed p .pose .ensures)
+poses p = subst (PosedFor _ _ _) (p .posed .given .1) (posed p .pose .ensures .posed)
 
 pose-requires : tie.Need-pose-requires
 pose-requires c κs =
@@ -63,7 +63,7 @@ planned-requires c κs =
 returns : tie.Need-returns
 returns c =
     let p = c .before .before in
-    none-fits (prepared (start p)) (subst (PosedFor _ _ _) (c .enum-told .given .1) (p .pose .ensures))
+    none-fits (prepared (start p)) (subst (PosedFor _ _ _) (c .enum-told .given .1) (p .pose .ensures .posed))
 
 same-length : tie.Need-same-length
 same-length c = chosen (c .before) .choose .ensures .plan-size

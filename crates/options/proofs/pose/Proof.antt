@@ -27,7 +27,10 @@ fastest-sum-requires c κs = let p = c .before in sum-given (given (start p)) (p
 none : tie.Need-returns
 none c =
     let f = c .before in
-    none-fits (given (start (put f))) (put f .put-tasks .ensures) (f .fastest-sum .ensures) (c .if1 .taken)
+    record {
+      laid = put f .put-tasks .ensures;
+      posed = none-fits (given (start (put f))) (put f .put-tasks .ensures) (f .fastest-sum .ensures) (c .if1 .taken);
+    }
 
 cast-limit : tie.Need-cast-limit
 cast-limit c = omega (arith, hyper-fits (given (start (put (c .before)))))
@@ -38,8 +41,12 @@ slack-of-requires c κs = some-words (given (start (put (c .before))))
 request : tie.Need-returns-2
 request c =
     let f = c .before .before in
-    posed (given (start (put f))) (put f .put-tasks .ensures) (f .fastest-sum .ensures) (c .before .if1 .left)
-    (c .slack-of .ensures)
+    record {
+      laid = put f .put-tasks .ensures;
+      posed =
+          posed (given (start (put f))) (put f .put-tasks .ensures) (f .fastest-sum .ensures) (c .before .if1 .left)
+          (c .slack-of .ensures);
+    }
 
 pub pose-spec : {M : Type 1} → statement M
 pose-spec =
