@@ -6,7 +6,7 @@ ghost use mathlib.Core.Path.{_≡_};
 ghost use Prim.Native.Nat.{suc, _+_, _^_, _≤_, min};
 ghost use lib.ListN.{replicate};
 ghost use Rattle.arrays.specs.Arrays.{arrays, ChosenBy};
-ghost use Rattle.exhaustive.specs.Engine.{mostPlans, noCost, Looked, Seen, ArraysReady, InHand, ChangeReady, Changed};
+ghost use Rattle.exhaustive.specs.Engine.{mostPlans, Looked, Seen, ArraysReady, InHand, ChangeReady, Changed};
 ghost use Rattle.exhaustive.specs.Engine.{BlockReady, AdvanceReady, Advanced, AllReady, UnitReady, ChosenAt};
 ghost use Rattle.exhaustive.specs.Engine.{UnitUsed, PutReady, PlanPut, ExhaustiveReady};
 use arrays::Choice;
@@ -159,15 +159,15 @@ fn advance(
     sums
 }
 
-// The best of all plans; none is the cost of what is kept before the first.
-fn best_plan(loads: &[u64; 512], cost: &[usize; 512], q: Request, plans: usize, none: usize) -> Best
-    requires { ⌜ ArraysReady q (now loads) (now cost) × (plans ≡ q .rates ^ q .tasks) × (none ≡ noCost) ⌝ }
+// The best of all plans. Before the first none is kept.
+fn best_plan(loads: &[u64; 512], cost: &[usize; 512], q: Request, plans: usize) -> Best
+    requires { ⌜ ArraysReady q (now loads) (now cost) × (plans ≡ q .rates ^ q .tasks) ⌝ }
     ensures { λ r. ⌜ Seen (arrays q (now (loads .entry)) (now (cost .entry))) (q .rates ^ q .tasks) r ⌝ }
 {
     let mut hand: [usize; 32] = [1; 32];
     let mut s = first_sums(loads, cost, q);
     let mut b = Best {
-        cost: none,
+        cost: NO_COST,
         load: 0,
         rank: 0,
     };
@@ -180,21 +180,14 @@ fn best_plan(loads: &[u64; 512], cost: &[usize; 512], q: Request, plans: usize, 
     b
 }
 
-// The plan chosen by a unit; none is the cost of what is kept before the first plan.
-fn best_at(
-    loads: &[u64; 512],
-    energies: &[u64; 512],
-    q: Request,
-    unit: Power,
-    plans: usize,
-    none: usize,
-) -> Best
-    requires { ⌜ UnitReady q (now loads) (now energies) unit plans × (none ≡ noCost) ⌝ }
+// The plan chosen by a unit.
+fn best_at(loads: &[u64; 512], energies: &[u64; 512], q: Request, unit: Power, plans: usize) -> Best
+    requires { ⌜ UnitReady q (now loads) (now energies) unit plans ⌝ }
     ensures { λ r. ⌜ ChosenAt (arrays q (now (loads .entry)) (now (energies .entry))) (2 ^ unit .exponent) r ⌝ }
 {
     let mut cost: [usize; 512] = [0; 512];
     arrays::round_up(energies, q.tasks, unit, &mut cost);
-    best_plan(loads, &cost, q, plans, none)
+    best_plan(loads, &cost, q, plans)
 }
 
 // Finds the unit used: tries the first unit and halves it until the rule stops. No plan is kept from one unit to the
@@ -204,7 +197,7 @@ fn find_unit(loads: &[u64; 512], energies: &[u64; 512], q: Request, plans: usize
     ensures { λ r. ⌜ UnitUsed q (now (loads .entry)) (now (energies .entry)) r ⌝ }
 {
     let mut unit = numbers::least_power(arrays::fastest_sum(energies, q.tasks, q.rates));
-    let mut best = best_at(loads, energies, q, unit, plans, NO_COST);
+    let mut best = best_at(loads, energies, q, unit, plans);
     loop {
         if arrays::stops(unit, q.tasks, q.slack, best.cost) {
             return Used {
@@ -213,7 +206,7 @@ fn find_unit(loads: &[u64; 512], energies: &[u64; 512], q: Request, plans: usize
             };
         }
         unit = arrays::halved(unit);
-        best = best_at(loads, energies, q, unit, plans, NO_COST);
+        best = best_at(loads, energies, q, unit, plans);
     }
 }
 

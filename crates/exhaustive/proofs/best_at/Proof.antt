@@ -12,13 +12,13 @@ best-plan-requires : tie.Need-best-plan-requires
 best-plan-requires c κs =
     let r = c .before in
     let g = r .before .before .pre in
-    (all-posed (g .0 .all) _ (r .round-up .ensures), g .0 .all .plans-are, g .1)
+    (all-posed (g .all) _ (r .round-up .ensures), g .all .plans-are)
 
 returns : tie.Need-returns
 returns c =
     let r = c .before .before in
     let g = r .before .before .pre in
-    all-chosen (g .0 .all) (r .before .before .args .unit .exponent) (r .round-up .ensures) (c .best-plan .ensures)
+    all-chosen (g .all) (r .before .before .args .unit .exponent) (r .round-up .ensures) (c .best-plan .ensures)
 
 pub best-at-spec : {M : Type 1} → statement M
 best-at-spec = tie.close (tie.spec round-up-requires best-plan-requires returns)

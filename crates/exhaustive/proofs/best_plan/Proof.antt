@@ -1,6 +1,7 @@
 -- All plans, as many a turn as there are rates.
 -- Assumes nothing.
 use Prim.Native.Nat.{_-_}
+use mathlib.Core.Path.{refl}
 use native.Mathlib.Omega.{arith}
 use Rattle.exhaustive.proofs.Seeing.{seen-end}
 use Rattle.exhaustive.proofs.Hands.{Going, going-start, going-block, going-turn}
@@ -9,16 +10,17 @@ use Rattle.exhaustive.proofs.best_plan.Statement.{statement}
 use Rattle.exhaustive.proofs.best_plan.Tie as tie
 
 abbrev Inv-loop : tie.InvT-loop
-Inv-loop loads cost q plans none hand₀ s₀ b₀ rank₀ hand s b rank = Going q loads cost hand s rank b
+Inv-loop loads cost q plans hand₀ s₀ b₀ rank₀ hand s b rank = Going q loads cost hand s rank b
 
 abbrev μ-loop : tie.MeasureT-loop
-μ-loop loads cost q plans none hand₀ s₀ b₀ rank₀ hand s b rank = plans - rank
+μ-loop loads cost q plans hand₀ s₀ b₀ rank₀ hand s b rank = plans - rank
 
 first-sums-requires : tie.Need-first-sums-requires Inv-loop μ-loop
 first-sums-requires c κs = search needs
 
-loop-holds : tie.Need-loop-holds Inv-loop μ-loop
-loop-holds c = going-start (c .before .args .q) (c .before .pre .0) (c .before .pre .2) (c .first-sums .ensures)
+-- No plan was kept before.
+none-kept : tie.Need-loop-holds Inv-loop μ-loop
+none-kept c = going-start (c .before .args .q) (c .before .pre .0) refl (c .first-sums .ensures)
 
 block-requires : tie.Need-block-requires Inv-loop μ-loop
 block-requires c κs =
@@ -60,7 +62,7 @@ best-plan-spec =
     Inv-loop
     μ-loop
     first-sums-requires
-    loop-holds
+    none-kept
     block-requires
     advance-requires
     add-rank

@@ -1,7 +1,6 @@
 -- The units tried, from the first down: the invariant is that a unit is in hand, with the plan chosen by it.
 -- Assumes nothing.
 use Prim.Native.Nat.{_*_, _^_, _<_}
-use mathlib.Core.Path.{refl}
 use native.Mathlib.Nat.{mul-le-mul-right}
 use native.Mathlib.Omega.{arith}
 use Rattle.numbers.specs.declared.Power.{Power}
@@ -76,7 +75,7 @@ least-power-requires c κs =
     rw (c .fastest-sum .ensures) (sum-low (s .args .energies .now) _ _ (s .pre .energies-fit) (s .pre .asked .tasks))
 
 best-at-requires : tie.Need-best-at-requires Inv-loop μ-loop
-best-at-requires c κs = (ready c (c .least-power .result) (tried-first c), refl)
+best-at-requires c κs = ready c (c .least-power .result) (tried-first c)
 
 loop-holds : tie.Need-loop-holds Inv-loop μ-loop
 loop-holds c = (tried-first (c .before), c .best-at .ensures)
@@ -102,9 +101,8 @@ returns c =
 halved-requires : tie.Need-halved-requires Inv-loop μ-loop
 halved-requires c κs = goes-on c .0
 
--- No plan was kept before.
-none-kept : tie.Need-best-at-requires-2 Inv-loop μ-loop
-none-kept c κs = (ready (first (c .before .before .before)) (c .halved .result) (halved-next c), refl)
+best-at-requires-2 : tie.Need-best-at-requires-2 Inv-loop μ-loop
+best-at-requires-2 c κs = ready (first (c .before .before .before)) (c .halved .result) (halved-next c)
 
 loop-less : tie.Need-loop-less Inv-loop μ-loop
 loop-less c = let h = c .before in omega (arith, goes-on (h .before) .0, h .halved .ensures .0)
@@ -125,6 +123,6 @@ find-unit-spec =
     stops-requires
     returns
     halved-requires
-    none-kept
+    best-at-requires-2
     loop-less
     loop-again)
