@@ -1,7 +1,22 @@
 /* Seedspell: the clock-rate planner for battery-run water-level recorders, as C calls it.
  *
  * Link with libcapi.a, which `rt staticlib capi` writes, for x86-64 and Linux. What each call gives, down to the byte
- * and the refusal, is proved of that archive's code; docs/CALLS.md is the reference.
+ * and the refusal, is proved of the source that the archive is made from; the compiler that makes it, and this header,
+ * are trusted. docs/CALLS.md is the reference.
+ *
+ * WHAT A CALL RETURNS IS KEPT IN 64 BITS
+ *
+ * A call returns a uint64_t: 0 where it succeeds, or a refusal, its number x 2^32 + its second number. Keep it in a
+ * uint64_t, and ask with seedspell_ok:
+ *
+ *     uint64_t returned = seedspell_plan(..);
+ *     if (!seedspell_ok(returned))
+ *         .. SEEDSPELL_REFUSAL(returned), SEEDSPELL_SECOND(returned) ..
+ *
+ * In 32 bits, as by `int rc = seedspell_plan(..)`, only the second number is left. Of refusal 7, 'no plan fits', of 11,
+ * and of 2 and 8 at place 0 that is 0, and reads as success; gcc and clang warn of this only where they are asked to,
+ * as by -Wconversion. seedspell_ok, SEEDSPELL_REFUSAL and SEEDSPELL_SECOND do not compile with a number of any other
+ * size than 64 bits; and gcc and clang warn of a call whose result is not used.
  *
  * OF EVERY CALL
  *
@@ -9,7 +24,6 @@
  *   or writes outside them.
  * - A pointer is not null and is aligned to its words, also where the length is 0.
  * - Lists lent together do not overlap, unless both are only read; and nothing else changes them during the call.
- * - A call returns 0, or a refusal: its number x 2^32 + its second number (SEEDSPELL_REFUSAL, SEEDSPELL_SECOND).
  * - On a refusal no lent word or byte has changed. On success only those that the call names have.
  * - Calls keep nothing from one to the next, take no memory of their own beyond the stack, and always return.
  * - Calls share nothing: calls of several threads may run at once, as long as none is lent a list that another may
@@ -86,13 +100,37 @@ extern "C" {
 #define SEEDSPELL_REFUSED_TOO_MANY_PLANS 11       /* M to the power N, the number of plans, passes 1,000,000; 0. By the
                                                      dull engine alone */
 
-/* Of what a call returned, a uint64_t: the refusal's number, 0 where there is none; and its second number. */
+/* What a call returned, itself, where it is kept in 64 bits; with any other size this does not compile. */
 #ifdef __cplusplus
-#define SEEDSPELL_REFUSAL(returned) (static_cast<uint32_t>((returned) >> 32))
-#define SEEDSPELL_SECOND(returned) (static_cast<uint32_t>(returned))
+extern "C++" {
+template <typename Returned> constexpr uint64_t seedspell_kept(Returned returned)
+{
+    static_assert(sizeof(Returned) == sizeof(uint64_t), "what a call of Seedspell returned is kept in 64 bits");
+    return returned | uint64_t{0};
+}
+}
+#define SEEDSPELL_KEPT(returned) (seedspell_kept(returned))
 #else
-#define SEEDSPELL_REFUSAL(returned) ((uint32_t)((returned) >> 32))
-#define SEEDSPELL_SECOND(returned) ((uint32_t)(returned))
+#define SEEDSPELL_KEPT(returned) ((returned) | 0 * sizeof(char[sizeof(returned) == sizeof(uint64_t) ? 1 : -1]))
+#endif
+
+/* Of what a call returned: whether it succeeded; the refusal's number, 0 where there is none; and its second number. */
+#define seedspell_ok(returned) (SEEDSPELL_KEPT(returned) == 0)
+#ifdef __cplusplus
+#define SEEDSPELL_REFUSAL(returned) (static_cast<uint32_t>(SEEDSPELL_KEPT(returned) >> 32))
+#define SEEDSPELL_SECOND(returned) (static_cast<uint32_t>(SEEDSPELL_KEPT(returned)))
+#else
+#define SEEDSPELL_REFUSAL(returned) ((uint32_t)(SEEDSPELL_KEPT(returned) >> 32))
+#define SEEDSPELL_SECOND(returned) ((uint32_t)SEEDSPELL_KEPT(returned))
+#endif
+
+/* Stands before every call, so that a compiler warns where its result is not used. */
+#if (defined(__cplusplus) && __cplusplus >= 201703L) || (defined(__STDC_VERSION__) && __STDC_VERSION__ >= 202311L)
+#define SEEDSPELL_RESULT_USED [[nodiscard]]
+#elif defined(__GNUC__)
+#define SEEDSPELL_RESULT_USED __attribute__((warn_unused_result))
+#else
+#define SEEDSPELL_RESULT_USED
 #endif
 
 /* Bytes of results that a call leaves: four values of eight bytes each, lowest byte first. */
@@ -122,6 +160,7 @@ extern "C" {
  *                                               every deadline for ever from these first releases, nor with all
  *                                               tasks released together;
  * or refuses: 2, 3, 4, 8, and then 6 with 32, in this order. */
+SEEDSPELL_RESULT_USED
 uint64_t seedspell_walk(const uint32_t *set, size_t set_len, const uint32_t *plan, size_t plan_len,
                         uint8_t *results, size_t results_len);
 
@@ -158,6 +197,7 @@ uint64_t seedspell_walk(const uint32_t *set, size_t set_len, const uint32_t *pla
  *
  * Whoever turns a rate number into a clock setting uses table entry number - 1, since rate numbers count from 1 and C's
  * tables from 0: a table of M settings has entries 0 to M - 1. */
+SEEDSPELL_RESULT_USED
 uint64_t seedspell_plan(const uint32_t *set, size_t set_len, uint32_t *plan, size_t plan_len,
                         uint32_t *work, size_t work_len, uint8_t *results, size_t results_len);
 
@@ -177,6 +217,7 @@ uint64_t seedspell_plan(const uint32_t *set, size_t set_len, uint32_t *plan, siz
  * or refuses: 2, 3, 10, 4, 11 with 0, 6 with N for the plan list, 6 with 32 for the results, and then 7, in this order.
  * 7 is returned if and only if none of the others applies and no plan keeps every deadline for ever, all tasks being
  * released together. On a refusal nothing is changed. */
+SEEDSPELL_RESULT_USED
 uint64_t seedspell_plan_dull(const uint32_t *set, size_t set_len, uint32_t *plan, size_t plan_len,
                              uint8_t *results, size_t results_len);
 
@@ -194,6 +235,7 @@ uint64_t seedspell_plan_dull(const uint32_t *set, size_t set_len, uint32_t *plan
  *   length, 0, 0, 0                             the set's length, 9 + 8 x N;
  * or refuses: 2 with 0 for N outside 1 to 32, 6 with 9 + 8 x N for the set list, and then 6 with 32 for the results, in
  * this order. On a refusal nothing is changed. */
+SEEDSPELL_RESULT_USED
 uint64_t seedspell_generate(uint32_t seed, uint32_t n, uint32_t *set, size_t set_len,
                             uint8_t *results, size_t results_len);
 
