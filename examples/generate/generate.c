@@ -96,7 +96,7 @@ int main(int argc, char **argv)
         give_up("the number of tasks is a plain number, 1 to 32");
 
     returned = seedspell_generate(seed, tasks, set, SEEDSPELL_GENERATED_WORDS, results, sizeof results);
-    if (returned != 0)
+    if (!seedspell_ok(returned))
         explain(SEEDSPELL_REFUSAL(returned), SEEDSPELL_SECOND(returned), tasks);
     print_set(read_length(results), tasks);
 

@@ -473,7 +473,7 @@ int main(int argc, char **argv)
     read_set();
 
     returned = plan_set(results);
-    if (returned != 0) {
+    if (!seedspell_ok(returned)) {
         explain(SEEDSPELL_REFUSAL(returned), SEEDSPELL_SECOND(returned));
         finish(1);
     }
@@ -483,7 +483,7 @@ int main(int argc, char **argv)
        plan's N words and no more, where the planner had room for MOST_TASKS. */
     returned = seedspell_walk(set, set_len, plan, tasks(), results, sizeof results);
     read_results(results, walked);
-    if (returned != 0 || !is_borne_out(planned, walked))
+    if (!seedspell_ok(returned) || !is_borne_out(planned, walked))
         give_up("the walk does not bear out the plan: host and archive do not belong together");
     /* And the energy is that of the jobs, by the set's own words, and of the ticks of a hyper-period that they leave. */
     if (planned[3] != jobs_energy(planned[2]) + idle_energy() * (planned[2] - planned[1]))
