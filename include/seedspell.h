@@ -203,8 +203,9 @@ uint64_t seedspell_plan(const uint32_t *set, size_t set_len, uint32_t *plan, siz
 
 /* The dull engine: the planner without working words, for sets of few plans. At each unit that it tries it goes through
  * all M to the power N plans, so that its time goes with plans x units. It takes sets of at most 1,000,000 plans: of up
- * to 19 tasks with 2 rates, 12 with 3, 9 with 4, 8 with 5, 7 with 6 or 7, and 6 with 8. Wherever it and seedspell_plan
- * both succeed, the four results and the plan are equal; 5 and 11 apart they refuse alike.
+ * to 19 tasks with 2 rates, 12 with 3, 9 with 4, 8 with 5, 7 with 6 or 7, and 6 with 8. Where it and seedspell_plan are
+ * lent the same set, plan list and results, they return the same and leave the same plan list and the same results,
+ * unless seedspell_plan returns 5 or this call 11.
  *
  * set, set_len          the set
  * plan, plan_len        receives the plan, at least N words: 19 are enough for every set that it takes
@@ -221,8 +222,8 @@ SEEDSPELL_RESULT_USED
 uint64_t seedspell_plan_dull(const uint32_t *set, size_t set_len, uint32_t *plan, size_t plan_len,
                              uint8_t *results, size_t results_len);
 
-/* The generator: a set for benchmarks and tests, the same wherever it is made from the same seed and N. How it is drawn
- * from the seed is in docs/CALLS.md.
+/* The generator: a set for benchmarks and tests, the same wherever it is made from the same seed and N, in lists of one
+ * version. How it is drawn from the seed is in docs/CALLS.md.
  *
  * seed                  any word
  * n                     the number of tasks N, 1 to 32
