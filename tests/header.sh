@@ -1,9 +1,10 @@
 #!/usr/bin/env bash
 # Holds include/seedspell.h and the archive to what docs/CALLS.md says of them: bash tests/header.sh
-# A program that uses every name of the header (tests/c/header.c) compiles without a warning, as C99 and, where there is
-# a C++ compiler, as C++11. With the archive it links, position independent and not, and finds each refusal under its
-# name. What a call returned is asked for in 64 bits alone, and a call whose result is not used gets a warning
-# (tests/returned.c). The archive has no data that calls could share, goes into a shared object, and needs memset alone.
+# A program that makes every call (tests/c/header.c) compiles without a warning, as C99 and, where there is a C++
+# compiler, as C++11. With the archive it links, position independent and not, and finds each refusal under its name.
+# Another (tests/returned.c) has seedspell_ok and its neighbours: what a call returned is asked for in 64 bits alone,
+# and a call whose result is not used gets a warning; where there is clang, by clang too. The archive has no data that
+# calls could share, goes into a shared object, and needs memset alone.
 set -eu
 cd "$(dirname "$0")/.."
 
