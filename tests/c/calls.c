@@ -612,7 +612,8 @@ static int as_expected(const struct call *c, const struct answer *want, uint64_t
     return 0;
 }
 
-/* 'The reported energy exceeds that of every plan that keeps its deadlines by at most N x (unit - 1)' */
+/* 'The reported energy exceeds that of every plan that keeps its deadlines by at most N x (unit - 1)': of units above 1.
+   'With unit 1 it is therefore the least there is' is judged by itself. */
 static uint64_t margin(uint64_t tasks, uint64_t unit)
 {
     return tasks * (unit - 1);
@@ -626,7 +627,7 @@ static void judge_energy(const struct call *c)
     uint64_t slack = set[0], tasks = set[3 + set[2]], unit = result(0), energy = result(3);
     uint64_t least = least_energy(set), above = energy - least;
 
-    if (energy < least || above > margin(tasks, unit) || (unit == 1 && above != 0)
+    if (energy < least || (unit == 1 ? energy != least : above > margin(tasks, unit))
         || 1000 * energy > (1000 + slack) * least) {
         print_call(c);
         printf("unit %" PRIu64 " and energy %" PRIu64 ", where some plan has %" PRIu64 "\n", unit, energy, least);

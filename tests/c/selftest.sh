@@ -353,12 +353,12 @@ plant 10-by-the-walk reference.c 'if (refused == 0 && call != WALK)' 'if (refuse
 
 # The least energy: calls that are as they should be go beyond a margin that is too narrow, and depart from the least of
 # other plans or of other energies
-plant_in_test margin-of-unit-less-2 calls.c 'return tasks * (unit - 1);' 'return unit == 1 ? 0 : tasks * (unit - 2);'
+plant_in_test margin-of-unit-less-2 calls.c 'return tasks * (unit - 1);' 'return tasks * (unit - 2);'
 plant_in_test margin-of-n-less-1 calls.c 'return tasks * (unit - 1);' 'return (tasks - 1) * (unit - 1);'
 plant_in_test margin-of-one-task calls.c 'return tasks * (unit - 1);' 'return unit - 1;'
-plant_in_test margin-of-1-less calls.c 'return tasks * (unit - 1);' 'return tasks * (unit - 1) - (unit > 1);'
-plant_in_test margin-of-half-units calls.c 'return tasks * (unit - 1);' 'return unit == 1 ? 0 : tasks * unit / 2;'
-plant_in_test least-at-unit-2 calls.c '(unit == 1 && above != 0)' '(unit <= 2 && above != 0)'
+plant_in_test margin-of-1-less calls.c 'return tasks * (unit - 1);' 'return tasks * (unit - 1) - 1;'
+plant_in_test margin-of-half-units calls.c 'return tasks * (unit - 1);' 'return tasks * unit / 2;'
+plant_in_test least-at-unit-2 calls.c '(unit == 1 ? energy != least' '(unit <= 2 ? energy != least'
 plant_in_test slack-of-1-less calls.c '> (1000 + slack) * least' '> (1000 + slack - 1) * least'
 plant_in_test least-of-plans-that-miss least.c 'if (then <= s->span)' 'if (1)'
 plant_in_test least-below-full-load least.c 'if (then <= s->span)' 'if (then < s->span)'

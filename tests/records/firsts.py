@@ -4,7 +4,7 @@ call."""
 
 import reference as r
 from records.shared import (
-    CHIPS, Draw, IDLE_AT, LONGEST_RANDOM, MOST_LENT, MOST_READ, MOST_WORK, MOST_WRITTEN,
+    CHIPS, Draw, FOR_LINE_END, IDLE_AT, LONGEST_RANDOM, MOST_LENT, MOST_READ, MOST_WORK, MOST_WRITTEN,
     RANDOM_FIRST_PLANS, RANDOM_FIRST_PROGRAMS, RANDOM_FIRST_TEXTS, RANDOM_FIRST_WALKS, RATE_AT, S,
     SEED, TOP, chip_text, costed, counts, expanded, first_of, firsts_of, kept, length_of, missed,
     needed, period_of, planned, put, refused, task_set, text_of, was_read, with_bad, with_firsts,
@@ -300,7 +300,7 @@ def first_bytes():
                  refused(1, begin + at))
         for at, byte in enumerate(FORM):
             front, behind = text[:begin + at], text[begin + at + 1:]
-            for wrong in sorted({byte ^ 32, byte + 1, *b'(5 \n)'} - {byte, b'/'[0]}):
+            for wrong in sorted({byte ^ 32, byte + 1, *b'(5 \n)'} - {byte, *FOR_LINE_END}):
                 read('r-from-%s-wrong-%d-%d' % (label, at, wrong), front + bytes([wrong]) + behind,
                      (MOST_READ, 0)[at % 2])
             read('r-from-%s-left-out-%d' % (label, at), front + behind)

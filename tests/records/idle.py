@@ -4,7 +4,7 @@ refusal 10 given to the calls that do not make it."""
 
 import reference as r
 from records.shared import (
-    CHIPS, CHIP_IDLE, Draw, IDLE_AT, M_AT, MOST_LENT, MOST_PRINTED, MOST_READ, MOST_WORK,
+    CHIPS, CHIP_IDLE, Draw, FOR_LINE_END, IDLE_AT, M_AT, MOST_LENT, MOST_PRINTED, MOST_READ, MOST_WORK,
     MOST_WRITTEN, PAST_ONE, RANDOM_IDLE_PLANS, RANDOM_IDLE_PROGRAMS, RANDOM_IDLE_TEXTS, RATE_AT, S,
     SEED, TOP, chip_line, chip_text, costed, counts, energies_of, expanded, front_of, head_of, kept,
     length_of, line_of, needed, period_of, planned, put, refused, same_tasks, task_count, task_lines,
@@ -424,7 +424,7 @@ def idle_bytes():
                  refused(1, at))
         for at in range(begin, end):
             byte = text[at]
-            for wrong in sorted({byte ^ 32, byte + 1, *b'(5 \n'} - {byte, b'/'[0]}):
+            for wrong in sorted({byte ^ 32, byte + 1, *b'(5 \n'} - {byte, *FOR_LINE_END}):
                 read('r-idle-%s-wrong-%02d-%d' % (label, at, wrong),
                      text[:at] + bytes([wrong]) + text[at + 1:], (MOST_READ, 0)[at % 2])
             read('r-idle-%s-left-out-%02d' % (label, at), text[:at] + text[at + 1:])

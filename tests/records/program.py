@@ -2,7 +2,7 @@
 
 import reference as r
 from records.shared import (
-    DAMAGED_PROGRAMS, Draw, EDGES, LONGEST_RANDOM, M_AT, MOST_PRINTED, MOST_TEXT, MOST_WORK,
+    DAMAGED_PROGRAMS, Draw, EDGES, FOR_LINE_END, LONGEST_RANDOM, M_AT, MOST_PRINTED, MOST_TEXT, MOST_WORK,
     PAST_ONE, RANDOM_PROGRAMS, S, SEED, TOP, costed, firsts_of, head_of, line_of, needed, on_a_line,
     outside, period_of, put, record, refused, task_count, task_set, text_of, with_periods,
     with_rates, words_of)
@@ -160,7 +160,7 @@ def program_sizes():
     task = line_of(10, 12, 4, 9, 20)
     short, most, end = len(EXAMPLE), len(EXAMPLE + task * 30), len(longest)
     draw = Draw(SEED + 5)
-    bytes_of = {'any': [byte for byte in range(256) if byte != b'/'[0]],
+    bytes_of = {'any': [byte for byte in range(256) if byte not in FOR_LINE_END],
                 'form': b'()0123456789 \nacdeiklnoprsty'}
     for size in (8_191, 8_192, 8_193, MOST_TEXT):
         for label, text, departs in (

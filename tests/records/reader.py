@@ -221,7 +221,7 @@ def read_damaged():
             read('r-cut-%03d' % at, EXAMPLE[:at], lent(at), refused(1, at))
         else:
             read('r-cut-%03d' % at, EXAMPLE[:at], 13, was_read(put(S, 6, 1)[:13]))
-        for wrong in b'05() \naT-\x00\xff':
+        for wrong in b'05() \naT/\x00\xff':
             if wrong == byte:
                 continue
             # A digit may go on with a number, and a bracket or a space end it

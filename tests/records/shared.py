@@ -58,9 +58,14 @@ def record(kind, name, lists, answer, want, lent=()):
     answers.append(' '.join(map(str, (name, *answer))))
 
 
+# What stands for byte 10 in a text on a line, and so is no byte of a text that is tried. It is next to no byte of a text
+# and to no end of a class of bytes, as '/' would be, which comes just before the digits.
+FOR_LINE_END = b'|'
+
+
 def on_a_line(text):
-    assert b'/' not in text, text
-    return text.replace(b'\n', b'/').decode('latin-1')
+    assert FOR_LINE_END not in text, text
+    return text.replace(b'\n', FOR_LINE_END).decode('latin-1')
 
 
 def refused(number, second):

@@ -29,9 +29,9 @@ fn ready(buf: &mut [u8; 4096], w: Window) -> Window
     Window { at: 0, have }
 }
 
-// A byte of a record: `/` stands there for byte 10, which no line can hold.
+// A byte of a record: `|` stands there for byte 10, which no line can hold.
 fn meant(b: u8) -> u8 {
-    if b == b'/' { b'\n' } else { b }
+    if b == b'|' { b'\n' } else { b }
 }
 
 // Takes the next line. Each turn takes a byte, and the room for a line is limited, so that the loop ends.

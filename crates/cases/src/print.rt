@@ -33,9 +33,9 @@ fn words(list: &[u32; 400], count: usize) {
     }
 }
 
-// A byte of a text: `/` stands for byte 10, as it does in a record.
+// A byte of a text: `|` stands for byte 10, as it does in a record.
 fn spelled(b: u8) -> u8 {
-    if b == b'\n' { b'/' } else { b }
+    if b == b'\n' { b'|' } else { b }
 }
 
 // A text of at most 8192 bytes.
