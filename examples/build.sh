@@ -3,7 +3,7 @@
 # there and nothing that it is made of has changed since. Several of these at once do not disturb each other:
 #     bash examples/build.sh NAME
 set -u
-cd "$(dirname "$0")/.." || exit 1
+. -- "$(dirname -- "$0")/../scripts/root.sh" || exit 1
 
 . scripts/build.sh
 if [ $# -ne 1 ] || [ ! -f "examples/$1/$1.c" ]; then

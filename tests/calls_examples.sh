@@ -3,7 +3,7 @@
 # compares. An example is a block of C; each after the first goes on from what stands before main in the first, as its
 # text says. What it prints stands behind it: 'It prints `LINE`', or 'It prints' and the lines, indented.
 set -eu
-cd "$(dirname "$0")/.."
+. -- "$(dirname -- "$0")/../scripts/root.sh" || exit 1
 
 . scripts/build.sh
 build_archive

@@ -6,7 +6,7 @@
 # and a call whose result is not used gets a warning; where there is clang, by clang too. The archive has no data that
 # calls could share, goes into a shared object, and needs memset alone.
 set -eu
-cd "$(dirname "$0")/.."
+. -- "$(dirname -- "$0")/../scripts/root.sh" || exit 1
 
 . scripts/build.sh
 build_archive

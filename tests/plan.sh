@@ -3,7 +3,7 @@
 # Each case has the status that the run ends with, a file with all that it prints, and all that it says on standard
 # error.
 set -u
-cd "$(dirname "$0")/.." || exit 1
+. -- "$(dirname -- "$0")/../scripts/root.sh" || exit 1
 
 . scripts/build.sh
 if ! up_to_date target/bin/seedspell crates crates.txt; then

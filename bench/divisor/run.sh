@@ -5,7 +5,7 @@
 # archive, so an archive of entries/ is built; the generated sets are made in plain C. With SELFTEST=1 in the
 # environment nothing is proved or built with rt: plain calls take the archive's place, which tries the harness.
 set -eu
-cd "$(dirname "$0")/../.."
+. -- "$(dirname -- "$0")/../../scripts/root.sh" || exit 1
 
 . bench/common.sh
 need gcc "the C compiler"

@@ -6,7 +6,7 @@
 # faster way. With SELFTEST=1 in the environment nothing is proved or built with rt: a second copy of the plain dull
 # engine and the plain planner take the archive's place, which tries the harness.
 set -eu
-cd "$(dirname "$0")/../.."
+. -- "$(dirname -- "$0")/../../scripts/root.sh" || exit 1
 
 . bench/common.sh
 need gcc "the C compiler"

@@ -14,7 +14,7 @@
 # With SELFTEST=1 in the environment nothing is proved or built with rt: the plain planner of bench/planner takes the
 # archive's place, which tries the harness.
 set -eu
-cd "$(dirname "$0")/../.."
+. -- "$(dirname -- "$0")/../../scripts/root.sh" || exit 1
 
 . bench/common.sh
 need gcc "the C compiler"

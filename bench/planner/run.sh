@@ -10,7 +10,7 @@
 # built with rt: a second copy of the plain planner takes the archive's place, and a plain generator, which tries the
 # harness and the plain planner.
 set -eu
-cd "$(dirname "$0")/../.."
+. -- "$(dirname -- "$0")/../../scripts/root.sh" || exit 1
 
 . bench/common.sh
 need gcc "the C compiler"

@@ -5,7 +5,7 @@
 # of the product's archive, so an archive of entries/ is built. With SELFTEST=1 in the environment nothing is proved or
 # built with rt: a second copy of the plain calls takes the archive's place, which tries the harness.
 set -eu
-cd "$(dirname "$0")/../.."
+. -- "$(dirname -- "$0")/../../scripts/root.sh" || exit 1
 
 . bench/common.sh
 need gcc "the C compiler"

@@ -9,7 +9,7 @@
 # tick of its own is no entry of the product's archive, so an archive of entries/ is built beside it. With SELFTEST=1 in
 # the environment nothing is proved or built with rt: plain calls take the archives' place, which tries the harness.
 set -eu
-cd "$(dirname "$0")/../.."
+. -- "$(dirname -- "$0")/../../scripts/root.sh" || exit 1
 
 . bench/common.sh
 need gcc "the C compiler"

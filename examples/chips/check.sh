@@ -2,7 +2,7 @@
 # Holds the program to what is stored of the texts that name a chip, and the two examples among them to their lists and
 # sheets: bash examples/chips/check.sh
 set -u
-cd "$(dirname "$0")/../.." || exit 1
+. -- "$(dirname -- "$0")/../../scripts/root.sh" || exit 1
 
 example=chips
 . examples/common.sh

@@ -2,7 +2,7 @@
 # Holds the generator's program to its stored sets, to the sheet of one of them, and to saying so where it cannot give
 # one: bash examples/generate/check.sh
 set -u
-cd "$(dirname "$0")/../.." || exit 1
+. -- "$(dirname -- "$0")/../../scripts/root.sh" || exit 1
 
 example=generate
 . examples/common.sh

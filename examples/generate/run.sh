@@ -3,7 +3,7 @@
 #     bash examples/generate/run.sh SEED N
 # generate.c says more, and how it ends. Where it cannot be built the run ends with 2.
 set -u
-cd "$(dirname "$0")/../.." || exit 2
+. -- "$(dirname -- "$0")/../../scripts/root.sh" || exit 2
 
 bash examples/build.sh generate </dev/null >&2 || exit 2
 exec target/examples/generate "$@"

@@ -3,7 +3,7 @@
 # so where it cannot give one; and sees that a wrong bound, or a wrong way out of little room, would show on a stored
 # sheet: bash examples/sheet/check.sh
 set -u
-cd "$(dirname "$0")/../.." || exit 1
+. -- "$(dirname -- "$0")/../../scripts/root.sh" || exit 1
 
 example=sheet
 . examples/common.sh

@@ -3,7 +3,7 @@
 # TICK is the length of a tick in microseconds; sheet.c says more, and how it ends. Where it cannot be built the run
 # ends with 2.
 set -u
-cd "$(dirname "$0")/../.." || exit 2
+. -- "$(dirname -- "$0")/../../scripts/root.sh" || exit 2
 
 bash examples/build.sh sheet </dev/null >&2 || exit 2
 exec target/examples/sheet "$@"

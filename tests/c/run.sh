@@ -3,7 +3,7 @@
 # With VALGRIND=1 in the environment it runs under valgrind, where also reading outside the lent lists is seen; this
 # takes minutes.
 set -eu
-cd "$(dirname "$0")/../.."
+. -- "$(dirname -- "$0")/../../scripts/root.sh" || exit 1
 
 . scripts/build.sh
 build_archive

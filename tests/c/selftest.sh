@@ -5,7 +5,7 @@
 # with the dull engine, must find errors that the stand-in and the test's reference have alike; the first gets errors of
 # its own too.
 set -eu
-cd "$(dirname "$0")/../.."
+. -- "$(dirname -- "$0")/../../scripts/root.sh" || exit 1
 
 out=target/tests/planted
 mkdir -p "$out"
