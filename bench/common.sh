@@ -1,5 +1,7 @@
 # shellcheck shell=bash
-# What the benchmarks share; sourced from the repository's root.
+# What the benchmarks share; sourced from the repository's root. Each takes --once in the place of its repetitions, or
+# of its sets: it then compares all that it compares before timing, and times as little as it can; walk and dull leave
+# out what takes long. That tries a bench, and its times say nothing. bench/check.sh runs all of them so.
 
 . scripts/build.sh # build_archive, which builds the archive for C and sets `archive` to its place
 
@@ -11,13 +13,16 @@ need() {
     fi
 }
 
-# build_entries PLACE FOLDER CRATE DEP..: builds an archive of entries that the product's has not, for one benchmark, and
-# sets `archive` to where it is. A copy of the crates in PLACE/tree gets CRATE, made of FOLDER and building on each DEP.
-# FOLDER's files end in .in, since rt refuses Rattle files that no crate of the repository has. What is proved already is
-# taken over, not proved again.
+# build_entries PLACE FOLDER CRATE DEP..: builds an archive of entries that the product's has not, for one benchmark,
+# unless it is up to date, and sets `archive` to where it is. A copy of the crates in PLACE/tree gets CRATE, made of
+# FOLDER and building on each DEP. FOLDER's files end in .in, since rt refuses Rattle files that no crate of the
+# repository has. What is proved already is taken over, not proved again.
 build_entries() {
-    local tree=$1/tree folder=$2 crate=$3 file
+    local place=$1 tree=$1/tree folder=$2 crate=$3 file
     shift 3
+    archive=$tree/target/staticlib/lib$crate.a
+    ! up_to_date "$archive" crates crates.txt bench/common.sh "${folder%/*}/run.sh" "$folder" || return 0
+    touch "$place/began"
     need rt "the command of the Rattle kit, which builds the archive"
     rt check "$@"
     rm -rf "$tree"
@@ -30,9 +35,9 @@ build_entries() {
     done
     echo "$crate: $*" >>"$tree/crates.txt"
     (cd "$tree" && rt staticlib "$crate")
-    archive=$tree/target/staticlib/lib$crate.a
     if [ ! -f "$archive" ]; then
         echo "bench: rt staticlib $crate left no $archive" >&2
         exit 1
     fi
+    touch -r "$place/began" "$archive"
 }

@@ -18,7 +18,7 @@
    number passes 1, the table is the faster way. SEED is that of the random sets,
    and is 1 where none is given; there are 5 repetitions where no number of them is
    given. A call of few plans is made as often in a repetition as it takes to come
-   to ENOUGH plans. */
+   to ENOUGH plans. With --once for REPETITIONS one set of each case is called once. */
 
 #include <inttypes.h>
 #include <stddef.h>
@@ -63,6 +63,7 @@ struct call {
 static struct call calls[CALLS];
 static struct list sets[MOST_SETS];
 static uint32_t *work;
+static int once;
 
 /* For each number of rates the most tasks with at most 1,000,000 plans. */
 static const uint32_t most_tasks[MOST_RATES + 1] = {0, 0, 19, 12, 9, 8, 7, 7, 6};
@@ -256,10 +257,10 @@ static int measure(const char *name, int count, int repetitions)
 {
     uint32_t slack = sets[0].set[0], rates = sets[0].set[2], tasks = sets[0].set[3 + rates];
     uint64_t plans = plans_of(&sets[0]);
-    int often = plans < ENOUGH ? (int)(ENOUGH / plans / 4) + 1 : 1, timed = 0;
+    int often = plans < ENOUGH && !once ? (int)(ENOUGH / plans / 4) + 1 : 1, timed = 0;
     double time[CALLS] = {0}, units = 0, steps = 0;
 
-    for (int s = 0; s < count; s++) {
+    for (int s = 0; s < count && !(once && timed > 0); s++) {
         run(ARCHIVE, &sets[s], 1, 1);
         if (calls[ARCHIVE].code != 0)
             continue;
@@ -328,6 +329,7 @@ int main(int argc, char **argv)
 {
     int repetitions = repetitions_at(1, argc, argv, 5);
 
+    once = is_once(1, argc, argv);
     work = malloc(MOST_WORK * sizeof *work);
     if (work == NULL) {
         fprintf(stderr, "bench: no memory for the working words\n");

@@ -136,8 +136,9 @@ def cells_of(seed, sets, make):
 
 
 def sets_and_seed(words):
-    """The arguments that every bench here ends with: the sets of a cell, and the seed."""
-    return list(map(int, words)) + [256, 1][len(words):]
+    """The arguments that every bench here ends with: the sets of a cell, --once for two of them, and the seed."""
+    numbers = [2 if word == '--once' else int(word) for word in words[:1]] + list(map(int, words[1:]))
+    return numbers + [256, 1][len(words):]
 
 
 def main(arguments):

@@ -9,20 +9,23 @@
 
    One line a case and call: name; the call of the archive, `walk` for the
    product's seedspell_walk, which checks a set, works out its job times and walks
-   to its hyper-period, or with first releases to twice that, or `inner` for the walk itself, which is given periods, job
-   times, first releases and the last tick, as plain C is; N; L, the last tick; the
-   mean gap between ticks with a release; nanoseconds a tick of the archive, of
-   plain C tick by tick and of plain C from event to event; the archive's time over
-   the one and over the other; and nanoseconds a tick with a release of the archive
-   and of plain C from event to event, since those a tick say little where gaps are
-   long. The lines of both calls of a case have the times of plain C in common.
+   to its hyper-period, or with first releases to twice that, or `inner` for the
+   walk itself, which is given periods, job times, first releases and the last tick,
+   as plain C is; N; L, the last tick; the mean gap between ticks with a release;
+   nanoseconds a tick of the archive, of plain C tick by tick and of plain C from
+   event to event; the archive's time over the one and over the other; and
+   nanoseconds a tick with a release of the archive and of plain C from event to
+   event, since those a tick say little where gaps are long. The lines of both calls
+   of a case have the times of plain C in common.
 
    The first form times all cases: see own_cases. Its lines `seed S` are of the
    sets that the archive's generator makes of S and N (generated.c has which), each
    with the archive's plan for it. The second times the one set of a seed that the
    generator makes, and nothing else; where that set has no plan, it says so and
    times nothing. There are 5 repetitions where no number of them is given, and a
-   fifth of them, at least one, where L is 200,000,000.
+   fifth of them, at least one, where L is 200,000,000. With --once for REPETITIONS
+   each set is walked once by each way, to no farther than 20,000,000, and those that
+   are made here have 4 tasks or one.
 
    A walk of few releases is short, so in a repetition it is made as often as it
    takes to come to ENOUGH ticks with a release, but for the one tick by tick. A
@@ -95,6 +98,7 @@ struct work {
 };
 
 static struct work works[MANY];
+static int once;
 
 /* ---- The ways. */
 
@@ -267,7 +271,9 @@ static int measure(const char *name, unsigned calls, int count, int rounds, int 
         if (t->end > longest)
             longest = t->end;
     }
-    more = releases * rounds < ENOUGH ? (int)(ENOUGH / releases) : rounds;
+    if (once)
+        rounds = 1;
+    more = releases * rounds < ENOUGH && !once ? (int)(ENOUGH / releases) : rounds;
     for (int i = 0; i < repetitions; i++) {
         for (int way = 0; way < WAYS; way++) {
             double time;
@@ -440,6 +446,8 @@ static int own_case(const char *name, unsigned calls, int repetitions)
 /* The same by the inner call, to FARTHEST. */
 static int far_case(const char *name, int repetitions)
 {
+    if (once)
+        return 1;
     works[0].tasks.end = FARTHEST;
     return measure(name, BY_INNER, 1, 1, (repetitions + 4) / 5);
 }
@@ -476,6 +484,8 @@ static int own_cases(int repetitions)
     for (size_t i = 0; i < sizeof counts / sizeof counts[0]; i++) {
         uint32_t count = counts[i];
 
+        if (once && count > 4)
+            continue;
         make_long(t, count);
         if (!own_case("few-long", BY_WALK | BY_INNER, repetitions)
             || !family_case(&few, count, repetitions) || !far_case(few.name, repetitions)
@@ -565,6 +575,7 @@ int main(int argc, char **argv)
     struct seeded which;
     int repetitions, asked = read_arguments(argc, argv, &which, &repetitions);
 
+    once = is_once(asked ? 4 : 1, argc, argv);
     if (!refuses() || !compare())
         return 1;
     printf("%-10s %-5s %2s %9s %11s %9s %9s %9s %8s %7s %8s %8s\n", "case", "call", "N", "L", "gap",
