@@ -1,8 +1,8 @@
 #!/usr/bin/env bash
 # Tries every bench: builds it and runs it by --once, in which all that is compared before timing is compared and no
 # time is judged: bash bench/check.sh
-# What each run prints stays in target/bench/once. Where python3 or glpsol is missing, the runs that need it are left
-# out, and it says so.
+# What each run prints stays in target/bench/once. One that takes over five minutes is ended, and has failed. Where
+# python3 or glpsol is missing, the runs that need it are left out, and it says so.
 set -u
 . -- "$(dirname -- "$0")/../scripts/root.sh" || exit 1
 
@@ -19,7 +19,7 @@ failures=0
 # try NAME [OPTION]: runs a bench, with an option of its own.
 try() {
     local run=$1${2:+ $2} log=$out/$1${2:-} began=$SECONDS status=0
-    bash "bench/$1/run.sh" ${2:+"$2"} --once </dev/null >"$log" 2>&1 || status=$?
+    timeout 300 bash "bench/$1/run.sh" ${2:+"$2"} --once </dev/null >"$log" 2>&1 || status=$?
     runs=$((runs + 1))
     if [ "$status" -eq 0 ] && [ -s "$log" ]; then
         echo "bench: $run runs, $((SECONDS - began)) s"
