@@ -1,6 +1,6 @@
 #!/usr/bin/env bash
-# Holds every C example of docs/CALLS.md to what it says that the example prints. An example is a block of C, and a whole
-# program: each is taken from the page as it stands, compiled by itself as C99 without a warning, linked with the
+# Holds every C example of docs/CALLS.md to what it says that the example prints. An example is a block of C, and a
+# whole program: each is taken from the page as it stands, compiled by itself as C99 without a warning, linked with the
 # archive, and run. What it prints stands behind it: 'It prints `LINE`', or 'It prints' and the lines, indented. Each
 # call that the header declares has an example.
 set -eu
