@@ -2,10 +2,10 @@
 // lines, or the line of the refusal. Standard input and output are left to the program.
 ghost use Rattle.answer.specs.Answer.{Responds};
 ghost use Rattle.answer.specs.Steps.{PutAnswer, PutSet, PlannedSet};
-use layout::MOST_TASKS;
-use layout::MOST_WORDS;
 use lines::PlanFigures;
 use lines::WalkFigures;
+use places::MOST_TASKS;
+use places::MOST_WORDS;
 use taskset::Checked;
 use taskset::CopyAnswer;
 use taskset::PlannerAnswer;

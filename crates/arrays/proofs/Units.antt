@@ -12,7 +12,7 @@ use lib.Dec.{eqb, leb}
 use lib.ListN.{replicate}
 use borrow.Author.Tests.{eqb-true, eqb-false, leb-true, leb-false}
 use Rattle.numbers.specs.Numbers.{total, LeastPower}
-use Rattle.numbers.specs.declared.Power.{Power}
+use Rattle.arithmetic.specs.declared.Power.{Power}
 use Rattle.numbers.proofs.Tests.{or-true, or-false}
 use Rattle.selection.specs.Plan.{Problem, Fitting, planEnergy, fastest, threshold, IsLeastOf, FallsShortOf, IsUsedOf}
 use Rattle.selection.proofs.Bounds.{last-small, tried-in-table}

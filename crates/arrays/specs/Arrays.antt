@@ -5,7 +5,7 @@ use mathlib.Core.Path.{_≡_}
 use mathlib.Core.List.{List}
 use lib.ListN.{length, getD, take, drop}
 use Rattle.numbers.specs.Numbers.{ceil}
-use Rattle.numbers.specs.declared.Power.{Power}
+use Rattle.arithmetic.specs.declared.Power.{Power}
 use Rattle.selection.specs.Plan.{Problem, planLoad, planEnergy, fastest, IsPlanned}
 use Rattle.arrays.specs.declared.Request.{Request}
 use Rattle.arrays.specs.declared.Choice.{Choice}

@@ -8,7 +8,7 @@ ghost use lib.Dec.{eqb, leb};
 ghost use lib.ListN.{replicate};
 ghost use Rattle.numbers.specs.Numbers.{total};
 ghost use Rattle.arrays.specs.Arrays.{optionAt, Written, costOf, Small, RoundReady, SumReady};
-use numbers::Power;
+use arithmetic::Power;
 
 // What a plan is chosen for: so many tasks and rates, the limit of the plan's load, and the slack.
 pub struct Request {

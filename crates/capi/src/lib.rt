@@ -19,7 +19,7 @@ fn code_of(r: Refusal) -> u64
     requires { ⌜ second r < 2 ^ 32 ⌝ }
     ensures { λ x. ⌜ x ≡ code r ⌝ }
 {
-    taskset::number_of(r) * 4_294_967_296 + taskset::second_of(r)
+    figures::number_of(r) * 4_294_967_296 + figures::second_of(r)
 }
 
 // Puts the eight bytes of v, lowest first, at a place of d.

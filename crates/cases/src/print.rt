@@ -55,8 +55,8 @@ pub(crate) fn text(t: &[u8]) {
 // A refusal, from any call.
 fn refused(f: Refusal) {
     say(b" refused");
-    number(taskset::number_of(f));
-    number(taskset::second_of(f));
+    number(figures::number_of(f));
+    number(figures::second_of(f));
 }
 
 // The answer of check_set.

@@ -33,15 +33,15 @@ fn front_kind(s: &[u32], layout: Layout, q: usize) -> Kind
     requires { ⌜ q < length (now s) ⌝ }
     ensures { λ r. ⌜ r ≡ frontKind layout (now (s .entry)) q ⌝ }
 {
-    let head = layout::head_size(layout);
+    let head = places::head_size(layout);
     if q < head {
-        return layout::head_kind(layout, q);
+        return places::head_kind(layout, q);
     }
     if q == head {
         return Kind::RateCount;
     }
     let m = s[head] as usize;
-    let c = layout::task_count_place(layout, m);
+    let c = places::task_count_place(layout, m);
     if q < c {
         return Kind::Rate;
     }
@@ -59,7 +59,7 @@ fn front_end(s: &[u32], layout: Layout) -> usize
     let mut q = 0;
     while q < s.len() {
         let k = front_kind(s, layout, q);
-        if !layout::is_allowed(s, q, k) {
+        if !places::is_allowed(s, q, k) {
             return q;
         }
         q += 1;
@@ -73,15 +73,15 @@ fn tasks_end(s: &[u32], layout: Layout, m: usize, n: usize) -> usize
     requires { ⌜ FrontPassed layout m n (now s) ⌝ }
     ensures { λ r. ⌜ Found (OutOfRange layout (now (s .entry))) (tasksPlace layout m) (length (now (s .entry))) r ⌝ }
 {
-    let size = layout::task_size(layout, m);
-    let mut q = layout::tasks_place(layout, m);
+    let size = places::task_size(layout, m);
+    let mut q = places::tasks_place(layout, m);
     let mut task = 0;
     let mut k = 0;
     while q < s.len() {
         if n <= task {
             return q;
         }
-        if !layout::is_allowed(s, q, layout::task_kind(layout, k)) {
+        if !places::is_allowed(s, q, places::task_kind(layout, k)) {
             return q;
         }
         q += 1;
@@ -99,12 +99,12 @@ fn first_bad(s: &[u32], layout: Layout) -> usize
     ensures { λ r. ⌜ Found (OutOfRange layout (now (s .entry))) 0 (length (now (s .entry))) r ⌝ }
 {
     let front = front_end(s, layout);
-    let head = layout::head_size(layout);
+    let head = places::head_size(layout);
     if front <= head {
         return front;
     }
     let m = s[head] as usize;
-    let c = layout::task_count_place(layout, m);
+    let c = places::task_count_place(layout, m);
     if front <= c {
         return front;
     }
@@ -116,8 +116,8 @@ fn first_fall(s: &[u32], layout: Layout, m: usize) -> usize
     requires { ⌜ (1 ≤ m) × (m ≤ mostRates) × (taskCountPlace layout m ≤ length (now s)) ⌝ }
     ensures { λ r. ⌜ Found (Falls (now (s .entry))) (ratePlace layout 2) (taskCountPlace layout m) r ⌝ }
 {
-    let end = layout::task_count_place(layout, m);
-    let mut q = layout::rate_place(layout, 2);
+    let end = places::task_count_place(layout, m);
+    let mut q = places::rate_place(layout, 2);
     while q < end {
         if s[q] <= s[q - 1] {
             return q;
@@ -135,17 +135,17 @@ pub fn check_words(s: &[u32], layout: Layout) -> Shape
     if b < s.len() {
         return Shape::Refused(Refusal::BadWord(b));
     }
-    let head = layout::head_size(layout);
+    let head = places::head_size(layout);
     if s.len() <= head {
         return Shape::Refused(Refusal::BadWord(s.len()));
     }
     let m = s[head] as usize;
-    let c = layout::task_count_place(layout, m);
+    let c = places::task_count_place(layout, m);
     if s.len() <= c {
         return Shape::Refused(Refusal::BadWord(s.len()));
     }
     let n = s[c] as usize;
-    if s.len() < layout::period_place(layout, m, n) {
+    if s.len() < places::period_place(layout, m, n) {
         return Shape::Refused(Refusal::BadWord(s.len()));
     }
     let f = first_fall(s, layout, m);
@@ -162,16 +162,16 @@ fn follow(s: &[u32], layout: Layout, m: usize, n: usize) -> Multiple
 {
     let mut l: u64 = 1;
     let mut t = 0;
-    let mut at = layout::tasks_place(layout, m);
+    let mut at = places::tasks_place(layout, m);
     while t < n {
         let p = s[at] as u64;
-        let g = numbers::common_divisor(l, p);
+        let g = arithmetic::common_divisor(l, p);
         let next = l / g.value * p;
         if HYPER_LIMIT < next {
             return Multiple { tasks: t, value: l };
         }
         l = next;
-        at += layout::task_size(layout, m);
+        at += places::task_size(layout, m);
         t += 1;
     }
     Multiple { tasks: t, value: l }
@@ -219,7 +219,7 @@ fn check_idle(s: &[u32], layout: Layout, m: usize, n: usize) -> Shape
     let task = below_task(s, layout, m, n);
     if task < n {
         let r = below_rate(s, layout, m, task);
-        return Shape::Refused(Refusal::BelowIdle(layout::energy_place(layout, m, task, r)));
+        return Shape::Refused(Refusal::BelowIdle(places::energy_place(layout, m, task, r)));
     }
     Shape::Whole { rates: m, tasks: n }
 }
@@ -243,7 +243,7 @@ pub fn check_hyper(s: &[u32], layout: Layout, m: usize, n: usize) -> Checked
     let h = follow(s, layout, m, n);
     let t = h.tasks;
     if t < n {
-        return Checked::Refused(Refusal::TooLong(layout::period_place(layout, m, t)));
+        return Checked::Refused(Refusal::TooLong(places::period_place(layout, m, t)));
     }
     Checked::Good {
         rates: m,
@@ -279,7 +279,7 @@ pub fn slack_of(s: &[u32]) -> u32
     requires { ⌜ 0 < length (now s) ⌝ }
     ensures { λ r. ⌜ r ≡ slack (now (s .entry)) ⌝ }
 {
-    s[layout::SLACK_PLACE]
+    s[places::SLACK_PLACE]
 }
 
 // The idle energy of a tick.
@@ -287,7 +287,7 @@ pub fn idle_of(s: &[u32]) -> u32
     requires { ⌜ idlePlace < length (now s) ⌝ }
     ensures { λ r. ⌜ r ≡ idle (now (s .entry)) ⌝ }
 {
-    s[layout::IDLE_PLACE]
+    s[places::IDLE_PLACE]
 }
 
 // The period of the task at place t of a set.
@@ -295,7 +295,7 @@ pub fn period_of(s: &[u32], layout: Layout, m: usize, t: usize) -> u32
     requires { ⌜ OfTask layout m t (now s) ⌝ }
     ensures { λ r. ⌜ r ≡ period layout (now (s .entry)) t ⌝ }
 {
-    let at = layout::period_place(layout, m, t);
+    let at = places::period_place(layout, m, t);
     s[at]
 }
 
@@ -304,7 +304,7 @@ pub fn cycles_of(s: &[u32], layout: Layout, m: usize, t: usize) -> u32
     requires { ⌜ OfTask layout m t (now s) ⌝ }
     ensures { λ r. ⌜ r ≡ cycles layout (now (s .entry)) t ⌝ }
 {
-    let at = layout::cycles_place(layout, m, t);
+    let at = places::cycles_place(layout, m, t);
     s[at]
 }
 
@@ -313,7 +313,7 @@ pub fn first_of(s: &[u32], layout: Layout, m: usize, t: usize) -> u32
     requires { ⌜ OfTask layout m t (now s) ⌝ }
     ensures { λ r. ⌜ r ≡ first layout (now (s .entry)) t ⌝ }
 {
-    let at = layout::first_place(layout, m, t);
+    let at = places::first_place(layout, m, t);
     s[at]
 }
 
@@ -322,7 +322,7 @@ fn rate_of(s: &[u32], layout: Layout, m: usize, t: usize, r: usize) -> u32
     requires { ⌜ OfTask layout m t (now s) × (1 ≤ r) × (r ≤ m) ⌝ }
     ensures { λ x. ⌜ x ≡ rate layout (now (s .entry)) r ⌝ }
 {
-    let at = layout::rate_place(layout, r);
+    let at = places::rate_place(layout, r);
     s[at]
 }
 
@@ -333,7 +333,7 @@ pub fn job_time(s: &[u32], layout: Layout, m: usize, t: usize, r: usize) -> u32
 {
     let c = cycles_of(s, layout, m, t);
     let f = rate_of(s, layout, m, t, r);
-    taskset::job_ticks(c, f)
+    figures::job_ticks(c, f)
 }
 
 // The energy of one job of the task at place t at rate number r.
@@ -341,6 +341,6 @@ pub fn energy_of(s: &[u32], layout: Layout, m: usize, t: usize, r: usize) -> u32
     requires { ⌜ OfTask layout m t (now s) × (1 ≤ r) × (r ≤ m) ⌝ }
     ensures { λ x. ⌜ x ≡ energy layout (now (s .entry)) t r ⌝ }
 {
-    let at = layout::energy_place(layout, m, t, r);
+    let at = places::energy_place(layout, m, t, r);
     s[at]
 }

@@ -61,7 +61,7 @@ fn energy(chip: Chip, cycles: u32, r: usize) -> u32
     requires { ⌜ (1 ≤ r) × (r ≤ chipCount chip) ⌝ }
     ensures { λ x. ⌜ x ≡ chipEnergy chip cycles r ⌝ }
 {
-    let time = taskset::job_ticks(cycles, rate(chip, r));
+    let time = figures::job_ticks(cycles, rate(chip, r));
     power(chip, r) * time
 }
 

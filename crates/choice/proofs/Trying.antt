@@ -10,7 +10,7 @@ use native.Mathlib.Omega.{arith}
 use lib.ListN.{length, getD, replicate}
 use Rattle.numbers.specs.Numbers.{total, LeastPower}
 use Rattle.numbers.specs.Search.{Found}
-use Rattle.numbers.specs.declared.Power.{Power}
+use Rattle.arithmetic.specs.declared.Power.{Power}
 use Rattle.numbers.proofs.Tests.{lt-or-le}
 use Rattle.numbers.proofs.Powers.{power-positive}
 use Rattle.selection.specs.Plan.{Problem, Fitting, roundedTask, rounded, fastest, IsLeastOf, IsChosenOf}

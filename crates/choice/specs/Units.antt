@@ -4,7 +4,7 @@ use mathlib.Core.Path.{_≡_}
 use mathlib.Core.List.{List}
 use lib.ListN.{length, getD}
 use Rattle.numbers.specs.Search.{Found}
-use Rattle.numbers.specs.declared.Power.{Power}
+use Rattle.arithmetic.specs.declared.Power.{Power}
 use Rattle.selection.specs.Plan.{Fitting, IsUsedOf, lastColumn, workWords}
 use Rattle.selection.proofs.Cells.{Way}
 use Rattle.arrays.specs.declared.Request.{Request}

@@ -9,9 +9,9 @@ ghost use Rattle.selection.specs.Plan.{lastColumn};
 ghost use Rattle.choice.specs.Choice.{ChoiceReady, Chose};
 ghost use Rattle.choice.specs.Units.{WayReady, WayTaken, cutOf, ClearReady, UnitReady, UnitTabled};
 ghost use Rattle.choice.specs.Units.{SearchReady, UnitUsed};
+use arithmetic::Power;
 use arrays::Choice;
 use arrays::Request;
-use numbers::Power;
 use table::Frame;
 
 // The unit used, the columns of its table, and the least rounded energy of a plan that fits.
@@ -121,7 +121,7 @@ fn find_unit(
     let tasks = q.tasks;
     let cap = q.limit + 1;
     cut(loads, tasks, cap, load);
-    let mut unit = numbers::least_power(arrays::fastest_sum(energies, tasks, q.rates));
+    let mut unit = arithmetic::least_power(arrays::fastest_sum(energies, tasks, q.rates));
     let mut columns = tasks + 1;
     loop {
         let f = Frame {

@@ -5,7 +5,7 @@ use mathlib.Core.List.{List}
 use mathlib.Core.Logic.{_⊎_}
 use lib.ListN.{length, getD}
 use Rattle.numbers.specs.Numbers.{total}
-use Rattle.numbers.specs.declared.Power.{Power}
+use Rattle.arithmetic.specs.declared.Power.{Power}
 use Rattle.selection.specs.Plan.{Problem, planLoad, planEnergy, rounded, Fitting, IsChosenOf, IsUsedOf}
 use Rattle.arrays.specs.declared.Request.{Request}
 use Rattle.arrays.specs.Arrays.{optionAt, Small, arrays, Asked, EngineReady}

@@ -9,9 +9,9 @@ ghost use Rattle.arrays.specs.Arrays.{arrays, ChosenBy};
 ghost use Rattle.exhaustive.specs.Engine.{mostPlans, Looked, Seen, ArraysReady, InHand, ChangeReady, Changed};
 ghost use Rattle.exhaustive.specs.Engine.{BlockReady, AdvanceReady, Advanced, AllReady, UnitReady, ChosenAt};
 ghost use Rattle.exhaustive.specs.Engine.{UnitUsed, PutReady, PlanPut, ExhaustiveReady};
+use arithmetic::Power;
 use arrays::Choice;
 use arrays::Request;
-use numbers::Power;
 
 // How many plans the engine goes through at most.
 pub const MOST_PLANS: usize = 1_000_000;
@@ -196,7 +196,7 @@ fn find_unit(loads: &[u64; 512], energies: &[u64; 512], q: Request, plans: usize
     requires { ⌜ AllReady q (now loads) (now energies) plans ⌝ }
     ensures { λ r. ⌜ UnitUsed q (now (loads .entry)) (now (energies .entry)) r ⌝ }
 {
-    let mut unit = numbers::least_power(arrays::fastest_sum(energies, q.tasks, q.rates));
+    let mut unit = arithmetic::least_power(arrays::fastest_sum(energies, q.tasks, q.rates));
     let mut best = best_at(loads, energies, q, unit, plans);
     loop {
         if arrays::stops(unit, q.tasks, q.slack, best.cost) {

@@ -323,7 +323,7 @@ fn task(s: &[u8], at: usize, out: &mut [u32], k: usize, clock: Clock) -> Read
     let Read::Got(_, i) = closed else {
         return closed;
     };
-    let place = k + layout::before_energies(Layout::Ordinary);
+    let place = k + places::before_energies(Layout::Ordinary);
     let form = energies(s, i, out, place, clock, c);
     let Read::Got(_, i) = form else {
         return form;
@@ -357,7 +357,7 @@ fn tasks(s: &[u8], at: usize, out: &mut [u32], clock: Clock) -> Read
     let m = rate_count(clock);
     let mut i = at;
     let mut n = 0;
-    while n < layout::MOST_TASKS {
+    while n < places::MOST_TASKS {
         if 0 < n {
             if !opens(s, i) {
                 return Read::Got(n as u32, i);
@@ -367,7 +367,7 @@ fn tasks(s: &[u8], at: usize, out: &mut [u32], clock: Clock) -> Read
             s,
             i,
             out,
-            layout::period_place(Layout::Ordinary, m, n),
+            places::period_place(Layout::Ordinary, m, n),
             clock,
         );
         let Read::Got(_, j) = r else {
@@ -386,7 +386,7 @@ pub fn read_set(s: &[u8], out: &mut [u32]) -> SetRead
     ensures { λ r. ⌜ Gives saidOf Text.words 0 (now (out .entry)) (now (out .exit))
         (readAt Reading.readScript (now (s .entry)) 0) (ofSet r) ⌝ }
 {
-    let size = layout::head_size(Layout::Ordinary);
+    let size = places::head_size(Layout::Ordinary);
     let front = head_lines(s);
     let HeadRead::Got(head, i) = front else {
         return SetRead::Bad(head_place(front));
@@ -404,17 +404,17 @@ pub fn read_set(s: &[u8], out: &mut [u32]) -> SetRead
         return SetRead::Bad(scanner::place_of(lines));
     };
     let m = rate_count(clock);
-    out[layout::task_count_place(Layout::Ordinary, m)] = task_count;
+    out[places::task_count_place(Layout::Ordinary, m)] = task_count;
     out[size] = m as u32;
-    out[layout::SLACK_PLACE] = head.slack;
+    out[places::SLACK_PLACE] = head.slack;
     let idle = head.idle;
-    out[layout::IDLE_PLACE] = idle_energy(idle, clock);
+    out[places::IDLE_PLACE] = idle_energy(idle, clock);
     let n = task_count as usize;
     let said = Said {
         clock,
         rates: m,
         tasks: n,
-        words: layout::period_place(Layout::Ordinary, m, n),
+        words: places::period_place(Layout::Ordinary, m, n),
     };
     SetRead::Got(said, i)
 }

@@ -116,7 +116,7 @@ fn put_task(list: &mut [u32], at: usize, state: u32) -> u32
     let factor = 2 + draw(third) % 9;
     list[at] = p;
     list[at + 1] = c;
-    let before = layout::before_energies(Layout::Ordinary);
+    let before = places::before_energies(Layout::Ordinary);
     put_zeros(list, at + 2, before - 2);
     put_energies(list, at + before, factor);
     third
@@ -130,7 +130,7 @@ fn put_tasks(list: &mut [u32], seed: u32, n: usize)
     let mut state = seed;
     let mut t: usize = 0;
     while t < n {
-        let at = layout::period_place(Layout::Ordinary, RATES, t);
+        let at = places::period_place(Layout::Ordinary, RATES, t);
         state = put_task(list, at, state);
         t += 1;
     }
@@ -141,22 +141,22 @@ fn put_front(list: &mut [u32], n: u32)
     requires { ⌜ tasksPlace Ordinary 5 ≤ length (now list) ⌝ }
     ensures { λ r. ⌜ now (list .exit) ≡ written 0 (frontWords n) (now (list .entry)) ⌝ }
 {
-    let head = layout::head_size(Layout::Ordinary);
-    list[layout::SLACK_PLACE] = 100;
+    let head = places::head_size(Layout::Ordinary);
+    list[places::SLACK_PLACE] = 100;
     put_zeros(list, 1, head - 1);
     list[head] = RATES as u32;
     put_rates(list, head + 1);
-    list[layout::task_count_place(Layout::Ordinary, RATES)] = n;
+    list[places::task_count_place(Layout::Ordinary, RATES)] = n;
 }
 
 // Checks 2 and 6: how many words a set of n tasks has, or a refusal. lent is the length of the list.
 pub fn ready(n: u32, lent: usize) -> Room
     ensures { λ r. ⌜ RoomAfter n lent r ⌝ }
 {
-    if !numbers::is_between(1, layout::MOST_TASKS as u64, n as u64) {
+    if !arithmetic::is_between(1, places::MOST_TASKS as u64, n as u64) {
         return Room::Refused(Refusal::BadWord(0));
     }
-    let needed = layout::period_place(Layout::Ordinary, RATES, n as usize);
+    let needed = places::period_place(Layout::Ordinary, RATES, n as usize);
     if lent < needed {
         return Room::Refused(Refusal::TooShort(needed));
     }

@@ -27,8 +27,8 @@ pub fn put_refused(buf: &mut [u8], f: Refusal) -> usize
         buf,
         0,
         b"(refused ",
-        taskset::number_of(f),
-        taskset::second_of(f),
+        figures::number_of(f),
+        figures::second_of(f),
     )
 }
 

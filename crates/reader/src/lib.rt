@@ -35,8 +35,8 @@ fn over_rate(set: &[u32], m: usize, t: usize) -> usize
 {
     let mut r = 1;
     while r <= m {
-        let at = layout::energy_place(Layout::Ordinary, m, t, r);
-        if layout::MOST_ENERGY < set[at] as u64 {
+        let at = places::energy_place(Layout::Ordinary, m, t, r);
+        if places::MOST_ENERGY < set[at] as u64 {
             return r;
         }
         r += 1;
@@ -83,7 +83,7 @@ fn over_task(set: &[u32], said: Said) -> usize
 pub fn read(text: &[u8], words: &mut [u32]) -> CopyAnswer
     ensures { λ a. ⌜ ReaderGives (now (text .entry)) (now (words .entry)) (now (words .exit)) a ⌝ }
 {
-    let mut set = [0u32; layout::MOST_WORDS];
+    let mut set = [0u32; places::MOST_WORDS];
     match forms::read_set(text, &mut set) {
         SetRead::Got(said, i) => {
             let n = said.words;

@@ -38,7 +38,7 @@ fn relax(d: &mut [u32], lo: usize, hi: usize, s: usize, l: u32)
 {
     let mut p = lo;
     while p < hi {
-        d[p] = numbers::lesser(d[p], d[p - s] + l);
+        d[p] = arithmetic::lesser(d[p], d[p - s] + l);
         p += 1;
     }
 }

@@ -98,7 +98,7 @@ impl State {
             self.made = room;
             return self;
         }
-        let ran = numbers::lesser(job.left, room);
+        let ran = arithmetic::lesser(job.left, room);
         let cut = preempts(job.place, self.at, self.rest);
         self.busy += ran;
         self.preempted += cut;
@@ -132,7 +132,7 @@ pub fn run(p: &[u32; 32], c: &[u32; 32], first: &[u32; 32], n: usize, end: u32) 
                 s.due[i] = t + p[i];
             }
             let d = s.due[i];
-            next = numbers::lesser(next, d);
+            next = arithmetic::lesser(next, d);
             i += 1;
         }
         if t == end {

@@ -33,7 +33,7 @@ fn check_plan(plan: &[u32], m: usize, n: usize) -> PlanCheck
             return PlanCheck::At(n);
         }
         let r = plan[k] as u64;
-        if !numbers::is_between(1, m as u64, r) {
+        if !arithmetic::is_between(1, m as u64, r) {
             return PlanCheck::At(k);
         }
         k += 1;
@@ -121,17 +121,17 @@ pub fn walk_checked(set: &[u32], plan: &[u32], rates: usize, tasks: usize, hyper
     requires { ⌜ SetAfter (walkChecks (now set) (now plan)) Ordinary (now set) (Good rates tasks hyper) ⌝ }
     ensures { λ r. ⌜ Walked (now (set .entry)) (now (plan .entry)) r ⌝ }
 {
-    let step = layout::task_size(Layout::Ordinary, rates);
+    let step = places::task_size(Layout::Ordinary, rates);
     let p = column(
         set,
-        layout::period_place(Layout::Ordinary, rates, 0),
+        places::period_place(Layout::Ordinary, rates, 0),
         step,
         tasks,
     );
     let c = times(set, plan, rates, tasks);
     let first = column(
         set,
-        layout::first_place(Layout::Ordinary, rates, 0),
+        places::first_place(Layout::Ordinary, rates, 0),
         step,
         tasks,
     );

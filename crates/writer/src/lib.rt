@@ -27,8 +27,8 @@ fn rates_of(w: &[u32], m: usize) -> &[u32]
     requires { ⌜ WithRates (now w) m ⌝ }
     ensures { λ r. ⌜ now r ≡ listRates (now (w .entry)) ⌝ }
 {
-    let start = layout::rate_place(Layout::Ordinary, 1);
-    let end = layout::task_count_place(Layout::Ordinary, m);
+    let start = places::rate_place(Layout::Ordinary, 1);
+    let end = places::task_count_place(Layout::Ordinary, m);
     &w[start..end]
 }
 
@@ -36,7 +36,7 @@ fn energies_of(w: &[u32], m: usize, t: usize) -> &[u32]
     requires { ⌜ OfTask Ordinary m t (now w) ⌝ }
     ensures { λ r. ⌜ now r ≡ lineOf (now (w .entry)) t .energies ⌝ }
 {
-    let start = layout::energy_place(Layout::Ordinary, m, t, 1);
+    let start = places::energy_place(Layout::Ordinary, m, t, 1);
     let end = start + m;
     &w[start..end]
 }

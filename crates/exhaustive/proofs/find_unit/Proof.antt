@@ -3,7 +3,7 @@
 use Prim.Native.Nat.{_*_, _^_, _<_}
 use native.Mathlib.Nat.{mul-le-mul-right}
 use native.Mathlib.Omega.{arith}
-use Rattle.numbers.specs.declared.Power.{Power}
+use Rattle.arithmetic.specs.declared.Power.{Power}
 use Rattle.arrays.specs.Arrays.{arrays}
 use Rattle.arrays.proofs.Adding.{sum-low}
 use Rattle.arrays.proofs.Units.{Tried, tried-start, first-low, tried-turn, tried-used, tried-low}
