@@ -1,6 +1,6 @@
 use mathlib.Core.Path.{subst}
-use Rattle.capi.specs.Put.{AnswerSmall}
-use Rattle.capi.proofs.PlanEntries.{put-refused, put-planned}
+use Rattle.entries.specs.Put.{AnswerSmall}
+use Rattle.entries.proofs.PlanEntries.{put-refused, put-planned}
 use borrow.Author.Needs.{needs}
 use Rattle.capi.proofs.put_answer.Statement.{statement}
 use Rattle.capi.proofs.put_answer.Tie as tie

@@ -6,9 +6,9 @@ use mathlib.Core.Path.{_≡_, refl, sym, ap, _∙_}
 use mathlib.Core.List.{List}
 use native.Mathlib.Omega.{arith}
 use lib.ListN.{length, length-set}
-use Rattle.capi.specs.Entry.{bytesOf}
-use Rattle.capi.specs.Put.{placed}
-use Rattle.capi.proofs.Bytes.{placed-none, placed-set, bytes-step, bytes-end}
+use Rattle.entries.specs.Entry.{bytesOf}
+use Rattle.entries.specs.Put.{placed}
+use Rattle.entries.proofs.Bytes.{placed-none, placed-set, bytes-step, bytes-end}
 use borrow.Author.Needs.{needs}
 use Rattle.capi.proofs.put_value.Statement.{statement}
 use Rattle.capi.proofs.put_value.Tie as tie

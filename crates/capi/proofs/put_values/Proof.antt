@@ -1,4 +1,4 @@
-use Rattle.capi.proofs.Bytes.{four}
+use Rattle.entries.proofs.Bytes.{four}
 use borrow.Author.Needs.{needs}
 use Rattle.capi.proofs.put_values.Statement.{statement}
 use Rattle.capi.proofs.put_values.Tie as tie

@@ -6,7 +6,7 @@ use Rattle.generator.specs.Steps.{RoomAfter}
 use Rattle.generator.specs.declared.Room.{Room}
 use Rattle.generator.specs.declared.Room.the-variants.{Enough, Refused}
 use Rattle.generator.proofs.Answers.{count-range, fits}
-use Rattle.capi.proofs.GenerateEntries.{room-refused, room-small, results-few, entry-generated}
+use Rattle.entries.proofs.GenerateEntries.{room-refused, room-small, results-few, entry-generated}
 use borrow.Author.Needs.{needs}
 use Rattle.capi.proofs.seedspell_generate.Statement.{statement}
 use Rattle.capi.proofs.seedspell_generate.Tie as tie

@@ -12,7 +12,7 @@ use Rattle.layout.specs.declared.Layout.the-variants.{Ordinary}
 use Rattle.taskset.specs.Calls.{SetAfter}
 use Rattle.taskset.specs.declared.Checked.{Checked}
 use Rattle.taskset.specs.declared.Checked.the-variants.{Good, Refused as NotGood}
-use Rattle.capi.proofs.PlanEntries.{ready-refused, results-few, answered, answer-small, put-size}
+use Rattle.entries.proofs.PlanEntries.{ready-refused, results-few, answered, answer-small, put-size}
 use borrow.Author.Needs.{needs}
 use Rattle.capi.proofs.seedspell_plan.Statement.{statement}
 use Rattle.capi.proofs.seedspell_plan.Tie as tie

@@ -12,7 +12,7 @@ use Rattle.taskset.specs.declared.Checked.the-variants.{Good, Refused as NotGoo
 use Rattle.taskset.proofs.Checks.{refuses-before}
 use Rattle.taskset.proofs.Small.{dull-second-small}
 use Rattle.taskset.proofs.DemandThree.{dull-plans}
-use Rattle.capi.proofs.PlanEntries.{ready-refused, results-few, answered, answer-small, put-size}
+use Rattle.entries.proofs.PlanEntries.{ready-refused, results-few, answered, answer-small, put-size}
 use borrow.Author.Needs.{needs}
 use Rattle.capi.proofs.seedspell_plan_dull.Statement.{statement}
 use Rattle.capi.proofs.seedspell_plan_dull.Tie as tie

@@ -10,7 +10,7 @@ use Rattle.taskset.proofs.Small.{walk-second-small}
 use Rattle.layout.specs.declared.Layout.the-variants.{Ordinary}
 use Rattle.taskset.specs.Calls.{SetAfter}
 use Rattle.walk.specs.Answers.{Walked}
-use Rattle.capi.proofs.Entries.{ready-refused, walk-refused, results-short, entry-kept, entry-missed}
+use Rattle.entries.proofs.Entries.{ready-refused, walk-refused, results-short, entry-kept, entry-missed}
 use borrow.Author.Needs.{needs}
 use Rattle.capi.proofs.seedspell_walk.Statement.{statement}
 use Rattle.capi.proofs.seedspell_walk.Tie as tie

@@ -20,8 +20,8 @@ use Rattle.taskset.proofs.Unique.{short-single, none-single, single-next, cover
 use Rattle.taskset.proofs.TwoEngines.{refusedWith, set, rest, both-single, leave, one-answer}
 use Rattle.planner.specs.Answers.{PlannerCall}
 use Rattle.dull.specs.Answers.{DullCall}
-use Rattle.capi.specs.Entry.{resultSize, EntryGives, PlanEntry, DullEntry}
-use Rattle.capi.proofs.Unique.{entry-unique}
+use Rattle.entries.specs.Entry.{resultSize, EntryGives, PlanEntry, DullEntry}
+use Rattle.entries.proofs.Unique.{entry-unique}
 
 -- ---- the calls. On one list and one plan list, unless the planner refuses with 5 or the dull engine with 11, there is
 -- one answer, a plan's four numbers or a refusal, and one plan list.

@@ -19,9 +19,9 @@ use Rattle.draws.specs.Calls.{generatorChecks, PassesChecks}
 use Rattle.generator.specs.Steps.{RoomAfter}
 use Rattle.generator.specs.declared.Room.the-variants.{Enough, Refused}
 use Rattle.generator.proofs.Answers.{second-small, wrote}
-use Rattle.capi.specs.Entry.{resultBytes, resultAt, resultSize, generateEntryChecks, GenerateEntry}
-use Rattle.capi.proofs.Bytes.{result-value}
-use Rattle.capi.proofs.Entries.{code-positive}
+use Rattle.entries.specs.Entry.{resultBytes, resultAt, resultSize, generateEntryChecks, GenerateEntry}
+use Rattle.entries.proofs.Bytes.{result-value}
+use Rattle.entries.proofs.Entries.{code-positive}
 
 module _ (seed n : ℕ) (s d : List ℕ) where
   refused : (r : Refusal) (x : ℕ) → x ≡ code r → Refuses (generateEntryChecks seed n (length s) (length d)) (number r) (second r)

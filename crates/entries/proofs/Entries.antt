@@ -18,8 +18,8 @@ use Rattle.taskset.proofs.Unique.{number-range}
 use Rattle.taskset.proofs.Released.{last-fits}
 use Rattle.taskset.proofs.DemandThree.{walk-set}
 use Rattle.walk.specs.Answers.{Walked}
-use Rattle.capi.specs.Entry.{resultBytes, resultAt, resultSize, walkEntryChecks, WalkEntry}
-use Rattle.capi.proofs.Bytes.{result-value}
+use Rattle.entries.specs.Entry.{resultBytes, resultAt, resultSize, walkEntryChecks, WalkEntry}
+use Rattle.entries.proofs.Bytes.{result-value}
 
 -- No refusal is returned as 0.
 pub code-positive : (r : Refusal) → code r ≡ 0 → ⊥

@@ -7,7 +7,7 @@ use Rattle.taskset.specs.Refusals.{second}
 use Rattle.taskset.specs.Calls.{code}
 use Rattle.taskset.specs.declared.PlannerAnswer.{PlannerAnswer}
 use Rattle.taskset.specs.declared.PlannerAnswer.the-variants.{Planned, Refused as NotPlanned}
-use Rattle.capi.specs.Entry.{bytesOf, resultBytes}
+use Rattle.entries.specs.Entry.{bytesOf, resultBytes}
 
 -- The list d with xs in place of the words from `at` on.
 unfoldable pub placed : ℕ → List ℕ → List ℕ → List ℕ

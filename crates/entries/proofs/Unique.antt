@@ -15,9 +15,9 @@ use Rattle.taskset.proofs.Unique.{short-single, none-single, single-next, ready
 use Rattle.taskset.proofs.Unique.{walk-single, planner-unique, plan-unique, walk-unique, refusal-unique}
 use Rattle.draws.specs.Calls.{generatorChecks, GeneratorGives}
 use Rattle.draws.proofs.Unique.{generator-single, generator-unique}
-use Rattle.capi.specs.Entry.{resultBytes, resultSize, EntryGives, walkEntryChecks, WalkEntryGives, beforeSeven}
-use Rattle.capi.specs.Entry.{planEntryChecks, PlanEntry, DullEntry}
-use Rattle.capi.specs.Entry.{generateEntryChecks, generatorValues, GenerateEntryGives}
+use Rattle.entries.specs.Entry.{resultBytes, resultSize, EntryGives, walkEntryChecks, WalkEntryGives, beforeSeven}
+use Rattle.entries.specs.Entry.{planEntryChecks, PlanEntry, DullEntry}
+use Rattle.entries.specs.Entry.{generateEntryChecks, generatorValues, GenerateEntryGives}
 
 -- ---- every entry. l₁ and l₂ are the other lists as two answers give them back: equal where the call's own answers make
 -- them so, and where both leave them as they were.

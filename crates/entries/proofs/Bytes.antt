@@ -8,8 +8,8 @@ use native.Mathlib.Numerals.{add-one}
 use native.Mathlib.Omega.{arith}
 use lib.ListN.{length, getD, take, drop, set, length-append, length-take, length-drop, take-append-drop}
 use lib.Seq.{take-suc-set, drop-set-lt, take-append-seam, drop-append-add, drop-drop, take-at}
-use Rattle.capi.specs.Entry.{bytesOf, resultBytes, valueOf, resultAt}
-use Rattle.capi.specs.Put.{placed, Placed, Four}
+use Rattle.entries.specs.Entry.{bytesOf, resultBytes, valueOf, resultAt}
+use Rattle.entries.specs.Put.{placed, Placed, Four}
 
 pub length-bytes : (k v : ℕ) → length (bytesOf k v) ≡ k
 unfolding bytesOf

@@ -22,10 +22,10 @@ use Rattle.taskset.proofs.Checks.{refuses-next, refuses-before, refuses-back, r
 use Rattle.taskset.proofs.Sets.{energy-small}
 use Rattle.taskset.proofs.DemandThree.{Plans, refusal-owes, answer-owes}
 use Rattle.taskset.proofs.Margin.{unit-small, margin-small}
-use Rattle.capi.specs.Entry.{resultBytes, resultAt, resultSize, beforeSeven, planEntryChecks, PlansEntry}
-use Rattle.capi.specs.Put.{Four, AnswerSmall, AnswerPut}
-use Rattle.capi.proofs.Bytes.{result-value}
-use Rattle.capi.proofs.Entries.{code-positive}
+use Rattle.entries.specs.Entry.{resultBytes, resultAt, resultSize, beforeSeven, planEntryChecks, PlansEntry}
+use Rattle.entries.specs.Put.{Four, AnswerSmall, AnswerPut}
+use Rattle.entries.proofs.Bytes.{result-value}
+use Rattle.entries.proofs.Entries.{code-positive}
 
 -- s is the set, and d the result bytes as lent; cs are the call's own checks but 7, whose second numbers are small,
 -- with that of 7. Gives and Unchanged are of the lists that the call is lent besides.
