@@ -26,7 +26,8 @@ use Rattle.taskset.proofs.Copied.{copied, count-is, front-is}
 use Rattle.text.specs.Text.{Script, words}
 use Rattle.text.specs.Calls.{ReaderGives}
 use Rattle.text.proofs.Sizes.{words-length}
-use Rattle.taskset.proofs.Writing.{placed, length-placed}
+use Rattle.lists.specs.Writing.{placed}
+use Rattle.lists.proofs.Writing.{length-placed}
 use Rattle.printer.specs.Puts.{Put}
 use Rattle.lines.specs.Lines.{planLine, rateLines, walkLine, refusedLine}
 use Rattle.lines.proofs.Lengths.{plan-short}

@@ -19,7 +19,7 @@ use Rattle.taskset.specs.DemandThree.{PlanPromise}
 use Rattle.taskset.specs.declared.CopyAnswer.{CopyAnswer}
 use Rattle.taskset.specs.declared.CopyAnswer.the-variants.{Wrote, Refused as NotCopied}
 use Rattle.taskset.proofs.Checks.{accepts-but-last, accepts-next, refuses-unique, passed, not-both}
-use Rattle.taskset.proofs.Sets.{IsSet}
+use Rattle.taskset.specs.Sets.{IsSet}
 use Rattle.layout.specs.declared.Layout.the-variants.{Ordinary}
 use Rattle.taskset.proofs.Unique.{planner-single, selected-unique, short-single, single-next, refusal-unique}
 use Rattle.taskset.proofs.DemandThree.{plan-given, walk-kept, planner-plans, refusal-owes}
@@ -230,10 +230,3 @@ never-short t d d′ r room x =
     not-both (outputChecks (length (x .gives .0)) (length d)) (number r) (second r)
     (accepts-next [] (roomCheck (length (x .gives .0)) (length d)) tt (λ k h. omega (arith, h .0, output-short t (x .gives .0) (x .gives .1))))
     (x .gives .2)
-
-pub wrote-within : (t d d′ : List ℕ) (n : ℕ) → Responds t d d′ (Wrote n) → n ≤ length d
-wrote-within t d d′ n x =
-    ⊎-elim
-    (λ (l : length d < length (x .gives .0)). absurd (passed 6 (outputChecks (length (x .gives .0)) (length d)) refl (x .gives .2) (length (x .gives .0)) (l, refl)))
-    (λ (l : length (x .gives .0) ≤ length d). omega (arith, count-is (x .gives .0) d d′ n (x .gives .3)))
-    (lt-or-le (length d) (length (x .gives .0)))

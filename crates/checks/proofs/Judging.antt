@@ -24,7 +24,8 @@ use Rattle.taskset.specs.declared.Shape.the-variants.{Whole, Refused as NotWhol
 use Rattle.taskset.specs.declared.Checked.{Checked}
 use Rattle.taskset.specs.declared.Checked.the-variants.{Good, Refused as NotGood}
 use Rattle.taskset.proofs.Checks.{no-word-fault, accepts-join, refuses-back}
-use Rattle.taskset.proofs.Idle.{Below, covered-passes, first-below}
+use Rattle.taskset.specs.Sets.{Below}
+use Rattle.taskset.proofs.Idle.{covered-passes, first-below}
 use Rattle.layout.proofs.Whole.{whole-of, rates-in, tasks-in}
 use Rattle.layout.specs.declared.Layout.{Layout}
 

@@ -13,8 +13,8 @@ use Rattle.layout.specs.declared.Kind.{Kind}
 use Rattle.layout.specs.declared.Kind.the-variants.{LeftOver}
 use Rattle.layout.specs.declared.Layout.{Layout}
 use Rattle.taskset.specs.Quantities.{hyperLimit}
-use Rattle.layout.proofs.Whole.{IsWhole}
-use Rattle.taskset.proofs.Idle.{Below}
+use Rattle.layout.specs.Whole.{IsWhole}
+use Rattle.taskset.specs.Sets.{Below}
 
 -- What the word at q stands for, up to the task count; 'left over' behind that, where nothing is allowed. So the front
 -- ends at q: its word is out of its range, or stands behind the task count.

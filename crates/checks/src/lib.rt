@@ -10,7 +10,7 @@ ghost use Rattle.layout.specs.Words.{period, cycles, first, energy, OutOfRange}
 ghost use Rattle.taskset.specs.Quantities.{jobTime};
 ghost use Rattle.taskset.specs.Refusals.{_▹_, wordChecks, idleCheck, idleChecks, hyperCheck};
 ghost use Rattle.taskset.specs.Calls.{CountsAfter, SetAfter};
-ghost use Rattle.taskset.proofs.Idle.{Below};
+ghost use Rattle.taskset.specs.Sets.{Below};
 ghost use Rattle.checks.specs.Steps.{frontKind, EndsFront, FrontPassed, Falls, HasTasks, Followed, OfTask, OfCounts, HasBelow};
 use layout::Kind;
 use layout::Layout;
@@ -236,7 +236,7 @@ fn check_energies(s: &[u32], layout: Layout) -> Shape
 }
 
 // Check 4, of a list with m rates and n tasks that passes check 2.
-pub fn check_hyper(s: &[u32], layout: Layout, m: usize, n: usize) -> Checked
+fn check_hyper(s: &[u32], layout: Layout, m: usize, n: usize) -> Checked
     requires { ⌜ HasTasks layout m n (now s) ⌝ }
     ensures { λ r. ⌜ SetAfter (hyperCheck layout (now (s .entry)) ∷ []) layout (now (s .entry)) r ⌝ }
 {

@@ -3,7 +3,7 @@
 ghost use mathlib.Core.Path.{_≡_};
 ghost use Prim.Native.Nat.{_+_, _≤_};
 ghost use lib.ListN.{length};
-ghost use Rattle.taskset.proofs.Writing.{written};
+ghost use Rattle.lists.specs.Writing.{written};
 ghost use Rattle.chips.specs.Chips.{chipCount, chipRate, chipPower, chipEnergy, chipRates, chipEnergies, idleEntry, chipIdle};
 
 // The chips that a text can name.

@@ -14,7 +14,7 @@ use Rattle.numbers.proofs.Lists.{every-at}
 use Rattle.layout.specs.Words.{headSize, slackPlace, idlePlace, rateCount, taskCount, periodPlace, rate, period, allows, headKind}
 use Rattle.layout.specs.declared.Layout.the-variants.{Ordinary}
 use Rattle.layout.proofs.Layouts.{slack-kind, idle-in-head, zero-in-head, zero-in-extra}
-use Rattle.layout.proofs.Whole.{IsWhole}
+use Rattle.layout.specs.Whole.{IsWhole}
 use Rattle.taskset.proofs.Sets.{hyper-divides, set-passes}
 use Rattle.taskset.proofs.Idle.{covered-passes, nothing-covered}
 use Rattle.draws.specs.Generated.{draw, periods, drawnPeriod, drawnEnergy, fiveRates, generated}

@@ -28,10 +28,6 @@ placed-set k b xs d l =
     rw (drop-set-lt (k + 1 + length xs) d k b (omega arith), e, add-one k, take-suc-set d k b l)
     (append-assoc (take k d) (b ∷ []) (xs ++ drop (k + suc (length xs)) d))
 
-pub length-placed : (k : ℕ) (xs d : List ℕ) → k + length xs ≤ length d → length (placed k xs d) ≡ length d
-unfolding placed
-length-placed k xs d h = simp (length-append, length-take, length-drop) (omega arith)
-
 -- the turn of the loop: the lowest byte is put, the rest goes on
 pub bytes-step : (i v : ℕ) → i < 8 → bytesOf (8 - i) v ≡ v % 256 ∷ bytesOf (8 - (i + 1)) (v / 256)
 unfolding bytesOf

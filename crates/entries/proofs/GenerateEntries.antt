@@ -13,7 +13,7 @@ use Rattle.taskset.specs.declared.Refusal.the-variants.{TooShort}
 use Rattle.taskset.specs.declared.CopyAnswer.the-variants.{Wrote}
 use Rattle.taskset.proofs.Checks.{accepts-next, refuses-next, refuses-before}
 use Rattle.taskset.proofs.Copied.{front-is}
-use Rattle.taskset.proofs.Writing.{placed}
+use Rattle.lists.specs.Writing.{placed}
 use Rattle.draws.specs.Generated.{generated}
 use Rattle.draws.specs.Calls.{generatorChecks, PassesChecks}
 use Rattle.generator.specs.Steps.{RoomAfter}

@@ -13,8 +13,9 @@ use lib.Seq.{append-snoc}
 use Rattle.numbers.specs.Numbers.{joined}
 use Rattle.numbers.proofs.Tests.{lt-or-le}
 use Rattle.numbers.proofs.Lists.{joined-one}
-use Rattle.text.proofs.Reading.{Res, got, bad, ext, mapRes, seq, many, starts, readAt}
-use Rattle.taskset.proofs.Writing.{written, written-none, extend}
+use Rattle.text.specs.Reading.{Res, got, bad, ext, mapRes, seq, many, starts, readAt}
+use Rattle.lists.specs.Writing.{written}
+use Rattle.lists.proofs.Writing.{written-none, extend}
 use Rattle.scanner.specs.Steps.{noValue}
 use Rattle.scanner.proofs.Places.{seq-at, map-id}
 use Rattle.forms.specs.Forms.{Gives, plain}

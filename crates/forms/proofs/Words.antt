@@ -14,16 +14,17 @@ use Rattle.layout.specs.declared.Layout.the-variants.{Ordinary}
 use Rattle.chips.proofs.Tables.{count-range, rates-length, energies-length}
 use Rattle.text.specs.Text.{bytes, TaskLine, Clock, rates, chip, Script, ClockOk, energyCount, TaskLineOk, ratesOf}
 use Rattle.text.specs.Text.{idleOf, headWords, extraWords, taskWords, words}
-use Rattle.text.proofs.Reading.{Res, got, mapRes, mapped, skip, upTo, starts, numbers, absent, optional, readEnergies, readTask, readAt}
+use Rattle.text.specs.Reading.{Res, got, mapRes, mapped, skip, upTo, starts, numbers, absent, optional, readEnergies, readTask, readAt}
 use Rattle.scanner.proofs.Places.{map-at, either-first, either-second}
 use Rattle.text.proofs.Grammar.{dom-of, task-piece}
-use Rattle.taskset.proofs.Writing.{written, written-then, length-written}
+use Rattle.lists.specs.Writing.{written}
+use Rattle.lists.proofs.Writing.{written-then, length-written}
 use Rattle.forms.specs.Forms.{lineOf, clockOf, ratesIn, energiesIn, idleIn, Fits, wordsBy}
 use Rattle.forms.specs.declared.Idle.{Idle}
 use Rattle.forms.specs.declared.Idle.the-variants.{Given, Absent}
 use Rattle.forms.specs.declared.Clock as code
 use Rattle.forms.specs.declared.Clock.the-variants.{Rates, Named}
-use Rattle.taskset.proofs.Stores.{stored, in-front}
+use Rattle.lists.proofs.Stores.{stored, in-front}
 
 -- The words in front of the rate count, and of a task's energies.
 head-front : (s : Script) → length (headWords s) ≡ headSize Ordinary

@@ -10,8 +10,8 @@ use Rattle.chips.specs.Chips.{chipCount, chipEnergies, chipIdle}
 use Rattle.chips.specs.declared.Chip.{Chip}
 use Rattle.text.specs.Text as Text
 use Rattle.text.specs.Text.{bytes, TaskLine, Script, ratesOf, extraWords, words}
-use Rattle.text.proofs.Reading.{Res, got, bad, mapRes, field}
-use Rattle.taskset.proofs.Writing.{written}
+use Rattle.text.specs.Reading.{Res, got, bad, mapRes, field}
+use Rattle.lists.specs.Writing.{written}
 use Rattle.forms.specs.declared.Idle.{Idle}
 use Rattle.forms.specs.declared.Idle.the-variants.{Given, Absent}
 use Rattle.forms.specs.declared.IdleRead.{IdleRead}

@@ -18,7 +18,7 @@ use Rattle.taskset.specs.declared.Refusal.the-variants.{BadWord, TooShort}
 use Rattle.taskset.specs.declared.CopyAnswer.the-variants.{Wrote, Refused as NotCopied}
 use Rattle.taskset.proofs.Checks.{accepts-next, refuses-next, refuses-before}
 use Rattle.taskset.proofs.Copied.{copied, front-is}
-use Rattle.taskset.proofs.Writing.{placed}
+use Rattle.lists.specs.Writing.{placed}
 use Rattle.draws.specs.Generated.{fiveRates, generated}
 use Rattle.draws.specs.Calls.{countCheck, generatorChecks, PassesChecks, GeneratorCall}
 use Rattle.generator.specs.Steps.{RoomAfter}

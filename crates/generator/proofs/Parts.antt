@@ -11,8 +11,9 @@ use Rattle.numbers.proofs.Lists.{each-more, joined-one}
 use Rattle.layout.specs.Words.{headSize, extraSize, taskCountPlace, tasksPlace, taskSize, periodPlace}
 use Rattle.layout.specs.declared.Layout.the-variants.{Ordinary}
 use Rattle.layout.proofs.Layouts.{slack-in-head}
-use Rattle.taskset.proofs.Writing.{placed, written, written-none, written-front, length-written, extend}
-use Rattle.taskset.proofs.Stores.{stored-alone}
+use Rattle.lists.specs.Writing.{placed, written}
+use Rattle.lists.proofs.Writing.{written-none, written-front, length-written, extend}
+use Rattle.lists.proofs.Stores.{stored-alone}
 use Rattle.draws.specs.Generated.{next, stateAfter, draw, drawnPeriod, fiveRates, headWords, rateOf, taskWords, tasksWords, frontWords, generated}
 use Rattle.draws.proofs.States.{state-none, state-add, task-from}
 use Rattle.draws.proofs.Sizes.{head-length, front-size, tasks-size}

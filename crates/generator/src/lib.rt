@@ -7,7 +7,7 @@ ghost use lib.ListN.{length, replicate};
 ghost use Rattle.numbers.specs.Numbers.{each};
 ghost use Rattle.layout.specs.Words.{mostTasks, tasksPlace, taskSize, periodPlace};
 ghost use Rattle.layout.specs.declared.Layout.the-variants.{Ordinary};
-ghost use Rattle.taskset.proofs.Writing.{placed, written};
+ghost use Rattle.lists.specs.Writing.{placed, written};
 ghost use Rattle.draws.specs.Generated;
 ghost use Rattle.draws.specs.Generated.{stateAfter, drawnPeriod, rateOf, taskWords, tasksWords, frontWords, generated};
 ghost use Rattle.draws.specs.Calls.{GeneratorCall};

@@ -1,5 +1,5 @@
--- What a list without a fault is: it has just the words that it must have, each in its range; and a list of which that
--- holds has no fault.
+-- A list without a fault has just the words that it must have, each in its range; and a list of which that holds has no
+-- fault.
 -- Assumes nothing.
 use Prim.Native.Nat.{ℕ, _+_, _-_, _/_, _%_, _≤_, _<_}
 use mathlib.Core.Path.{_≡_, refl, sym, subst, _∙_}
@@ -16,23 +16,12 @@ use Rattle.layout.specs.Words.{slack, slackPlace, idle, idlePlace, rateC
 use Rattle.layout.specs.Words.{taskCountPlace, tasksPlace, periodPlace, cyclesPlace, energyPlace, taskSize}
 use Rattle.layout.specs.Words.{wordCount, rate, period, cycles, first, firstPlace, energy, kindIn, headKind, taskKind, kindAt}
 use Rattle.layout.specs.Words.{allows, WordFault}
+use Rattle.layout.specs.Whole.{IsWhole}
 use Rattle.layout.specs.declared.Layout.{Layout}
 use Rattle.layout.specs.declared.Kind.{Kind}
 use Rattle.layout.specs.declared.Kind.the-variants.{RateCount, Rate, TaskCount, Period, Cycles, First, Energy, LeftOver}
 use Rattle.layout.proofs.Layouts.{slack-in-head, slack-kind, idle-in-head, idle-kind, first-in-extra, first-kind}
 use Rattle.layout.proofs.Places.{before-end, kind-head, kind-rates, kind-rate, kind-tasks, kind-past, kind-task, kind-period, kind-cycles, kind-extra, kind-energy}
-
-pub record IsWhole (layout : Layout) (s : List ℕ) : Type 0 where
-  pub size : length s ≡ wordCount layout s
-  pub rates-range : (2 ≤ rateCount layout s) × (rateCount layout s ≤ mostRates)
-  pub tasks-range : (1 ≤ taskCount layout s) × (taskCount layout s ≤ mostTasks)
-  pub head-word : (q : ℕ) → q < headSize layout → allows s q (headKind layout q) ≡ true
-  pub rate-range : (r : ℕ) → 1 ≤ r → r ≤ rateCount layout s → (1 ≤ rate layout s r) × (rate layout s r ≤ 1000000)
-  pub period-range : (t : ℕ) → t < taskCount layout s → (1 ≤ period layout s t) × (period layout s t ≤ longestPeriod)
-  pub cycles-range : (t : ℕ) → t < taskCount layout s → (1 ≤ cycles layout s t) × (cycles layout s t ≤ 4000000000)
-  pub extra-word : (t k : ℕ) → t < taskCount layout s → k < extraSize layout
-      → allows s (periodPlace layout (rateCount layout s) t + (2 + k)) (kindIn (extraKinds layout) k) ≡ true
-  pub energy-range : (t r : ℕ) → t < taskCount layout s → 1 ≤ r → r ≤ rateCount layout s → (1 ≤ energy layout s t r) × (energy layout s t r ≤ 1000000)
 
 module _ (layout : Layout) (s : List ℕ) where
   -- The word at place q, of kind k, is in its range; the place and the kind may be written otherwise.

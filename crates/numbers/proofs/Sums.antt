@@ -104,10 +104,6 @@ sum f [] = 0
 sum f (x ∷ xs) = f x + sum f xs
 
 module _ {A : Type 0} where
-  pub sum-mono : (f g : A → ℕ) → ((x : A) → f x ≤ g x) → (xs : List A) → sum f xs ≤ sum g xs
-  sum-mono f g h [] = omega arith
-  sum-mono f g h (x ∷ xs) = omega (arith, h x, sum-mono f g h xs)
-
   pub sum-same : (f g : A → ℕ) (xs : List A) → All (λ x. f x ≡ g x) xs → sum f xs ≡ sum g xs
   sum-same f g [] h = refl
   sum-same f g (x ∷ xs) h = omega (arith, h .0, sum-same f g xs (h .1))

@@ -7,7 +7,8 @@ use native.Mathlib.Omega.{arith}
 use lib.ListN.{length}
 use Rattle.layout.specs.Words.{slackPlace, taskCount}
 use Rattle.layout.specs.declared.Layout.the-variants.{Ordinary}
-use Rattle.layout.proofs.Whole.{IsWhole, whole-of}
+use Rattle.layout.specs.Whole.{IsWhole}
+use Rattle.layout.proofs.Whole.{whole-of}
 use Rattle.taskset.specs.Refusals.{number, second, Check, Passes, Accepts}
 use Rattle.taskset.specs.Refusals.{Refuses, _▹_, idleChecks, hyperCheck, roomCheck}
 use Rattle.taskset.specs.Calls.{SetAfter}

@@ -14,7 +14,8 @@ use Rattle.arrays.proofs.Writing.{zeros-at}
 use Rattle.layout.specs.Words.{mostRates, mostTasks, idle, rateCount, rate, period, cycles, energy}
 use Rattle.layout.specs.declared.Layout.{Layout}
 use Rattle.taskset.specs.Quantities.{hyperLimit, jobTime, taskLoad, taskNet}
-use Rattle.taskset.proofs.Sets.{IsSet, task-net-small}
+use Rattle.taskset.specs.Sets.{IsSet}
+use Rattle.taskset.proofs.Sets.{task-net-small}
 use Rattle.options.specs.Options.{Laid, LaidBoth, TaskGiven}
 
 -- ---- one array

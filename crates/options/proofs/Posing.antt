@@ -10,7 +10,8 @@ use lib.ListN.{length, replicate}
 use Rattle.numbers.specs.Numbers.{total}
 use Rattle.selection.specs.Plan.{Problem, planLoad, Fitting, fastest}
 use Rattle.selection.proofs.Fastest.{some-fits-iff-fastest}
-use Rattle.selection.proofs.Same.{Same, fastest-load-same}
+use Rattle.selection.specs.Same.{Same}
+use Rattle.selection.proofs.Same.{fastest-load-same}
 use Rattle.layout.specs.Words.{mostRates, mostTasks, slackPlace, slack}
 use Rattle.layout.specs.declared.Layout.the-variants.{Ordinary}
 use Rattle.layout.proofs.Whole.{slack-in}

@@ -7,8 +7,8 @@ use lib.ListN.{length, getD}
 use Rattle.arrays.specs.Arrays.{optionAt}
 use Rattle.layout.specs.declared.Layout.{Layout}
 use Rattle.taskset.specs.Quantities.{hyperPeriod, taskLoad, taskNet}
-use Rattle.taskset.proofs.Sets.{IsSet}
-use Rattle.taskset.proofs.Idle.{Covered}
+use Rattle.taskset.specs.Sets.{IsSet}
+use Rattle.taskset.specs.Sets.{Covered}
 use Rattle.checks.specs.Steps.{OfTask}
 
 -- The place k is that of no rate number 1 to m of a task before place t, and of none before r of the task at place t.

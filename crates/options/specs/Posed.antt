@@ -4,12 +4,12 @@ use Prim.Native.Nat.{ℕ}
 use mathlib.Core.Path.{_≡_}
 use mathlib.Core.List.{List}
 use Rattle.selection.specs.Plan.{Fitting}
-use Rattle.selection.proofs.Same.{Same}
+use Rattle.selection.specs.Same.{Same}
 use Rattle.layout.specs.Words.{slack, rateCount, taskCount}
 use Rattle.layout.specs.declared.Layout.the-variants.{Ordinary}
 use Rattle.taskset.specs.Quantities.{hyperPeriod, problem}
-use Rattle.taskset.proofs.Sets.{IsSet}
-use Rattle.taskset.proofs.Idle.{Covered}
+use Rattle.taskset.specs.Sets.{IsSet}
+use Rattle.taskset.specs.Sets.{Covered}
 use Rattle.arrays.specs.Arrays.{arrays, Asked, Small}
 use Rattle.arrays.specs.declared.Request.{Request}
 use Rattle.options.specs.Options.{LaidBoth}

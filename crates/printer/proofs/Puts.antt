@@ -13,7 +13,8 @@ use borrow.Author.Tests.{ltb-true, ltb-false}
 use borrow.Rule.Slice.PartMut.{putMid, post-is}
 use Rattle.text.specs.Text.{decimal}
 use Rattle.text.proofs.Numerals.{decimal-step, decimal-one}
-use Rattle.taskset.proofs.Writing.{placed, written, written-none, written-front, length-written, written-then}
+use Rattle.lists.specs.Writing.{placed, written}
+use Rattle.lists.proofs.Writing.{written-none, written-front, length-written, written-then}
 use Rattle.printer.specs.Puts.{Put, Added}
 
 -- ---- the digits of a number

@@ -3,7 +3,7 @@ use Prim.Native.Nat.{ℕ, _+_, _≤_}
 use mathlib.Core.Path.{_≡_}
 use mathlib.Core.List.{List}
 use lib.ListN.{length}
-use Rattle.taskset.proofs.Writing.{placed, written}
+use Rattle.lists.specs.Writing.{placed, written}
 
 -- d is the buffer as lent, d′ as given back, n the number returned: how many bytes, or the place after them.
 pub record Put (xs d d′ : List ℕ) (n : ℕ) : Type 0 where

@@ -13,11 +13,11 @@ use Rattle.taskset.specs.declared.Refusal.the-variants.{TextDeparts, TooShort, 
 use Rattle.taskset.proofs.Copied.{copied}
 use Rattle.text.specs.Text.{Script, scriptText, ScriptOk, IsTextOf, WellFormed, FirstBad, words}
 use Rattle.text.specs.Calls.{WorksOut, HasOver, ReaderGives}
-use Rattle.text.proofs.Reading.{Res, got, bad, ended, readScript, readText, readAt}
+use Rattle.text.specs.Reading.{Res, got, bad, ended, readScript, readText, readAt}
 use Rattle.text.proofs.Pieces.{Good, no-first-bad}
 use Rattle.text.proofs.Grammar.{dom-of, script-piece}
 use Rattle.text.proofs.Copies.{is-read, is-refused, NoneOver, none-refused, takes}
-use Rattle.taskset.proofs.Writing.{placed}
+use Rattle.lists.specs.Writing.{placed}
 use Rattle.scanner.proofs.Places.{later-zero}
 
 text-is : (t : List ℕ) → readText t ≡ ended (length t) (readAt readScript t 0)

@@ -11,7 +11,7 @@ use Rattle.numbers.specs.Numbers.{Lowest}
 use Rattle.numbers.specs.Search.{Found}
 use Rattle.layout.specs.Words.{headKinds, word, rateCount, taskSize, energyPlace, energy}
 use Rattle.layout.specs.declared.Layout.the-variants.{Ordinary}
-use Rattle.taskset.proofs.Writing.{placed, written}
+use Rattle.lists.specs.Writing.{placed, written}
 use Rattle.text.specs.Text.{Clock, rates, chip, Script, ScriptOk, ratesOf, words}
 use Rattle.text.specs.Calls.{WorksOut, HasOver}
 use Rattle.text.proofs.Sizes.{rates-few, words-size}

@@ -6,7 +6,7 @@ ghost use Prim.Native.Nat.{suc, _+_, _≤_};
 ghost use lib.ListN.{length};
 ghost use Rattle.numbers.specs.Search.{Found};
 ghost use Rattle.text.specs.Calls.{ReaderGives};
-ghost use Rattle.taskset.proofs.Writing.{placed};
+ghost use Rattle.lists.specs.Writing.{placed};
 ghost use Rattle.reader.specs.Over.{OverAt, OverIn, Holds, OverTask};
 use forms::Clock;
 use forms::Said;

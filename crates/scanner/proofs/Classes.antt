@@ -13,7 +13,7 @@ use borrow.Author.Tests.{ne-eqb}
 use types.Run.{OneOf, miss}
 use denote.Enum.Declared.{tagOf}
 use Rattle.numbers.proofs.Tests.{lt-or-le, between-true}
-use Rattle.text.proofs.Reading.{within, starts}
+use Rattle.text.specs.Reading.{within, starts}
 use Rattle.text.proofs.Digits.{NoDigit}
 use Rattle.scanner.specs.Steps.{Outside, Stands}
 use Rattle.scanner.specs.declared.Class.{Class}

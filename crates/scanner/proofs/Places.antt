@@ -10,8 +10,8 @@ use native.Mathlib.Numerals.{add-one}
 use lib.ListN.{length, getD, drop, drop-of-length-le}
 use lib.Seq.{drop-cons, drop-drop}
 use borrow.Author.Tests.{eq-eqb, ne-eqb}
-use Rattle.text.proofs.Reading.{Res, got, bad, ext, next, later, mapRes, mapped, after, seq, literal, more, number}
-use Rattle.text.proofs.Reading.{starts, either, readAt}
+use Rattle.text.specs.Reading.{Res, got, bad, ext, next, later, mapRes, mapped, after, seq, literal, more, number}
+use Rattle.text.specs.Reading.{starts, either, readAt}
 use Rattle.text.proofs.Digits.{NoDigit}
 use Rattle.scanner.specs.Steps.{Stands}
 use Rattle.scanner.specs.declared.Class.the-variants.{Digit}

@@ -4,7 +4,7 @@ use Prim.Native.Nat.{ℕ, _-_, _≤_, _<_}
 use mathlib.Core.Path.{_≡_}
 use mathlib.Core.List.{List}
 use lib.ListN.{length, getD}
-use Rattle.text.proofs.Reading.{Res, got, bad}
+use Rattle.text.specs.Reading.{Res, got, bad}
 use Rattle.scanner.specs.declared.Class.{Class}
 use Rattle.scanner.specs.declared.Class.the-variants.{End, Digit, Bracket, Space, LineEnd, Letter, Other}
 use Rattle.scanner.specs.declared.Read.{Read}

@@ -3,8 +3,8 @@
 ghost use mathlib.Core.Path.{_≡_};
 ghost use Prim.Native.Nat.{_≤_};
 ghost use lib.ListN.{drop};
-ghost use Rattle.text.proofs.Reading;
-ghost use Rattle.text.proofs.Reading.{readAt, mapRes, ext, starts};
+ghost use Rattle.text.specs.Reading;
+ghost use Rattle.text.specs.Reading.{readAt, mapRes, ext, starts};
 ghost use Rattle.scanner.specs.Steps.{Stands, ofRead, noValue};
 
 // What stands at a place of the text.

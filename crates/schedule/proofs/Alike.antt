@@ -10,7 +10,7 @@ use lib.ListN.{length}
 use borrow.Author.Tests.{ltb-true}
 use Rattle.schedule.specs.Walk.{Task, Job, released, release, sooner, pick, work, run, late}
 use Rattle.schedule.specs.Counted.{leftAt, lateTask}
-use Rattle.schedule.proofs.Stretch.{Going, ticked, ticks}
+use Rattle.schedule.specs.Stretch.{Going, ticked, ticks}
 
 pub record Alike (i j : Job) : Type 0 where
   pub task : i .task ≡ j .task

@@ -17,6 +17,7 @@ use Rattle.numbers.proofs.Tests.{bool-cases}
 use Rattle.numbers.proofs.Sums.{sum, over-end}
 use Rattle.schedule.specs.Walk.{Task, Job, released, release, sooner, pick, work, run, before, late, misses}
 use Rattle.schedule.specs.Counted.{ran, count, busyAt, idleAt, leftAt, preemptedAt, walkFrom}
+use Rattle.schedule.specs.Stretch.{Going, cuts, stays, ticked, ticks}
 use Rattle.schedule.proofs.Picked.{leftOf, run-cases, run-left, sooner-left}
 use Rattle.schedule.proofs.State.{before-all, length-before, length-released}
 use Rattle.schedule.proofs.Done.{busy-or-idle}
@@ -77,41 +78,10 @@ pick-left [] h = absurd (omega arith)
 pick-left (j ∷ js) h =
     ⊎-elim (λ w. rw (w .0) (w .1)) (λ w. rw (w .0) (pick-left js (omega (arith, w .0)))) (run-cases j js)
 
--- ---- what a walk holds: its jobs, the counts, and the place of the job of the tick before where it is unfinished,
--- else the number of jobs
-pub record Going : Type 0 where
-  pub jobs : List Job
-  pub busy : ℕ
-  pub idle : ℕ
-  pub preempted : ℕ
-  pub last : ℕ
-
+-- ---- what a walk holds
 pub same-going : {js js′ : List Job} {b b′ i i′ p p′ l l′ : ℕ} → js ≡ js′ → b ≡ b′ → i ≡ i′ → p ≡ p′ → l ≡ l′ →
     _≡_ {A = Going} (record { jobs = js; busy = b; idle = i; preempted = p; last = l }) (record { jobs = js′; busy = b′; idle = i′; preempted = p′; last = l′ })
 same-going e f g h k = rw (e, f, g, h, k) refl
-
--- 1 where the job at b runs and another, at last, is unfinished.
-unfoldable pub cuts : ℕ → ℕ → ℕ → ℕ
-cuts n b last = count (ltb b n && (ltb last n && not (eqb b last)))
-
--- b where its job is unfinished, else n.
-abbrev pub stays : ℕ → List Job → ℕ → ℕ
-stays n js b = cond (ltb 0 (leftAt js b)) b n
-
--- One tick, after its releases: document 01's.
-abbrev pub ticked : Going → Going
-ticked g = record {
-  jobs = run (g .jobs);
-  busy = g .busy + count (ltb (pick (g .jobs)) (length (g .jobs)));
-  idle = g .idle + count (not (ltb (pick (g .jobs)) (length (g .jobs))));
-  preempted = g .preempted + cuts (length (g .jobs)) (pick (g .jobs)) (g .last);
-  last = stays (length (g .jobs)) (run (g .jobs)) (pick (g .jobs));
-}
-
--- So many ticks, with no release after the first of them.
-abbrev pub ticks : ℕ → Going → Going
-ticks zero g = g
-ticks (suc m) g = ticks m (ticked g)
 
 pub ticks-join : (m r : ℕ) (g : Going) → ticks (m + r) g ≡ ticks r (ticks m g)
 ticks-join zero r g = ap (λ (x : ℕ). ticks x g) (zero-add r)

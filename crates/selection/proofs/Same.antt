@@ -10,14 +10,8 @@ use lib.ListN.{getD}
 use Rattle.numbers.specs.Numbers.{ceil, total, LeastPower}
 use Rattle.numbers.proofs.Sums.{total-same}
 use Rattle.selection.specs.Plan.{Problem, IsPlan, Fitting, planLoad, planEnergy, roundedTask, rounded, IsLeastOf, NotAfter, IsChosenOf, fastest, IsUsedOf, IsPlanned}
+use Rattle.selection.specs.Same.{Same}
 use Rattle.selection.proofs.Fastest.{fastest-plan}
-
-pub record Same (p q : Problem) : Type 0 where
-  pub count : p .count ≡ q .count
-  pub rates : p .rates ≡ q .rates
-  pub limit : p .limit ≡ q .limit
-  pub loads : (t r : ℕ) → t < p .count → 1 ≤ r → r ≤ p .rates → p .load t r ≡ q .load t r
-  pub energies : (t r : ℕ) → t < p .count → 1 ≤ r → r ≤ p .rates → p .energy t r ≡ q .energy t r
 
 -- It does not matter which of the two comes first, so that what follows is shown one way only.
 same-sym : {p q : Problem} → Same p q → Same q p

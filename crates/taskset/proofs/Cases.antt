@@ -40,7 +40,8 @@ use Rattle.taskset.proofs.Checks.{nothing, same, refuses-early, refuses
 use Rattle.taskset.proofs.Verdict.{isBad, isFall, isOver, isBelow, hasBelow, shapeOf, coverOf, afterShape}
 use Rattle.taskset.proofs.Verdict.{checkedOf, coveredOf, checked-answers, covered-answers}
 use Rattle.taskset.proofs.PlanVerdict.{isUnfit, planVerdict, PlanSays, plan-verdict-says}
-use Rattle.taskset.proofs.Sets.{IsSet, set-of, falling}
+use Rattle.taskset.specs.Sets.{IsSet}
+use Rattle.taskset.proofs.Sets.{set-of, falling}
 use Rattle.taskset.proofs.DemandThree.{planner-plans, answer-owes, walk-owes}
 use Rattle.taskset.proofs.Margin.{allowance, margin-reached}
 

@@ -36,9 +36,11 @@ use Rattle.taskset.proofs.Checks.{no-plan-fault, numbered, lacks, Witho
 use Rattle.taskset.proofs.Checks.{refuses-next, refuses-cases, refuses-last, passed, not-both}
 use Rattle.layout.proofs.Whole.{slack-in, first-in}
 use Rattle.layout.specs.declared.Layout.the-variants.{Ordinary}
-use Rattle.taskset.proofs.Sets.{IsSet, set-of, regular, walk-load, keeps-iff-load}
+use Rattle.taskset.specs.Sets.{IsSet}
+use Rattle.taskset.proofs.Sets.{set-of, regular, walk-load, keeps-iff-load}
 use Rattle.taskset.proofs.Released.{load-keeps, keeps-load, together-last, together-tasks}
-use Rattle.taskset.proofs.Idle.{Covered, covered-of, reported-is}
+use Rattle.taskset.specs.Sets.{Covered}
+use Rattle.taskset.proofs.Idle.{covered-of, reported-is}
 
 -- A bound between two numbers holds with the same added to both.
 more-on-both : (G a b c : ℕ) → 1000 * a ≤ (1000 + G) * b → 1000 * (a + c) ≤ (1000 + G) * (b + c)

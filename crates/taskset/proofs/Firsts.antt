@@ -13,7 +13,8 @@ use Rattle.numbers.proofs.Search.{lowest-same}
 use Rattle.numbers.proofs.Sums.{total-same}
 use Rattle.numbers.proofs.Multiples.{running-same}
 use Rattle.selection.specs.Plan.{IsPlan, Fitting, IsPlanned, workWords}
-use Rattle.selection.proofs.Same.{Same, load-same, fitting-same, planned-same}
+use Rattle.selection.specs.Same.{Same}
+use Rattle.selection.proofs.Same.{load-same, fitting-same, planned-same}
 use Rattle.layout.specs.Words.{extraSize, headSize, word, slack, slackPlace, idle, idlePlace, rateCount, taskCount}
 use Rattle.layout.specs.Words.{ratePlace, taskCountPlace, taskSize, periodPlace, energyPlace, rate, period, cycles, energy}
 use Rattle.layout.specs.Words.{firstPlace, taskKind, kindAt}

@@ -17,19 +17,12 @@ use Rattle.layout.specs.declared.Layout.{Layout}
 use Rattle.layout.specs.declared.Layout.the-variants.{Ordinary}
 use Rattle.taskset.specs.Quantities.{jobTime, hyperPeriod, taskLoad, taskEnergy, netEnergy, taskNet, problem}
 use Rattle.taskset.specs.Quantities.{jobsEnergy, reportedEnergy}
+use Rattle.taskset.specs.Sets.{Covered, Below}
 use Rattle.taskset.specs.Refusals.{IsBelowIdle, Passes, idleCheck}
 use Rattle.taskset.proofs.Checks.{no-energy-fault}
 
--- Every energy is at least what idle ticks draw in the job's time.
-abbrev pub Covered : Layout → List ℕ → Type 0
-Covered layout s = (t r : ℕ) → t < taskCount layout s → 1 ≤ r → r ≤ rateCount layout s → idle s * jobTime layout s t r ≤ energy layout s t r
-
 -- ---- check 10
 module _ (layout : Layout) (s : List ℕ) where
-  -- The energy of the task at t at rate number r is below.
-  abbrev pub Below : ℕ → ℕ → Type 0
-  Below t r = energy layout s t r < idle s * jobTime layout s t r
-
   pub covered-of : Passes (idleCheck layout s) → Covered layout s
   covered-of pass t r l a b =
       ⊎-elim
@@ -72,9 +65,9 @@ module _ (layout : Layout) (s : List ℕ) where
       (lt-or-le u t)
 
   -- The first energy that is below: at the first task that has one, the first of that task's.
-  pub first-below : (t r : ℕ) → t < taskCount layout s → 1 ≤ r → r ≤ rateCount layout s → Below t r
-      → ((u : ℕ) → u < t → (q : ℕ) → 1 ≤ q → q ≤ rateCount layout s → Below u q → ⊥)
-      → ((q : ℕ) → 1 ≤ q → q < r → Below t q → ⊥)
+  pub first-below : (t r : ℕ) → t < taskCount layout s → 1 ≤ r → r ≤ rateCount layout s → Below layout s t r
+      → ((u : ℕ) → u < t → (q : ℕ) → 1 ≤ q → q ≤ rateCount layout s → Below layout s u q → ⊥)
+      → ((q : ℕ) → 1 ≤ q → q < r → Below layout s t q → ⊥)
       → IsBelowIdle layout s (energyPlace layout (rateCount layout s) t r)
   first-below t r l a b h tasks rates = record {
     here = record { task = t; is-task = l; rate = r; from-1 = a; to-m = b; place = refl; below = h };

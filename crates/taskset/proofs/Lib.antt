@@ -8,9 +8,6 @@ pub mod Small
 pub mod DemandThree
 pub mod Margin
 pub mod Copied
-pub mod Writing
-pub mod Stores
-pub mod Rows
 pub mod Unique
 pub mod TwoEngines
 pub mod DullCases

@@ -17,8 +17,10 @@ use Rattle.layout.specs.Words.{slack, taskCount}
 use Rattle.layout.specs.declared.Layout.the-variants.{Ordinary}
 use Rattle.taskset.specs.Quantities.{hyperLimit, problem, taskNet, reportedEnergy}
 use Rattle.taskset.specs.DemandThree.{Keeps, margin, IsLeast, PlanPromise}
-use Rattle.taskset.proofs.Sets.{IsSet, task-net-small}
-use Rattle.taskset.proofs.Idle.{Covered, reported-is}
+use Rattle.taskset.specs.Sets.{IsSet}
+use Rattle.taskset.proofs.Sets.{task-net-small}
+use Rattle.taskset.specs.Sets.{Covered}
+use Rattle.taskset.proofs.Idle.{reported-is}
 
 -- What the slack allows of an energy e: e × G / (1000 + G), rounded down.
 abbrev pub allowance : List ℕ → ℕ → ℕ

@@ -25,7 +25,7 @@ use Rattle.layout.specs.Words.{taskCount, period, first}
 use Rattle.layout.specs.declared.Layout.{Layout}
 use Rattle.taskset.specs.Quantities.{hyperLimit, allZero, jobTime, hyperPeriod, taskLoad, problemOf, endlessTasks}
 use Rattle.taskset.specs.Quantities.{tasksWith, walkTasks, lastTick}
-use Rattle.taskset.proofs.Sets.{IsSet}
+use Rattle.taskset.specs.Sets.{IsSet}
 
 -- ---- all are 0
 pub all-zero : (f : ℕ → ℕ) (n : ℕ) → ((t : ℕ) → t < n → f t ≡ 0) → allZero f n ≡ true

@@ -22,17 +22,12 @@ use Rattle.selection.proofs.Fastest.{Falling}
 use Rattle.layout.specs.Words.{mostTasks, mostIdle, headSize, word, idle, rateCount, taskCount, ratePlace, rate, period, energy}
 use Rattle.taskset.specs.Quantities.{hyperLimit, jobTime, hyperPeriod, taskLoad, taskEnergy, netEnergy, taskNet}
 use Rattle.taskset.specs.Quantities.{problemOf, endlessTasks}
+use Rattle.taskset.specs.Sets.{IsSet}
 use Rattle.taskset.specs.Refusals.{RateFault, PassesLimit, Passes, Accepts, _▹_, wordCheck, rateCheck, wordChecks, hyperCheck}
 use Rattle.taskset.proofs.Checks.{accepts-next, no-word-fault, no-rate-fault, none-passes}
-use Rattle.layout.proofs.Whole.{IsWhole, whole-of, whole-iff, idle-in}
+use Rattle.layout.specs.Whole.{IsWhole}
+use Rattle.layout.proofs.Whole.{whole-of, whole-iff, idle-in}
 use Rattle.layout.specs.declared.Layout.{Layout}
-
-pub record IsSet (layout : Layout) (s : List ℕ) : Type 0 where
-  pub whole : IsWhole layout s
-  pub ascending : (r : ℕ) → 1 ≤ r → r < rateCount layout s → rate layout s r < rate layout s (suc r)
-  pub hyper-range : (1 ≤ hyperPeriod layout s) × (hyperPeriod layout s ≤ hyperLimit)
-  pub divides : (t : ℕ) → t < taskCount layout s → period layout s t ∣ hyperPeriod layout s
-  pub least : (c : ℕ) → ((t : ℕ) → t < taskCount layout s → period layout s t ∣ c) → hyperPeriod layout s ∣ c
 
 module _ (layout : Layout) (s : List ℕ) where
   ascends : ((q : ℕ) → RateFault layout s q → ⊥) → (r : ℕ) → 1 ≤ r → r < rateCount layout s → rate layout s r < rate layout s (suc r)

@@ -21,7 +21,8 @@ use Rattle.layout.specs.declared.Kind.{Kind}
 use Rattle.layout.specs.declared.Kind.the-variants.{RateCount, TaskCount}
 use Rattle.taskset.proofs.Checks.{no-word-fault, refuses-cases, passed}
 use Rattle.layout.proofs.Places.{kind-rates, kind-tasks, kind-past}
-use Rattle.layout.proofs.Whole.{IsWhole, whole-of, slack-in}
+use Rattle.layout.specs.Whole.{IsWhole}
+use Rattle.layout.proofs.Whole.{whole-of, slack-in}
 use Rattle.layout.proofs.Layouts.{head-few, extra-few, task-words}
 use Rattle.layout.specs.declared.Layout.the-variants.{Ordinary}
 

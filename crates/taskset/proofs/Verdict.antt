@@ -26,7 +26,8 @@ use Rattle.taskset.specs.declared.Shape.the-variants.{Whole, Refused as 
 use Rattle.taskset.specs.declared.Checked.{Checked}
 use Rattle.taskset.specs.declared.Checked.the-variants.{Good, Refused as NotGood}
 use Rattle.taskset.proofs.Checks.{accepts-next, refuses-next, refuses-before}
-use Rattle.taskset.proofs.Idle.{Covered, Below, covered-passes, first-below}
+use Rattle.taskset.specs.Sets.{Covered, Below}
+use Rattle.taskset.proofs.Idle.{covered-passes, first-below}
 
 module _ (layout : Layout) (s : List ℕ) where
   unfoldable pub isBad : ℕ → Bool

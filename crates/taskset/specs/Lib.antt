@@ -2,3 +2,4 @@ pub mod Quantities
 pub mod Refusals
 pub mod Calls
 pub mod DemandThree
+pub mod Sets

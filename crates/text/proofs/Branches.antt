@@ -9,7 +9,7 @@ use mathlib.Core.Logic.{_⊎_, ⊎-elim}
 use native.Mathlib.Omega.{arith}
 use lib.ListN.{length, take}
 use lib.Dec.{eqb}
-use Rattle.text.proofs.Reading.{Res, got, bad, ext, mapRes, mapped, starts, either}
+use Rattle.text.specs.Reading.{Res, got, bad, ext, mapRes, mapped, starts, either}
 use Rattle.text.proofs.Pieces.{Good, LocalAt, Piece}
 use Rattle.text.proofs.Literals.{same-head}
 

@@ -30,7 +30,7 @@ use Rattle.taskset.proofs.Cases.{S-from, chip-set, slow-or-fast}
 use Rattle.text.specs.Text.{TaskLine, Clock, rates, chip, Script, bytes, digits, decimal, scriptText, TaskLineOk, ScriptOk, IsTextOf}
 use Rattle.text.specs.Text.{WellFormed, FirstBad, ratesOf, headWords, words, scriptOf}
 use Rattle.text.specs.Calls.{WorksOut, HasOver, readerChecks, writerChecks}
-use Rattle.text.proofs.Reading.{literal, more, number, many, readText}
+use Rattle.text.specs.Reading.{literal, more, number, many, readText}
 use Rattle.text.proofs.Pieces.{no-first-bad}
 use Rattle.text.proofs.Copies.{is-read, is-refused, NoneOver, takes}
 

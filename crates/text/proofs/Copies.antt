@@ -10,7 +10,8 @@ use Rattle.taskset.specs.Refusals.{number, second, IsShort, Passes, Accepts, ro
 use Rattle.taskset.specs.declared.CopyAnswer.{CopyAnswer}
 use Rattle.taskset.specs.declared.CopyAnswer.the-variants.{Wrote, Refused as NotCopied}
 use Rattle.taskset.proofs.Checks.{AllSingle, lowest-single, not-both, no-word-fault}
-use Rattle.layout.proofs.Whole.{IsWhole, whole-of}
+use Rattle.layout.specs.Whole.{IsWhole}
+use Rattle.layout.proofs.Whole.{whole-of}
 use Rattle.layout.specs.declared.Layout.the-variants.{Ordinary}
 use Rattle.taskset.specs.Calls.{Copied}
 use Rattle.taskset.proofs.Unique.{refusal-unique, short-single, single-next, word-single, copy-unique}
@@ -18,7 +19,7 @@ use Rattle.taskset.proofs.Copied.{SameCopied, copied-one}
 use Rattle.text.specs.Text.{Script, scriptText, IsTextOf, WellFormed, FirstBad, words, scriptOf}
 use Rattle.text.specs.Calls.{WorksOut, HasOver, overCheck, wordsCheck, readerChecks, ReaderGives}
 use Rattle.text.specs.Calls.{writerChecks, WriterGives}
-use Rattle.text.proofs.Reading.{Res, got, bad, readText}
+use Rattle.text.specs.Reading.{Res, got, bad, readText}
 use Rattle.text.proofs.Pieces.{first-bad-one, no-first-bad}
 use Rattle.text.proofs.Grammar.{Answer, read-render, read-right}
 use Rattle.text.proofs.RoundTrip.{words-of-list, script-of-list}

@@ -5,7 +5,7 @@ use mathlib.Core.Path.{_≡_}
 use mathlib.Core.List.{List, [], _∷_}
 use mathlib.Core.Bool.{true, false}
 use Rattle.numbers.proofs.Tests.{between-true, true-between}
-use Rattle.text.proofs.Reading.{isDigit}
+use Rattle.text.specs.Reading.{isDigit}
 
 pub digit : (b : ℕ) → 48 ≤ b → b ≤ 57 → isDigit b ≡ true
 digit b h k = true-between 48 57 b h k

@@ -19,7 +19,7 @@ use Rattle.layout.specs.Words.{headKinds, extraKinds, headSize, extraSize, head
 use Rattle.layout.specs.Words.{mostIdle, mostEnergy, word, idle, rateCount, taskCount}
 use Rattle.layout.specs.Words.{taskSize, periodPlace, rate, period, cycles, first, energy}
 use Rattle.layout.specs.declared.Layout.the-variants.{Ordinary}
-use Rattle.layout.proofs.Whole.{IsWhole}
+use Rattle.layout.specs.Whole.{IsWhole}
 use Rattle.layout.proofs.Built.{built}
 use Rattle.layout.proofs.Built as laws
 use Rattle.chips.specs.Chips.{chipCount, chipRate, chipEnergy, chipRates, chipEnergies, chipIdle}
@@ -27,7 +27,8 @@ use Rattle.chips.specs.declared.Chip.{Chip}
 use Rattle.chips.proofs.Limits.{mostCycles, most-cycles, longer-over}
 use Rattle.chips.proofs.Tables.{count-range, rates-length, rate-range, rates-rise, idle-range, energy-positive, energy-above-idle}
 use Rattle.taskset.specs.Refusals.{Passes, Accepts, wordChecks, idleCheck}
-use Rattle.taskset.proofs.Idle.{Covered, covered-passes}
+use Rattle.taskset.specs.Sets.{Covered}
+use Rattle.taskset.proofs.Idle.{covered-passes}
 use Rattle.taskset.proofs.Sets.{words-pass}
 use Rattle.text.specs.Text.{TaskLine, chip, Script, energyCount, TaskLineOk, ScriptOk, IsTextOf}
 use Rattle.text.specs.Text.{idleOf, headWords, firstOf, extraWords, taskWords, words}

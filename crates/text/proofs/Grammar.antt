@@ -16,9 +16,9 @@ use Rattle.chips.specs.declared.Chip.the-variants.{Xscale, Ppc405lp}
 use Rattle.text.specs.Text.{TaskLine, Clock, rates, chip, Script, bytes, decimal, spaced, energyText, taskText}
 use Rattle.text.specs.Text.{firstText, chipName, clockText, idleText, scriptText}
 use Rattle.text.specs.Text.{Word, Between, MaybeWord, ClockOk, energyCount, TaskLineOk, ScriptOk, IsTextOf, WellFormed, FirstBad}
-use Rattle.text.proofs.Reading.{Res, got, bad, later, seq, skip, upTo, field, numbers, starts, both}
-use Rattle.text.proofs.Reading.{absent, optional, mkTask, mkScript, readEnergies, readFirst, readEnding, readTask, readTasks}
-use Rattle.text.proofs.Reading.{readName, readIdle, readHead, readChip, readClock, readScript, readText, readAt}
+use Rattle.text.specs.Reading.{Res, got, bad, later, seq, skip, upTo, field, numbers, starts, both}
+use Rattle.text.specs.Reading.{absent, optional, mkTask, mkScript, readEnergies, readFirst, readEnding, readTask, readTasks}
+use Rattle.text.specs.Reading.{readName, readIdle, readHead, readChip, readClock, readScript, readText, readAt}
 use Rattle.text.proofs.Pieces.{Good, Piece, seq-piece, Form, Right, whole-exact, whole-right, first-bad-same}
 use Rattle.text.proofs.Literals.{literal-piece, Any}
 use Rattle.text.proofs.Branches.{map-piece, either-piece}

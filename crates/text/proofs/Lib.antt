@@ -1,4 +1,3 @@
-pub mod Reading
 pub mod Pieces
 pub mod Literals
 pub mod Branches

@@ -8,7 +8,7 @@ use native.Mathlib.Omega.{arith}
 use lib.ListN.{length, take}
 use lib.Dec.{eqb}
 use borrow.Author.Tests.{eq-eqb, eqb-true}
-use Rattle.text.proofs.Reading.{Res, got, bad, ext, next, literal}
+use Rattle.text.specs.Reading.{Res, got, bad, ext, next, literal}
 use Rattle.text.proofs.Pieces.{Good, LocalAt, Piece}
 
 pub ext-next : {A : Type 0} (x : Res A) → ext (next x) ≡ suc (ext x)

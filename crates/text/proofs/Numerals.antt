@@ -10,7 +10,7 @@ use lib.ListN.{length, take, length-append}
 use lib.Dec.{T, eqb, ltb}
 use borrow.Author.Tests.{ne-eqb, eqb-true, eqb-false, lt-ltb, le-ltb, ltb-true, ltb-false}
 use Rattle.text.specs.Text.{digits, decimal, Word}
-use Rattle.text.proofs.Reading.{Res, got, bad, next, later, isDigit, more, number}
+use Rattle.text.specs.Reading.{Res, got, bad, next, later, isDigit, more, number}
 use Rattle.text.proofs.Digits.{digit, isDigit-true, NoDigit}
 use Rattle.text.proofs.Pieces.{Good, LocalAt, Piece}
 use Rattle.text.proofs.Literals.{local-next, local-stop}

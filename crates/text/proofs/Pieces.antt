@@ -15,7 +15,7 @@ use lib.Dec.{eqb}
 use borrow.Author.Tests.{eq-eqb, eqb-true, eqb-false}
 use Rattle.numbers.proofs.Tests.{lt-or-le}
 use Rattle.text.specs.Text.{FirstBad}
-use Rattle.text.proofs.Reading.{Res, got, bad, ext, later, mapRes, after, seq, ended}
+use Rattle.text.specs.Reading.{Res, got, bad, ext, later, mapRes, after, seq, ended}
 
 module _ {A : Type 0} (text : A → List ℕ) (Dom : A → Type 0) where
   -- what was read is the text of the value; what was passed before the bad byte begins some text

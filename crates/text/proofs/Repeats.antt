@@ -10,7 +10,7 @@ use native.Mathlib.Nat.{zero-add, suc-add}
 use lib.ListN.{length}
 use Rattle.numbers.specs.Numbers.{All, joined}
 use Rattle.text.specs.Text.{Between}
-use Rattle.text.proofs.Reading.{Res, got, seq, many, starts, either, nothing}
+use Rattle.text.specs.Reading.{Res, got, seq, many, starts, either, nothing}
 use Rattle.text.proofs.Pieces.{Piece, seq-piece}
 use Rattle.text.proofs.Branches.{either-piece}
 

@@ -12,7 +12,8 @@ use Rattle.numbers.specs.Numbers.{each, joined}
 use Rattle.numbers.proofs.Lists.{each-length, each-all}
 use Rattle.layout.specs.Words.{headKinds, extraKinds, headSize, extraSize, word, slack, idle, rateCount, taskCountPlace}
 use Rattle.layout.specs.Words.{taskCount, taskSize, periodPlace, rate, first, energy}
-use Rattle.layout.proofs.Whole.{IsWhole, in-list, slack-in, idle-in, first-in}
+use Rattle.layout.specs.Whole.{IsWhole}
+use Rattle.layout.proofs.Whole.{in-list, slack-in, idle-in, first-in}
 use Rattle.layout.specs.declared.Layout.the-variants.{Ordinary}
 use Rattle.text.specs.Text.{rates, Word, MaybeWord, TaskLineOk, ScriptOk, idleOf, headWords, firstOf, extraWords, taskWords, words}
 use Rattle.text.specs.Text.{listRates, shown, lineOf, scriptOf}

@@ -18,7 +18,7 @@ use Rattle.taskset.specs.declared.CopyAnswer.the-variants.{Wrote}
 use Rattle.taskset.proofs.Copied.{SameCopied}
 use Rattle.text.specs.Text.{TaskLine, Script, decimal, scriptText, IsTextOf, WellFormed, FirstBad, words, scriptOf}
 use Rattle.text.specs.Calls.{HasOver, readerChecks, ReaderGives, writerChecks, WriterGives}
-use Rattle.text.proofs.Reading.{Res, got, bad, readText}
+use Rattle.text.specs.Reading.{Res, got, bad, readText}
 use Rattle.text.proofs.Numerals as numerals
 use Rattle.text.proofs.Numerals.{said}
 use Rattle.text.proofs.Pieces.{first-bad-one, no-first-bad}
@@ -39,10 +39,6 @@ decimal-says = numerals.decimal-says
 -- Reading gives a script, and all of the text's bytes, just where the text is the text of that script.
 pub accepts-well-formed : (s : Script) (t : List ℕ) → (readText t ≡ got s (length t)) ↔ IsTextOf s t
 accepts-well-formed s t = ((λ e. is-read s t (length t) e .0), reads s t)
-
--- Reading refuses at an offset just where that is the first bad one.
-pub refuses-first-bad : (t : List ℕ) (o : ℕ) → (readText t ≡ bad o) ↔ FirstBad WellFormed t o
-refuses-first-bad t o = (is-refused t o, refuses t o)
 
 -- Every text is well formed or has a first bad offset.
 pub well-formed-or-bad : (t : List ℕ) → WellFormed t ⊎ ((o : ℕ) × FirstBad WellFormed t o)

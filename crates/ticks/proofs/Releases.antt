@@ -20,7 +20,8 @@ use Rattle.schedule.specs.Counted.{missed, kept, busyAt, idleAt, preemptedAt, l
 use Rattle.schedule.proofs.ByPlace.{length-tasks, all-tasks}
 use Rattle.schedule.proofs.Periodic.{multiples-apart}
 use Rattle.schedule.proofs.Offset.{offset-there, offset-before, offset-between, offset-released}
-use Rattle.schedule.proofs.Stretch.{Going, ticks, pending, goingAt, Quiet, stretch, Fits, counts-fit}
+use Rattle.schedule.specs.Stretch.{Going, ticks}
+use Rattle.schedule.proofs.Stretch.{pending, goingAt, Quiet, stretch, Fits, counts-fit}
 use Rattle.schedule.proofs.Alike.{AllAlike, AlikeGoing, late-alike, release-alike, ticks-alike}
 use Rattle.ticks.specs.Arrays.{jobsFrom, blank, going, Inside, Begun}
 use Rattle.ticks.specs.declared.State.{State}

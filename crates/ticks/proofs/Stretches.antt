@@ -11,7 +11,8 @@ use borrow.Author.Tests.{ltb-true, lt-ltb}
 use Rattle.numbers.proofs.Tests.{bool-cases}
 use Rattle.schedule.specs.Walk.{Task}
 use Rattle.schedule.specs.Counted.{count}
-use Rattle.schedule.proofs.Stretch.{same-going, cuts, cut-cases, ticked, ticks, ticks-join, more-left, ranFor, ticks-busy, idledFor, ticks-idle, Fits, ticks-fit}
+use Rattle.schedule.specs.Stretch.{cuts, ticked, ticks}
+use Rattle.schedule.proofs.Stretch.{same-going, cut-cases, ticks-join, more-left, ranFor, ticks-busy, idledFor, ticks-idle, Fits, ticks-fit}
 use Rattle.ticks.specs.Arrays.{blank, IsPick, going, listed, Inside, Early, TickReady, Ticked}
 use Rattle.ticks.specs.declared.Picked.{Picked}
 use Rattle.ticks.specs.declared.State.{State}

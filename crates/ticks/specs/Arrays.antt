@@ -8,7 +8,7 @@ use lib.Dec.{ltb}
 use lib.ListN.{length, getD, set, replicate}
 use Rattle.schedule.specs.Walk.{Task, offset, Job, pick, tasksFrom}
 use Rattle.schedule.specs.Counted.{leftAt, kept, missed, walk}
-use Rattle.schedule.proofs.Stretch.{Going, ticks}
+use Rattle.schedule.specs.Stretch.{Going, ticks}
 use Rattle.layout.specs.Words.{longestPeriod}
 use Rattle.taskset.specs.declared.WalkAnswer.{WalkAnswer}
 use Rattle.taskset.specs.declared.WalkAnswer.the-variants.{Kept, Missed, Refused}

@@ -12,21 +12,21 @@ use taskset::WalkAnswer;
 // its job's deadline, which is its next release: before its first job that first release. The ticks left of the job that
 // runs are held in `rest`, and its entry in the list is written after the call: so a tick changes no list; and the
 // numbers stand between the two lists: so the compiler copies neither.
-pub struct State {
-    pub left: [u32; 32],
-    pub busy: u32,
-    pub idle: u32,
-    pub preempted: u32,
-    pub rest: u32,
-    pub at: usize,
-    pub made: u32,
-    pub due: [u32; 32],
+struct State {
+    left: [u32; 32],
+    busy: u32,
+    idle: u32,
+    preempted: u32,
+    rest: u32,
+    at: usize,
+    made: u32,
+    due: [u32; 32],
 }
 
 // The job that runs next: its place and its ticks left; n and 0 where all jobs are finished.
-pub struct Picked {
-    pub place: usize,
-    pub left: u32,
+struct Picked {
+    place: usize,
+    left: u32,
 }
 
 // 1 where the job at `best` runs and another, at `at`, is unfinished with `rest` ticks left; else 0.
@@ -70,7 +70,7 @@ fn pick<'a>(left: &'a [u32; 32], due: &'a [u32; 32], n: usize) -> Picked
 
 impl State {
     // Before tick 0, where each task's first job is to come.
-    pub fn new(first: &[u32; 32], n: usize) -> State
+    fn new(first: &[u32; 32], n: usize) -> State
         ensures { λ r. ⌜ Begun (now (first .entry)) n r ⌝ }
     {
         State {
@@ -87,7 +87,7 @@ impl State {
 
     // One tick or more, with no release after the first of them: the job that is picked runs to its finish or to the
     // bound. Where there is none, all ticks up to the bound are idle.
-    pub fn tick(mut self, n: usize, room: u32, job: Picked) -> State
+    fn tick(mut self, n: usize, room: u32, job: Picked) -> State
         requires { ⌜ TickReady n room job self ⌝ }
         ensures { λ r. ⌜ Ticked n room job self r ⌝ }
     {

@@ -24,11 +24,13 @@ use Rattle.taskset.specs.declared.WalkAnswer.the-variants.{Kept, Missed, Refuse
 use Rattle.taskset.proofs.Checks.{accepts-next, refuses-next, refuses-before, passed}
 use Rattle.layout.proofs.Layouts.{head-few, extra-few, task-words}
 use Rattle.layout.proofs.Whole.{in-list, first-in}
-use Rattle.taskset.proofs.Sets.{IsSet, job-time-positive}
+use Rattle.taskset.specs.Sets.{IsSet}
+use Rattle.taskset.proofs.Sets.{job-time-positive}
 use Rattle.taskset.proofs.Released.{zeros-alike, last-fits}
 use Rattle.taskset.proofs.DemandThree.{plan-of, walk-set, walk-owes}
 use Rattle.ticks.specs.Arrays.{RunReady, taskAt, Says}
-use Rattle.walk.specs.Answers.{Walked, SetGiven, SoundPlan, Holds, columnAt, HasColumn, timeAt}
+use Rattle.walk.specs.Answers.{Walked}
+use Rattle.walk.specs.Steps.{SetGiven, SoundPlan, Holds, columnAt, HasColumn, timeAt}
 
 pub walked : (s P : List ℕ) (a : WalkAnswer) → WalkAnswers s P a → Walked s P a
 walked s P a h = record { answers = h; owes = walk-owes s P a h }

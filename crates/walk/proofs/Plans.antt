@@ -12,7 +12,7 @@ use lib.Seq.{getD-set-same, getD-set-other}
 use Rattle.numbers.specs.Numbers.{between}
 use Rattle.numbers.proofs.Tests.{below-more}
 use Rattle.taskset.specs.Refusals.{PlanFault, IsBadPlan}
-use Rattle.walk.specs.Answers.{Holds}
+use Rattle.walk.specs.Steps.{Holds}
 
 -- ---- check 8: the words before place k are 1 to m
 pub record PassedTo (m n : ℕ) (P : List ℕ) (k : ℕ) : Type 0 where

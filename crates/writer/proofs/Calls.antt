@@ -18,7 +18,7 @@ use Rattle.taskset.proofs.Checks.{passed, no-word-fault, accepts-next, refuses-
 use Rattle.taskset.proofs.Copied.{copied}
 use Rattle.text.specs.Text.{scriptText, scriptOf}
 use Rattle.text.specs.Calls.{WriterGives}
-use Rattle.taskset.proofs.Writing.{placed}
+use Rattle.lists.specs.Writing.{placed}
 use Rattle.printer.specs.Puts.{Put}
 use Rattle.writer.specs.Lines.{WithTasks}
 

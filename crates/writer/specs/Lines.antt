@@ -7,7 +7,7 @@ use mathlib.Core.Option.{Option, none, some}
 use Rattle.numbers.specs.Numbers.{joined}
 use Rattle.layout.specs.Words.{rateCount, taskCount}
 use Rattle.layout.specs.declared.Layout.the-variants.{Ordinary}
-use Rattle.layout.proofs.Whole.{IsWhole}
+use Rattle.layout.specs.Whole.{IsWhole}
 use Rattle.text.specs.Text.{bytes, decimal, spaced}
 
 -- A list that passes check 2, and its rate count.

@@ -9,7 +9,7 @@ use Rattle.numbers.proofs.Searches.{found-here, found-end, none-more}
 use Rattle.layout.specs.Words.{mostIdle, idle}
 use Rattle.taskset.specs.Quantities.{jobTime}
 use Rattle.layout.proofs.Whole.{idle-in}
-use Rattle.taskset.proofs.Idle.{Below}
+use Rattle.taskset.specs.Sets.{Below}
 use Rattle.checks.proofs.Access.{located}
 use borrow.Author.Needs.{needs}
 use Rattle.checks.proofs.below_rate.Statement.{statement}

@@ -2,7 +2,7 @@
 -- Assumes nothing.
 use Prim.Native.Nat.{_-_}
 use native.Mathlib.Omega.{arith}
-use Rattle.taskset.proofs.Rows.{Row, row-none, row-more, row-all}
+use Rattle.lists.proofs.Rows.{Row, row-none, row-more, row-all}
 use Rattle.chips.specs.Chips.{chipCount, chipEnergy, chipEnergies}
 use borrow.Author.Needs.{needs}
 use Rattle.chips.proofs.put_energies.Statement.{statement}

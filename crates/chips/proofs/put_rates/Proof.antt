@@ -2,7 +2,7 @@
 -- Assumes nothing.
 use Prim.Native.Nat.{_-_}
 use native.Mathlib.Omega.{arith}
-use Rattle.taskset.proofs.Rows.{Row, row-none, row-more, row-all}
+use Rattle.lists.proofs.Rows.{Row, row-none, row-more, row-all}
 use Rattle.chips.specs.Chips.{chipCount, chipRate, chipRates}
 use borrow.Author.Needs.{needs}
 use Rattle.chips.proofs.put_rates.Statement.{statement}

@@ -5,7 +5,7 @@ use native.Mathlib.Omega.{arith}
 use denote.Ref.{now}
 use Rattle.chips.proofs.Tables.{count-range}
 use Rattle.text.specs.Text.{bytes, chip}
-use Rattle.text.proofs.Reading.{got, literal, readAt}
+use Rattle.text.specs.Reading.{got, literal, readAt}
 use Rattle.scanner.specs.Steps.{ofRead, noValue}
 use Rattle.scanner.proofs.Places.{map-id, map-at, seq-at, took, lost}
 use Rattle.forms.specs.Forms.{ofChip}

@@ -2,7 +2,7 @@
 -- Assumes nothing.
 use mathlib.Core.Path.{_≡_, sym, ap, _∙_}
 use denote.Ref.{now}
-use Rattle.text.proofs.Reading.{got, literal, field, readAt}
+use Rattle.text.specs.Reading.{got, literal, field, readAt}
 use Rattle.scanner.specs.Steps.{ofRead, noValue}
 use Rattle.scanner.proofs.Places.{seq-at, took, lost}
 use borrow.Author.Needs.{needs}

@@ -4,7 +4,7 @@ use mathlib.Core.Path.{_≡_, ap}
 use denote.Ref.{now}
 use lib.ListN.{length}
 use Rattle.text.specs.Text.{bytes}
-use Rattle.text.proofs.Reading.{literal, upTo, numbers, readEnergies, readAt}
+use Rattle.text.specs.Reading.{literal, upTo, numbers, readEnergies, readAt}
 use Rattle.scanner.specs.Steps.{ofRead, noValue}
 use Rattle.scanner.proofs.Places.{map-id, seq-at, took, lost}
 use Rattle.forms.proofs.Lists.{departs, closed}

@@ -7,7 +7,7 @@ use native.Mathlib.Omega.{arith}
 use denote.Ref.{now}
 use lib.ListN.{drop}
 use Rattle.text.specs.Text.{firstOf}
-use Rattle.text.proofs.Reading.{mapRes, starts, readFirstForm, readAt}
+use Rattle.text.specs.Reading.{mapRes, starts, readFirstForm, readAt}
 use Rattle.scanner.proofs.Classes.{there, not-there, not-space}
 use Rattle.scanner.proofs.Places.{map-id}
 use Rattle.forms.proofs.Lists.{map-map}

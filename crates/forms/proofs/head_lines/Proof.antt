@@ -3,7 +3,7 @@
 use mathlib.Core.Path.{_≡_, sym, ap, _∙_}
 use denote.Ref.{now}
 use Rattle.text.specs.Text.{bytes}
-use Rattle.text.proofs.Reading.{got, bad, ext, mapRes, literal, field, both, readIdle, readHead, readAt}
+use Rattle.text.specs.Reading.{got, bad, ext, mapRes, literal, field, both, readIdle, readHead, readAt}
 use Rattle.scanner.specs.Steps.{ofRead, noValue}
 use Rattle.scanner.proofs.Places.{map-id, seq-at, took, lost}
 use Rattle.forms.specs.Forms.{ofIdle}

@@ -4,7 +4,7 @@ use mathlib.Core.Path.{_≡_, sym, ap, _∙_}
 use mathlib.Core.Option.{some}
 use denote.Ref.{now}
 use borrow.Author.Tests.{not-true, not-false}
-use Rattle.text.proofs.Reading.{mapRes, readIdleLine, readIdle, readAt}
+use Rattle.text.specs.Reading.{mapRes, readIdleLine, readIdle, readAt}
 use Rattle.scanner.specs.Steps.{ofRead}
 use Rattle.scanner.specs.declared.Read.{Read}
 use Rattle.forms.proofs.Words.{optional-none, optional-some}

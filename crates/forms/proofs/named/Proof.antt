@@ -1,7 +1,7 @@
 -- The chip, where its name stands.
 -- Assumes nothing.
 use mathlib.Core.Path.{ap}
-use Rattle.text.proofs.Reading.{literal, readAt}
+use Rattle.text.specs.Reading.{literal, readAt}
 use Rattle.scanner.specs.Steps.{ofRead, noValue}
 use Rattle.scanner.proofs.Places.{map-at, took, lost}
 use borrow.Author.Needs.{needs}

@@ -9,12 +9,12 @@ use native.Mathlib.Omega.{arith}
 use native.Mathlib.Nat.{mul-one}
 use denote.Ref.{now}
 use lib.ListN.{drop}
-use Rattle.text.proofs.Reading.{starts}
+use Rattle.text.specs.Reading.{starts}
 use Rattle.scanner.specs.Steps.{ofRead}
 use Rattle.scanner.proofs.Classes.{there, not-there, not-space}
 use Rattle.forms.specs.Forms.{spacedNumber}
 use Rattle.forms.proofs.Lists.{departs, alone, SoFar, none-yet, one-more, refused, stopped, full, plainly}
-use Rattle.taskset.proofs.Stores.{stored-alone}
+use Rattle.lists.proofs.Stores.{stored-alone}
 use borrow.Author.Needs.{needs}
 use Rattle.forms.proofs.numbers.Statement.{statement}
 use Rattle.forms.proofs.numbers.Tie as tie

@@ -5,7 +5,7 @@ use mathlib.Core.Path.{_≡_, refl, sym, ap}
 use denote.Ref.{now}
 use lib.ListN.{length}
 use Rattle.text.specs.Text.{bytes, rates}
-use Rattle.text.proofs.Reading.{got, literal, numbers, readAt}
+use Rattle.text.specs.Reading.{got, literal, numbers, readAt}
 use Rattle.scanner.specs.Steps.{ofRead, noValue}
 use Rattle.scanner.proofs.Places.{map-id, map-at, seq-at, Took, took, lost}
 use Rattle.forms.specs.declared.Clock.the-variants.{Rates}

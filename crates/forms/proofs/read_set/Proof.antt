@@ -11,9 +11,9 @@ use Rattle.layout.specs.Words.{headSize, mostRates, mostTasks, mostWords, perio
 use Rattle.layout.specs.declared.Layout.the-variants.{Ordinary}
 use Rattle.layout.proofs.Layouts.{head-few, words-few}
 use Rattle.text.specs.Text.{bytes, Script, ScriptOk, energyCount, idleOf, ratesOf, taskWords, words}
-use Rattle.text.proofs.Reading.{got, mapRes, literal, skip, both, mkScript, readHead, readTasks, readClock, readScript, readAt}
+use Rattle.text.specs.Reading.{got, mapRes, literal, skip, both, mkScript, readHead, readTasks, readClock, readScript, readAt}
 use Rattle.text.proofs.Grammar.{dom-of, clock-piece, script-piece}
-use Rattle.taskset.proofs.Writing.{written}
+use Rattle.lists.specs.Writing.{written}
 use Rattle.text.proofs.Sizes.{words-size}
 use Rattle.scanner.specs.Steps.{ofRead, noValue}
 use Rattle.scanner.proofs.Places.{map-id, onward, seq-at, Took, took, lost}

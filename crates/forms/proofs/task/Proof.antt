@@ -9,12 +9,12 @@ use lib.ListN.{length, length-set}
 use Rattle.layout.specs.declared.Layout.the-variants.{Ordinary}
 use Rattle.layout.proofs.Layouts.{first-in-extra}
 use Rattle.text.specs.Text.{bytes, firstOf, extraWords}
-use Rattle.text.proofs.Reading.{got, mapRes, literal, upTo, field, mkTask, both, readEnergies, readFirst, readEnding, readTask, readAt}
+use Rattle.text.specs.Reading.{got, mapRes, literal, upTo, field, mkTask, both, readEnergies, readFirst, readEnding, readTask, readAt}
 use Rattle.scanner.specs.Steps.{ofRead, noValue}
 use Rattle.scanner.proofs.Places.{map-id, seq-at, Took, took, lost}
 use Rattle.forms.specs.Forms.{energiesIn, energiesBy}
 use Rattle.forms.proofs.Lists.{departs, closed, map-map}
-use Rattle.taskset.proofs.Stores.{stored, in-front}
+use Rattle.lists.proofs.Stores.{stored, in-front}
 use Rattle.forms.proofs.Words.{task-front}
 use borrow.Author.Needs.{needs}
 use Rattle.forms.proofs.task.Statement.{statement}

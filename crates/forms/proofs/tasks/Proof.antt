@@ -15,7 +15,7 @@ use Rattle.layout.specs.Words.{mostRates, mostTasks, tasksPlace, taskSize, peri
 use Rattle.layout.specs.declared.Layout.the-variants.{Ordinary}
 use Rattle.layout.proofs.Places.{before-end}
 use Rattle.text.specs.Text.{TaskLine}
-use Rattle.text.proofs.Reading.{Res, readTask, starts, readAt}
+use Rattle.text.specs.Reading.{Res, readTask, starts, readAt}
 use Rattle.scanner.specs.Steps.{ofRead, noValue}
 use Rattle.scanner.proofs.Places.{took, lost}
 use Rattle.forms.specs.Forms.{Gives, ratesIn, energiesIn, wordsBy}

@@ -4,7 +4,7 @@ use Prim.Native.Nat.{_+_, _-_, _*_, _≤_, _<_}
 use mathlib.Core.Path.{refl}
 use native.Mathlib.Nat.{mul-le-mul}
 use native.Mathlib.Omega.{arith}
-use Rattle.taskset.proofs.Rows.{Row, row-none, row-more, row-all}
+use Rattle.lists.proofs.Rows.{Row, row-none, row-more, row-all}
 use borrow.Author.Needs.{needs}
 use Rattle.generator.proofs.put_energies.Statement.{statement}
 use Rattle.generator.proofs.put_energies.Tie as tie

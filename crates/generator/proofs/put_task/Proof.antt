@@ -6,7 +6,7 @@ use mathlib.Core.List.{List}
 use native.Mathlib.Omega.{arith}
 use denote.Ref.{now}
 use lib.ListN.{length, length-set}
-use Rattle.taskset.proofs.Writing.{written}
+use Rattle.lists.specs.Writing.{written}
 use Rattle.generator.proofs.Parts.{state-behind, task-words, task-written}
 use borrow.Author.Needs.{needs}
 use Rattle.generator.proofs.put_task.Statement.{statement}

@@ -5,8 +5,8 @@ use mathlib.Core.List.{List}
 use mathlib.Core.Path.{refl, ap, _∙_}
 use native.Mathlib.Omega.{arith}
 use denote.Ref.{now}
-use Rattle.taskset.proofs.Writing.{written}
-use Rattle.taskset.proofs.Rows.{Row, row-none, row-more, row-all, none, zeros}
+use Rattle.lists.specs.Writing.{written}
+use Rattle.lists.proofs.Rows.{Row, row-none, row-more, row-all, none, zeros}
 use borrow.Author.Needs.{needs}
 use Rattle.generator.proofs.put_zeros.Statement.{statement}
 use Rattle.generator.proofs.put_zeros.Tie as tie

@@ -8,7 +8,8 @@ use native.Mathlib.Numerals.{add-one}
 use denote.Ref.{now}
 use lib.ListN.{length, getD, set, take, length-set}
 use lib.Seq.{length-take-le, take-suc, take-length}
-use Rattle.taskset.proofs.Writing.{placed, placed-none, placed-one}
+use Rattle.lists.specs.Writing.{placed}
+use Rattle.lists.proofs.Writing.{placed-none, placed-one}
 use Rattle.printer.proofs.put_bytes.Statement.{statement}
 use Rattle.printer.proofs.put_bytes.Tie as tie
 

@@ -8,10 +8,10 @@ use native.Mathlib.Omega.{arith}
 use denote.Ref.{now}
 use lib.ListN.{length, replicate, take}
 use Rattle.layout.specs.Words.{mostWords}
-use Rattle.taskset.proofs.Writing.{placed, written}
+use Rattle.lists.specs.Writing.{placed, written}
 use Rattle.forms.specs.Forms.{ofSet, saidOf}
 use Rattle.forms.specs.declared.Said.{Said}
-use Rattle.text.proofs.Reading.{readScript, readAt}
+use Rattle.text.specs.Reading.{readScript, readAt}
 use Rattle.text.proofs.Copies.{NoneOver}
 use Rattle.text.specs.Text.{ScriptOk, words}
 use Rattle.scanner.proofs.Places.{Took, took, lost}

@@ -2,7 +2,7 @@
 -- Assumes nothing.
 use mathlib.Core.Path.{sym, ap, _∙_}
 use Rattle.scanner.specs.Steps.{ofRead, noValue}
-use Rattle.text.proofs.Reading.{literal, readAt}
+use Rattle.text.specs.Reading.{literal, readAt}
 use Rattle.scanner.proofs.Places.{seq-at, map-id, took, lost}
 use borrow.Author.Needs.{needs}
 use Rattle.scanner.proofs.field.Statement.{statement}

@@ -6,7 +6,7 @@ use native.Mathlib.Omega.{arith}
 use lib.ListN.{length, drop}
 use denote.Ref.{now}
 use Rattle.scanner.specs.Steps.{noValue}
-use Rattle.text.proofs.Reading.{literal, readAt, mapRes}
+use Rattle.text.specs.Reading.{literal, readAt, mapRes}
 use Rattle.scanner.proofs.Places as laws
 use Rattle.scanner.proofs.literal.Statement.{statement}
 use Rattle.scanner.proofs.literal.Tie as tie

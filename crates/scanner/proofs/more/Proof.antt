@@ -7,7 +7,7 @@ use native.Mathlib.Omega.{arith}
 use borrow.Author.Needs.{needs}
 use denote.Ref.{now}
 use lib.ListN.{length}
-use Rattle.text.proofs.Reading.{more, readAt}
+use Rattle.text.specs.Reading.{more, readAt}
 use Rattle.scanner.specs.Steps.{Stands}
 use Rattle.scanner.specs.declared.Class.the-variants.{Digit}
 use Rattle.scanner.proofs.Classes.{no-digit, not-digit}

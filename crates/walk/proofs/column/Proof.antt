@@ -7,7 +7,7 @@ use mathlib.Core.Path.{_≡_, refl, subst}
 use native.Mathlib.Nat.{suc-mul, mul-le-mul-right}
 use native.Mathlib.Numerals.{add-one}
 use native.Mathlib.Omega.{arith}
-use Rattle.walk.specs.Answers.{Holds, columnAt, HasColumn}
+use Rattle.walk.specs.Steps.{Holds, columnAt, HasColumn}
 use Rattle.walk.proofs.Plans.{holds-none, holds-more}
 use borrow.Author.Needs.{needs}
 use Rattle.walk.proofs.column.Statement.{statement}

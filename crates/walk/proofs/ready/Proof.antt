@@ -8,7 +8,7 @@ use Rattle.taskset.specs.Calls.{SetAfter}
 use Rattle.taskset.specs.declared.Checked.{Checked}
 use Rattle.taskset.specs.declared.Checked.the-variants.{Good}
 use Rattle.taskset.specs.Refusals.{_▹_, wordChecks, hyperCheck}
-use Rattle.walk.specs.Answers.{PlanAnswers}
+use Rattle.walk.specs.Steps.{PlanAnswers}
 use Rattle.walk.proofs.Calls.{set-refused, plan-refused, plan-sound}
 use borrow.Author.Needs.{needs}
 use Rattle.walk.proofs.ready.Statement.{statement}

@@ -3,7 +3,7 @@
 use Prim.Native.Nat.{ℕ, _≤_, _-_}
 use mathlib.Core.Path.{_≡_, refl, subst}
 use native.Mathlib.Omega.{arith}
-use Rattle.walk.specs.Answers.{Holds, timeAt}
+use Rattle.walk.specs.Steps.{Holds, timeAt}
 use Rattle.walk.proofs.Plans.{holds-none, holds-more}
 use borrow.Author.Needs.{needs}
 use Rattle.walk.proofs.times.Statement.{statement}

@@ -8,7 +8,7 @@ use native.Mathlib.Omega.{arith}
 use Rattle.layout.specs.Words.{taskSize, word, period, first}
 use Rattle.layout.specs.declared.Layout.the-variants.{Ordinary}
 use Rattle.layout.proofs.Layouts.{first-in-extra}
-use Rattle.walk.specs.Answers.{Holds, HasColumn}
+use Rattle.walk.specs.Steps.{Holds, HasColumn}
 use Rattle.walk.proofs.Calls.{set-given, few-rates, hyper-fits, sound-plan, has-column, column-holds, run-ready, says-walked}
 use Rattle.walk.proofs.walk_checked.Statement.{statement}
 use Rattle.walk.proofs.walk_checked.Tie as tie

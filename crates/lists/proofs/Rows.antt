@@ -7,8 +7,9 @@ use native.Mathlib.Omega.{arith}
 use lib.ListN.{length, set, length-set, replicate}
 use Rattle.numbers.specs.Numbers.{each}
 use Rattle.numbers.proofs.Lists.{each-length, each-more}
-use Rattle.taskset.proofs.Writing.{written, written-none, extend}
-use Rattle.taskset.proofs.Stores.{stored-alone}
+use Rattle.lists.specs.Writing.{written}
+use Rattle.lists.proofs.Writing.{written-none, extend}
+use Rattle.lists.proofs.Stores.{stored-alone}
 
 -- The first k of n words, f 1, f 2 and so on, stand in the list from a place on: d is the list before, e now.
 pub record Row (f : ℕ → ℕ) (n at : ℕ) (d : List ℕ) (k : ℕ) (e : List ℕ) : Type 0 where

@@ -1,7 +1,6 @@
--- Reading as a definition: what a reader of each piece, and of all of a text, gives at the front of a list of bytes.
--- What the calls promise does not speak of it: it is the step between the definitions, whose well-formed texts are just
--- those that it accepts, and the code.
--- Assumes nothing.
+-- Reading as a definition: what a reader of each piece, and of all of a text, gives at the front of a list of bytes. Not
+-- part of what a reader must believe: what the calls promise does not speak of it, and it is the step between the
+-- definitions, whose well-formed texts are just those that it accepts, and the code.
 use Prim.Native.Nat.{ℕ, zero, suc, _+_, _-_, _*_, _^_}
 use mathlib.Core.List.{List, [], _∷_}
 use mathlib.Core.Bool.{Bool, false, cond}

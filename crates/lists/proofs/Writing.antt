@@ -7,14 +7,7 @@ use mathlib.Core.List.{List, [], _∷_, _++_, append-assoc}
 use native.Mathlib.Omega.{arith}
 use lib.ListN.{length, getD, take, drop, set, length-append, length-drop, take-append-drop}
 use lib.Seq.{drop-cons, set-at, append-snoc, take-at, drop-at, length-take-le, drop-drop}
-
--- xs at the front of d, and what lies after stays.
-unfoldable pub placed : List ℕ → List ℕ → List ℕ
-placed xs d = xs ++ drop (length xs) d
-
--- xs from a place of d on, and all else stays.
-unfoldable pub written : ℕ → List ℕ → List ℕ → List ℕ
-written at xs d = take at d ++ placed xs (drop at d)
+use Rattle.lists.specs.Writing.{placed, written}
 
 pub placed-none : (d : List ℕ) → d ≡ placed [] d
 unfolding placed

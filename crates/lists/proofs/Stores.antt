@@ -8,7 +8,8 @@ use native.Mathlib.Nat.{add-suc, add-assoc}
 use native.Mathlib.Numerals.{add-one}
 use lib.ListN.{length, take, drop, set, length-append}
 use lib.Seq.{sets, sets-eq, take-append-le, take-take, drop-at, drop-drop, length-take-le}
-use Rattle.taskset.proofs.Writing.{placed, written, written-none}
+use Rattle.lists.specs.Writing.{placed, written}
+use Rattle.lists.proofs.Writing.{written-none}
 
 -- `stored k (a ∷ b ∷ c ∷ []) d` is `set (set (set d k a) (k + 1) b) (k + 2) c`, as the code has it.
 abbrev storedOn : ℕ → ℕ → List ℕ → List ℕ → List ℕ
