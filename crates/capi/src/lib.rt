@@ -12,7 +12,7 @@ use generator::Room;
 use taskset::Checked;
 use taskset::PlannerAnswer;
 use taskset::Refusal;
-use taskset::WalkAnswer;
+use ticks::WalkEnd;
 
 // A refusal in one number: its number times 2^32, plus its second number.
 fn code_of(r: Refusal) -> u64
@@ -84,10 +84,9 @@ pub extern "C" fn seedspell_walk(set: &[u32], plan: &[u32], results: &mut [u8]) 
             if room < 32 {
                 return code_of(Refusal::TooShort(32));
             }
-            let answer = walk::walk_checked(set, plan, rates, tasks, hyper);
-            match answer {
-                WalkAnswer::Refused(r) => code_of(r),
-                WalkAnswer::Kept {
+            let end = walk::walk_checked(set, plan, rates, tasks, hyper);
+            match end {
+                WalkEnd::Kept {
                     busy,
                     idle,
                     preempted,
@@ -95,7 +94,7 @@ pub extern "C" fn seedspell_walk(set: &[u32], plan: &[u32], results: &mut [u8]) 
                     put_values(results, 1, busy, idle, preempted);
                     0
                 }
-                WalkAnswer::Missed { tick, task } => {
+                WalkEnd::Missed { tick, task } => {
                     put_values(results, 0, tick, task, 0);
                     0
                 }

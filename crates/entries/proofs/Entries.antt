@@ -12,8 +12,8 @@ use Rattle.taskset.specs.Calls.{code, SetAfter}
 use Rattle.taskset.specs.declared.Refusal.{Refusal}
 use Rattle.taskset.specs.declared.Refusal.the-variants.{TooShort}
 use Rattle.taskset.specs.declared.Checked.the-variants.{Refused as NotGood}
-use Rattle.taskset.specs.declared.WalkAnswer.the-variants.{Kept, Missed, Refused as NotWalked}
-use Rattle.taskset.proofs.Checks.{accepts-next, refuses-next, refuses-before, not-both}
+use Rattle.taskset.specs.declared.WalkAnswer.the-variants.{Kept, Missed}
+use Rattle.taskset.proofs.Checks.{accepts-next, refuses-next, refuses-before}
 use Rattle.taskset.proofs.Unique.{number-range}
 use Rattle.taskset.proofs.Released.{last-fits}
 use Rattle.taskset.proofs.DemandThree.{walk-set}
@@ -39,10 +39,6 @@ module _ (s P d : List ℕ) where
   pub ready-refused : (r : Refusal) (x : ℕ) → x ≡ code r → SetAfter (walkChecks s P) Ordinary s (NotGood r) → WalkEntry s P d d x
   ready-refused r x e h =
       refused r x e (refuses-before (walkChecks s P) (roomCheck resultSize (length d)) (number r) (second r) h)
-
-  -- After the checks the walk refuses nothing.
-  pub walk-refused : (r : Refusal) → Accepts (walkChecks s P) → Walked s P (NotWalked r) → ⊥
-  walk-refused r a w = not-both (walkChecks s P) (number r) (second r) a (w .answers)
 
   -- Too few result bytes, where the walk has an answer.
   pub results-short : (x : ℕ) → x ≡ code (TooShort 32) → Accepts (walkChecks s P) → length d < 32 → WalkEntry s P d d x

@@ -10,10 +10,10 @@ use Rattle.schedule.specs.Walk.{Task, offset, Job, pick, tasksFrom}
 use Rattle.schedule.specs.Counted.{leftAt, kept, missed, walk}
 use Rattle.schedule.specs.Stretch.{Going, ticks}
 use Rattle.layout.specs.Words.{longestPeriod}
-use Rattle.taskset.specs.declared.WalkAnswer.{WalkAnswer}
-use Rattle.taskset.specs.declared.WalkAnswer.the-variants.{Kept, Missed, Refused}
 use Rattle.ticks.specs.declared.Picked.{Picked}
 use Rattle.ticks.specs.declared.State.{State}
+use Rattle.ticks.specs.declared.WalkEnd.{WalkEnd}
+use Rattle.ticks.specs.declared.WalkEnd.the-variants.{Kept, Missed}
 
 -- The jobs of the n tasks from place i on, where k gives each place's task, by ticks left and deadlines.
 abbrev pub jobsFrom : (ℕ → Task) → List ℕ → List ℕ → ℕ → ℕ → List Job
@@ -114,7 +114,6 @@ abbrev pub taskAt : List ℕ → List ℕ → List ℕ → ℕ → Task
 taskAt p c a i = offset (getD a i 0) (getD p i 0) (getD c i 0)
 
 -- The answer is the definition's walk of n tasks with these periods, job times and first releases, to the tick end.
-abbrev pub Says : List ℕ → List ℕ → List ℕ → ℕ → ℕ → WalkAnswer → Type 0
+abbrev pub Says : List ℕ → List ℕ → List ℕ → ℕ → ℕ → WalkEnd → Type 0
 Says p c a n end (Kept busy idle preempted) = walk (tasksFrom (taskAt p c a) 0 n) end ≡ kept busy idle preempted
 Says p c a n end (Missed tick task) = walk (tasksFrom (taskAt p c a) 0 n) end ≡ missed tick task
-Says p c a n end (Refused r) = ⊥

@@ -5,7 +5,19 @@ ghost use mathlib.Core.Bool.{not, _&&_};
 ghost use lib.Dec.{ltb, eqb};
 ghost use Rattle.schedule.specs.Counted.{count};
 ghost use Rattle.ticks.specs.Arrays.{Early, IsPick, Begun, TickReady, Ticked, RunReady, Says};
-use taskset::WalkAnswer;
+
+// How a walk ends: kept, with its counts, or missed, at a tick by a task.
+pub enum WalkEnd {
+    Kept {
+        busy: u64,
+        idle: u64,
+        preempted: u64,
+    },
+    Missed {
+        tick: u64,
+        task: u64,
+    },
+}
 
 // What the walk holds: of each task the ticks left of its job; the counts so far; of the job of the tick before its ticks
 // left and its place, 0 and the number of tasks where there was none; how many ticks were made last; and of each task
@@ -112,7 +124,7 @@ impl State {
 // The walk of n tasks with periods p, job times c and first releases `first`, to the tick end. It goes from each tick
 // with a release to the next one, or to `end`, and in between from job to job; the loop over the ticks is left at the
 // first task with work left.
-pub fn run(p: &[u32; 32], c: &[u32; 32], first: &[u32; 32], n: usize, end: u32) -> WalkAnswer
+pub fn run(p: &[u32; 32], c: &[u32; 32], first: &[u32; 32], n: usize, end: u32) -> WalkEnd
     requires { ⌜ RunReady (now p) (now c) (now first) n end ⌝ }
     ensures { λ r. ⌜ Says (now (p .entry)) (now (c .entry)) (now (first .entry)) n end r ⌝ }
 {
@@ -150,12 +162,12 @@ pub fn run(p: &[u32; 32], c: &[u32; 32], first: &[u32; 32], n: usize, end: u32) 
         }
     }
     if 0 < late {
-        return WalkAnswer::Missed {
+        return WalkEnd::Missed {
             tick: t as u64,
             task: late as u64,
         };
     }
-    WalkAnswer::Kept {
+    WalkEnd::Kept {
         busy: s.busy as u64,
         idle: s.idle as u64,
         preempted: s.preempted as u64,

@@ -20,6 +20,8 @@ use Rattle.taskset.specs.declared.Refusal.{Refusal}
 use Rattle.taskset.specs.declared.Refusal.the-variants.{BadPlan}
 use Rattle.taskset.specs.declared.Checked.the-variants.{Good, Refused as NotGood}
 use Rattle.taskset.specs.declared.WalkAnswer.{WalkAnswer}
+use Rattle.ticks.specs.declared.WalkEnd.{WalkEnd}
+use Rattle.ticks.specs.declared.WalkEnd.the-variants.{Kept as EndsKept, Missed as EndsMissed}
 use Rattle.taskset.specs.declared.WalkAnswer.the-variants.{Kept, Missed, Refused as NotWalked}
 use Rattle.taskset.proofs.Checks.{accepts-next, refuses-next, refuses-before, passed}
 use Rattle.layout.proofs.Layouts.{head-few, extra-few, task-words}
@@ -30,7 +32,7 @@ use Rattle.taskset.proofs.Released.{zeros-alike, last-fits}
 use Rattle.taskset.proofs.DemandThree.{plan-of, walk-set, walk-owes}
 use Rattle.ticks.specs.Arrays.{RunReady, taskAt, Says}
 use Rattle.walk.specs.Answers.{Walked}
-use Rattle.walk.specs.Steps.{SetGiven, SoundPlan, Holds, columnAt, HasColumn, timeAt}
+use Rattle.walk.specs.Steps.{SetGiven, SoundPlan, Holds, columnAt, HasColumn, timeAt, answerOf}
 
 pub walked : (s P : List ℕ) (a : WalkAnswer) → WalkAnswers s P a → Walked s P a
 walked s P a h = record { answers = h; owes = walk-owes s P a h }
@@ -141,10 +143,9 @@ module _ (s P : List ℕ) (m n l : ℕ) (ready : SetAfter (walkChecks s P) Ordin
           (λ j b d. rw (periods .at j (omega arith), times .at j (omega arith), firsts .at j (omega arith)) refl) in
           ap (λ (ks : List Task). walk ks end) (same ∙ ap (tasksFrom place 0) (ready .2)) ∙ ap (walk (walkTasks Ordinary s P)) last-is
 
-      says-answers : (x : WalkAnswer) → Says p c a n end x → WalkAnswers s P x
-      says-answers (Kept b i q) h = (ready .0, sym (ap outcomeValues (sym walk-is ∙ h)))
-      says-answers (Missed t k) h = (ready .0, sym (ap outcomeValues (sym walk-is ∙ h)))
-      says-answers (NotWalked r) h = absurd h
+      says-answers : (x : WalkEnd) → Says p c a n end x → WalkAnswers s P (answerOf x)
+      says-answers (EndsKept b i q) h = (ready .0, sym (ap outcomeValues (sym walk-is ∙ h)))
+      says-answers (EndsMissed t k) h = (ready .0, sym (ap outcomeValues (sym walk-is ∙ h)))
 
-      pub says-walked : (x : WalkAnswer) → Says p c a n end x → Walked s P x
-      says-walked x h = walked s P x (says-answers x h)
+      pub says-walked : (x : WalkEnd) → Says p c a n end x → Walked s P (answerOf x)
+      says-walked x h = walked s P (answerOf x) (says-answers x h)

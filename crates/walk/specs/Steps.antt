@@ -8,6 +8,10 @@ use Rattle.layout.specs.declared.Layout.the-variants.{Ordinary}
 use Rattle.taskset.specs.Quantities.{jobTime}
 use Rattle.taskset.specs.Refusals.{IsBadPlan}
 use Rattle.taskset.specs.Sets.{IsSet}
+use Rattle.taskset.specs.declared.WalkAnswer.{WalkAnswer}
+use Rattle.taskset.specs.declared.WalkAnswer.the-variants.{Kept, Missed}
+use Rattle.ticks.specs.declared.WalkEnd.{WalkEnd}
+use Rattle.ticks.specs.declared.WalkEnd.the-variants.{Kept as EndsKept, Missed as EndsMissed}
 use Rattle.walk.specs.declared.PlanCheck.{PlanCheck}
 use Rattle.walk.specs.declared.PlanCheck.the-variants.{At, Sound}
 
@@ -45,3 +49,8 @@ pub record HasColumn (s : List ℕ) (at step n : ℕ) : Type 0 where
 -- The job time of the task at t under plan P.
 abbrev pub timeAt : List ℕ → List ℕ → ℕ → ℕ
 timeAt s P t = jobTime Ordinary s t (getD P t 0)
+
+-- The answer of a walk that ends so.
+abbrev pub answerOf : WalkEnd → WalkAnswer
+answerOf (EndsKept busy idle preempted) = Kept busy idle preempted
+answerOf (EndsMissed tick task) = Missed tick task

@@ -12,11 +12,12 @@ ghost use Rattle.taskset.specs.Refusals.{walkChecks};
 ghost use Rattle.taskset.specs.Calls.{SetAfter};
 ghost use Rattle.taskset.specs.declared.Checked.the-variants.{Good};
 ghost use Rattle.walk.specs.Answers.{Walked};
-ghost use Rattle.walk.specs.Steps.{PlanAnswers, Holds, columnAt, HasColumn, SetGiven, SoundPlan, timeAt};
+ghost use Rattle.walk.specs.Steps.{PlanAnswers, Holds, columnAt, HasColumn, SetGiven, SoundPlan, timeAt, answerOf};
 use layout::Layout;
 use taskset::Checked;
 use taskset::Refusal;
 use taskset::WalkAnswer;
+use ticks::WalkEnd;
 
 // Check 8's answer: its second number, or that the plan is sound.
 enum PlanCheck {
@@ -117,10 +118,10 @@ pub fn ready(set: &[u32], plan: &[u32]) -> Checked
     }
 }
 
-// What the walk says, of a set and a plan that have passed the checks.
-pub fn walk_checked(set: &[u32], plan: &[u32], rates: usize, tasks: usize, hyper: u64) -> WalkAnswer
+// How the walk ends, of a set and a plan that have passed the checks: it refuses nothing.
+pub fn walk_checked(set: &[u32], plan: &[u32], rates: usize, tasks: usize, hyper: u64) -> WalkEnd
     requires { ⌜ SetAfter (walkChecks (now set) (now plan)) Ordinary (now set) (Good rates tasks hyper) ⌝ }
-    ensures { λ r. ⌜ Walked (now (set .entry)) (now (plan .entry)) r ⌝ }
+    ensures { λ r. ⌜ Walked (now (set .entry)) (now (plan .entry)) (answerOf r) ⌝ }
 {
     let step = places::task_size(Layout::Ordinary, rates);
     let p = column(
@@ -140,6 +141,24 @@ pub fn walk_checked(set: &[u32], plan: &[u32], rates: usize, tasks: usize, hyper
     ticks::run(&p, &c, &first, tasks, end)
 }
 
+// The answer of a walk that ends so.
+fn answer_of(e: WalkEnd) -> WalkAnswer
+    ensures { λ r. ⌜ r ≡ answerOf e ⌝ }
+{
+    match e {
+        WalkEnd::Kept {
+            busy,
+            idle,
+            preempted,
+        } => WalkAnswer::Kept {
+            busy,
+            idle,
+            preempted,
+        },
+        WalkEnd::Missed { tick, task } => WalkAnswer::Missed { tick, task },
+    }
+}
+
 // The walk of a set under a plan: refusal 2, 3, 4 or 8, or what the walk to its last tick says.
 pub fn walk(set: &[u32], plan: &[u32]) -> WalkAnswer
     ensures { λ r. ⌜ Walked (now (set .entry)) (now (plan .entry)) r ⌝ }
@@ -151,6 +170,6 @@ pub fn walk(set: &[u32], plan: &[u32]) -> WalkAnswer
             rates,
             tasks,
             hyper,
-        } => walk_checked(set, plan, rates, tasks, hyper),
+        } => answer_of(walk_checked(set, plan, rates, tasks, hyper)),
     }
 }

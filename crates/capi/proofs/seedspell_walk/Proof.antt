@@ -4,13 +4,13 @@ use mathlib.Core.Path.{subst}
 use Rattle.taskset.specs.Refusals.{number, second, walkChecks}
 use Rattle.taskset.specs.declared.Checked.{Checked}
 use Rattle.taskset.specs.declared.Checked.the-variants.{Good, Refused as NotGood}
-use Rattle.taskset.specs.declared.WalkAnswer.{WalkAnswer}
-use Rattle.taskset.specs.declared.WalkAnswer.the-variants.{Refused as NotWalked}
+use Rattle.ticks.specs.declared.WalkEnd.{WalkEnd}
 use Rattle.taskset.proofs.Small.{walk-second-small}
 use Rattle.layout.specs.declared.Layout.the-variants.{Ordinary}
 use Rattle.taskset.specs.Calls.{SetAfter}
 use Rattle.walk.specs.Answers.{Walked}
-use Rattle.entries.proofs.Entries.{ready-refused, walk-refused, results-short, entry-kept, entry-missed}
+use Rattle.walk.specs.Steps.{answerOf}
+use Rattle.entries.proofs.Entries.{ready-refused, results-short, entry-kept, entry-missed}
 use borrow.Author.Needs.{needs}
 use Rattle.capi.proofs.seedspell_walk.Statement.{statement}
 use Rattle.capi.proofs.seedspell_walk.Tie as tie
@@ -33,11 +33,8 @@ good : (k : tie.After-checked2)
     → Ready (k .before .before) (Good (k .checked2 .given .0 .0) (k .checked2 .given .0 .1 .0) (k .checked2 .given .0 .1 .1 .0))
 good k = subst (Ready (k .before .before)) (k .checked2 .given .1) (k .before .before .ready .ensures)
 
-abbrev Call : tie.After-walk-checked → WalkAnswer → Type 0
-Call w = let a = start (checked w .before .before) .args in Walked (a .set .now) (a .plan .now)
-
-none : (m : tie.After-answer) → Call (m .before .before) (NotWalked (m .answer .given .0 .0))
-none m = subst (Call (m .before .before)) (m .answer .given .1) (m .before .before .walk-checked .ensures)
+abbrev Call : tie.After-walk-checked → WalkEnd → Type 0
+Call w = let a = start (checked w .before .before) .args in λ e. Walked (a .set .now) (a .plan .now) (answerOf e)
 
 ready-requires : tie.Need-ready-requires
 ready-requires c κs = search needs
@@ -62,23 +59,14 @@ returns c = results-short _ _ _ _ (c .code-of2 .ensures) (good (c .before .befor
 walk-checked-requires : tie.Need-walk-checked-requires
 walk-checked-requires c κs = good (c .before .before)
 
-enum-known-answer : tie.Need-enum-known-answer
-enum-known-answer c = search needs
-
-code-of-requires-3 : tie.Need-code-of-requires-3
-code-of-requires-3 c κs =
-    let f = c .before .answer .given .0 .0 in
-    walk-second-small _ (start (checked (c .before .before .before) .before .before) .args .plan .now) (number f)
-    (second f) (none (c .before) .answers)
-
-enum-known-answer-2 : tie.Need-enum-known-answer-2
-enum-known-answer-2 c = search needs
+enum-known-end : tie.Need-enum-known-end
+enum-known-end c = search needs
 
 put-values-requires : tie.Need-put-values-requires
 put-values-requires c κs = search needs
 
-enum-known-answer-3 : tie.Need-enum-known-answer-3
-enum-known-answer-3 c = search needs
+enum-known-end-2 : tie.Need-enum-known-end-2
+enum-known-end-2 c = search needs
 
 put-values-requires-2 : tie.Need-put-values-requires-2
 put-values-requires-2 c κs = search needs
@@ -86,33 +74,26 @@ put-values-requires-2 c κs = search needs
 returns-2 : tie.Need-returns-2
 returns-2 c = ready-refused _ _ _ (c .before .before .checked .given .0 .0) _ (c .code-of .ensures) (refused (c .before .before))
 
-returns-3 : tie.Need-returns-3
-returns-3 c =
-    let m = c .before .before in
-    absurd
-    (walk-refused _ _ (start (checked (m .before .before) .before .before) .args .results .now) (m .answer .given .0 .0)
-    (good (checked (m .before .before)) .0) (none m))
-
 same-length : tie.Need-same-length
 same-length c = search needs
 
-kept-results : tie.Need-returns-4
+kept-results : tie.Need-returns-3
 kept-results c =
     let v = c .before .before in
     let m = v .before .before .before in
     let w = m .before .before in
-    entry-kept _ _ _ (w .before .if1 .left) _ _ _ _ (subst (Call w) (m .answer2 .given .1) (w .walk-checked .ensures))
+    entry-kept _ _ _ (w .before .if1 .left) _ _ _ _ (subst (Call w) (m .end .given .1) (w .walk-checked .ensures))
     (v .put-values .ensures .bytes)
 
 same-length-2 : tie.Need-same-length-2
 same-length-2 c = search needs
 
-missed-results : tie.Need-returns-5
+missed-results : tie.Need-returns-4
 missed-results c =
     let v = c .before .before in
     let m = v .before .before .before in
     let w = m .before .before in
-    entry-missed _ _ _ (w .before .if1 .left) _ _ _ (subst (Call w) (m .answer3 .given .1) (w .walk-checked .ensures))
+    entry-missed _ _ _ (w .before .if1 .left) _ _ _ (subst (Call w) (m .end2 .given .1) (w .walk-checked .ensures))
     (v .put-values2 .ensures .bytes)
 
 pub seedspell-walk-spec : {M : Type 1} → statement M
@@ -126,14 +107,11 @@ seedspell-walk-spec =
     code-of-requires-2
     returns
     walk-checked-requires
-    enum-known-answer
-    code-of-requires-3
-    enum-known-answer-2
+    enum-known-end
     put-values-requires
-    enum-known-answer-3
+    enum-known-end-2
     put-values-requires-2
     returns-2
-    returns-3
     same-length
     kept-results
     same-length-2
