@@ -115,9 +115,13 @@ fn put_task(list: &mut [u32], at: usize, state: u32) -> u32
     let c = 1 + draw(second) % 1_000;
     let factor = 2 + draw(third) % 9;
     list[at] = p;
-    list[at + 1] = c;
+    list[at + places::CYCLES_IN_TASK] = c;
     let before = places::before_energies(Layout::Ordinary);
-    put_zeros(list, at + 2, before - 2);
+    put_zeros(
+        list,
+        at + places::FIRST_IN_TASK,
+        before - places::FIRST_IN_TASK,
+    );
     put_energies(list, at + before, factor);
     third
 }
@@ -143,7 +147,7 @@ fn put_front(list: &mut [u32], n: u32)
 {
     let head = places::head_size(Layout::Ordinary);
     list[places::SLACK_PLACE] = 100;
-    put_zeros(list, 1, head - 1);
+    put_zeros(list, places::IDLE_PLACE, head - places::IDLE_PLACE);
     list[head] = RATES as u32;
     put_rates(list, head + 1);
     list[places::task_count_place(Layout::Ordinary, RATES)] = n;

@@ -22,6 +22,11 @@ pub const SLACK_PLACE: usize = 0;
 
 pub const IDLE_PLACE: usize = 1;
 
+// How far behind a task's first word, its period, its cycles stand in every list, and its first release.
+pub const CYCLES_IN_TASK: usize = 1;
+
+pub const FIRST_IN_TASK: usize = 2;
+
 // How many words stand before the rate count.
 pub fn head_size(layout: Layout) -> usize
     ensures { λ r. ⌜ r ≡ headSize layout ⌝ }
@@ -60,10 +65,10 @@ pub fn task_kind(layout: Layout, k: usize) -> Kind
     if k == 0 {
         return Kind::Period;
     }
-    if k == 1 {
+    if k == CYCLES_IN_TASK {
         return Kind::Cycles;
     }
-    if k == 2 {
+    if k == FIRST_IN_TASK {
         return Kind::First;
     }
     match layout {
@@ -153,7 +158,7 @@ pub fn cycles_place(layout: Layout, m: usize, t: usize) -> usize
     requires { ⌜ (m ≤ mostRates) × (t ≤ mostTasks) ⌝ }
     ensures { λ r. ⌜ r ≡ cyclesPlace layout m t ⌝ }
 {
-    period_place(layout, m, t) + 1
+    period_place(layout, m, t) + CYCLES_IN_TASK
 }
 
 // The place of its first release.
@@ -161,7 +166,7 @@ pub fn first_place(layout: Layout, m: usize, t: usize) -> usize
     requires { ⌜ (m ≤ mostRates) × (t ≤ mostTasks) ⌝ }
     ensures { λ r. ⌜ r ≡ firstPlace layout m t ⌝ }
 {
-    period_place(layout, m, t) + 2
+    period_place(layout, m, t) + FIRST_IN_TASK
 }
 
 // The place of its energy at rate number r.
