@@ -103,20 +103,6 @@ fn numbers(s: &[u8], at: usize, out: &mut [u32], k: usize, low: usize, spare: us
     Read::Got(n as u32, i)
 }
 
-// A number between two fixed strings.
-fn enclosed(s: &[u8], at: usize, front: &[u8], end: &[u8]) -> Read
-    ensures { λ r. ⌜ ofRead r ≡ readAt (Reading.upTo (Reading.field (now (front .entry))) (now (end .entry))) (now (s .entry)) at ⌝ }
-{
-    let number = scanner::field(s, at, front);
-    let Read::Got(v, i) = number else {
-        return number;
-    };
-    match scanner::literal(s, i, end) {
-        Read::Got(_, j) => Read::Got(v, j),
-        Read::Bad(o) => Read::Bad(o),
-    }
-}
-
 // The idle line from its name on, with the bracket that opens the line behind it: an i begins it, and no other line that
 // may stand there.
 fn idle_line(s: &[u8], at: usize) -> IdleRead
@@ -125,8 +111,12 @@ fn idle_line(s: &[u8], at: usize) -> IdleRead
     if !scanner::is_letter(s, at, b'i') {
         return IdleRead::Got(Idle::Absent, at);
     }
-    match enclosed(s, at, b"idle ", b")\n(") {
-        Read::Got(h, i) => IdleRead::Got(Idle::Given(h), i),
+    let number = scanner::field(s, at, b"idle ");
+    let Read::Got(h, i) = number else {
+        return IdleRead::Bad(scanner::place_of(number));
+    };
+    match scanner::literal(s, i, b")\n(") {
+        Read::Got(_, j) => IdleRead::Got(Idle::Given(h), j),
         Read::Bad(o) => IdleRead::Bad(o),
     }
 }
@@ -293,6 +283,20 @@ fn energies(s: &[u8], at: usize, out: &mut [u32], k: usize, clock: Clock, cycles
     }
 }
 
+// The form of a first release.
+fn release_form(s: &[u8], at: usize) -> Read
+    ensures { λ r. ⌜ ofRead r ≡ readAt Reading.readFirstForm (now (s .entry)) at ⌝ }
+{
+    let number = scanner::field(s, at, b" (from ");
+    let Read::Got(a, i) = number else {
+        return number;
+    };
+    match scanner::literal(s, i, b")") {
+        Read::Got(_, j) => Read::Got(a, j),
+        Read::Bad(o) => Read::Bad(o),
+    }
+}
+
 // The first release that ends a task's line, 0 if it is absent: a space begins its form, and a bracket what ends the line
 // without it.
 fn first_release(s: &[u8], at: usize) -> Read
@@ -301,7 +305,7 @@ fn first_release(s: &[u8], at: usize) -> Read
     let Class::Space = scanner::step(s, at) else {
         return Read::Got(0, at);
     };
-    enclosed(s, at, b" (from ", b")")
+    release_form(s, at)
 }
 
 // A task's line, to the list from k on: the period, the cycles and the first release are the first words of a task in

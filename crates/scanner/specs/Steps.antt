@@ -3,6 +3,7 @@
 use Prim.Native.Nat.{ℕ, _-_, _≤_, _<_}
 use mathlib.Core.Path.{_≡_}
 use mathlib.Core.List.{List}
+use mathlib.Core.Bool.{Bool, true, false}
 use lib.ListN.{length, getD}
 use Rattle.text.specs.Reading.{Res, got, bad}
 use Rattle.scanner.specs.declared.Class.{Class}
@@ -45,3 +46,8 @@ ofRead (Bad o) = bad o
 
 abbrev pub noValue : {A : Type 0} → A → ℕ
 noValue a = 0
+
+-- Whether a piece was read.
+abbrev pub taken : {A : Type 0} → Res A → Bool
+taken (got a i) = true
+taken (bad o) = false

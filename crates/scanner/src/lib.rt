@@ -1,11 +1,12 @@
 // The reader's steps: the class of the next byte, fixed strings, and numbers. Which of them make a text is left to the
 // crates above.
 ghost use mathlib.Core.Path.{_≡_};
-ghost use Prim.Native.Nat.{_≤_};
-ghost use lib.ListN.{drop};
+ghost use mathlib.Core.Bool.{false};
+ghost use Prim.Native.Nat.{_-_, _≤_};
+ghost use lib.ListN.{length, drop};
 ghost use Rattle.text.specs.Reading;
 ghost use Rattle.text.specs.Reading.{readAt, mapRes, ext, starts};
-ghost use Rattle.scanner.specs.Steps.{Stands, ofRead, noValue};
+ghost use Rattle.scanner.specs.Steps.{Stands, ofRead, noValue, taken};
 
 // What stands at a place of the text.
 pub enum Class {
@@ -66,23 +67,67 @@ pub fn place_of(r: Read) -> usize
     }
 }
 
-// A fixed string.
-pub fn literal(s: &[u8], at: usize, l: &[u8]) -> Read
-    ensures { λ r. ⌜ ofRead r ≡ mapRes noValue (readAt (Reading.literal (now (l .entry))) (now (s .entry)) at) ⌝ }
+// How many bytes of a text stand from a place on.
+fn room(s: &[u8], at: usize) -> usize
+    ensures { λ r. ⌜ r ≡ length (now (s .entry)) - at ⌝ }
+{
+    if s.len() < at {
+        return 0;
+    }
+    s.len() - at
+}
+
+// Whether a fixed string stands at a place with room for it. No byte ends the loop, so that the compiler can compare
+// several at once.
+fn agrees(s: &[u8], at: usize, l: &[u8]) -> bool
+    requires { ⌜ length (now l) ≤ length (now s) - at ⌝ }
+    ensures { λ r. ⌜ r ≡ taken (readAt (Reading.literal (now (l .entry))) (now (s .entry)) at) ⌝ }
+{
+    let mut same = true;
+    let mut j = 0;
+    while j < l.len() {
+        same = same & (s[at + j] == l[j]);
+        j += 1;
+    }
+    same
+}
+
+// Whether a fixed string stands at a place.
+fn is_there(s: &[u8], at: usize, l: &[u8]) -> bool
+    ensures { λ r. ⌜ r ≡ taken (readAt (Reading.literal (now (l .entry))) (now (s .entry)) at) ⌝ }
+{
+    if room(s, at) < l.len() {
+        return false;
+    }
+    agrees(s, at, l)
+}
+
+// Where the text departs from a fixed string that does not stand at a place.
+fn departure(s: &[u8], at: usize, l: &[u8]) -> usize
+    requires { ⌜ taken (readAt (Reading.literal (now l)) (now s) at) ≡ false ⌝ }
+    ensures { λ r. ⌜ r ≡ ext (readAt (Reading.literal (now (l .entry))) (now (s .entry)) at) ⌝ }
 {
     let mut i = at;
     let mut j = 0;
-    while j < l.len() {
-        if s.len() <= i {
-            return Read::Bad(i);
-        }
+    while i < s.len() {
         if s[i] != l[j] {
-            return Read::Bad(i);
+            return i;
         }
         i += 1;
         j += 1;
     }
-    Read::Got(0, i)
+    i
+}
+
+// A fixed string: compared as a whole, since it stands there in nearly every text, and byte by byte only where it does
+// not.
+pub fn literal(s: &[u8], at: usize, l: &[u8]) -> Read
+    ensures { λ r. ⌜ ofRead r ≡ mapRes noValue (readAt (Reading.literal (now (l .entry))) (now (s .entry)) at) ⌝ }
+{
+    if is_there(s, at, l) {
+        return Read::Got(0, at + l.len());
+    }
+    Read::Bad(departure(s, at, l))
 }
 
 // The digits after a number's first one.

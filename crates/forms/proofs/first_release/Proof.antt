@@ -34,31 +34,16 @@ absent c =
     let none = not-there (now (a .s)) (a .at) 32 (not-space _ _ (c .before .step .result) (c .before .step .ensures) (c .match .keys2)) in
     sym (ap (mapRes firstOf) (optional-none 32 readFirstForm (now (a .s)) (a .at) none))
 
-slice-aggregate-enclosed : tie.Need-slice-aggregate-enclosed
-slice-aggregate-enclosed c = search needs
-
-slice-aggregate-enclosed-2 : tie.Need-slice-aggregate-enclosed-2
-slice-aggregate-enclosed-2 c = search needs
-
-enclosed-requires : tie.Need-enclosed-requires
-enclosed-requires c κs = search needs
+release-form-requires : tie.Need-release-form-requires
+release-form-requires c κs = search needs
 
 given : tie.Need-returns-2
 given c =
-    let t = c .before .before .before in
+    let t = c .before in
     let a = t .before .before .before .before .args in
-    c .enclosed .ensures
+    c .release-form .ensures
     ∙ sym (ap (mapRes firstOf) (optional-some 32 readFirstForm (now (a .s)) (a .at) (stands t))
     ∙ map-map firstOf some (readAt readFirstForm (now (a .s)) (a .at)) ∙ map-id _)
 
 pub first-release-spec : {M : Type 1} → statement M
-first-release-spec =
-    tie.close
-    (tie.spec
-    step-requires
-    enum-told
-    absent
-    slice-aggregate-enclosed
-    slice-aggregate-enclosed-2
-    enclosed-requires
-    given)
+first-release-spec = tie.close (tie.spec step-requires enum-told absent release-form-requires given)

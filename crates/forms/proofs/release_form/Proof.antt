@@ -2,19 +2,23 @@
 -- Assumes nothing.
 use mathlib.Core.Path.{_≡_, sym, ap, _∙_}
 use denote.Ref.{now}
+use Rattle.text.specs.Text.{bytes}
 use Rattle.text.specs.Reading.{got, literal, field, readAt}
 use Rattle.scanner.specs.Steps.{ofRead, noValue}
 use Rattle.scanner.proofs.Places.{seq-at, took, lost}
 use borrow.Author.Needs.{needs}
-use Rattle.forms.proofs.enclosed.Statement.{statement}
-use Rattle.forms.proofs.enclosed.Tie as tie
+use Rattle.forms.proofs.release_form.Statement.{statement}
+use Rattle.forms.proofs.release_form.Tie as tie
 
-number : (n : tie.After-number) → let a = n .before .before .before .before .before .before .args in
-    readAt (field (now (a .front))) (now (a .s)) (a .at) ≡ got (n .number .given .0 .0) (n .number .given .0 .1 .0)
+number : (n : tie.After-number) → let a = n .before .before .before .before .before .args in
+    readAt (field (bytes " (from ")) (now (a .s)) (a .at) ≡ got (n .number .given .0 .0) (n .number .given .0 .1 .0)
 number n = sym (n .before .before .field .ensures) ∙ ap ofRead (n .number .given .1)
 
 abbrev number-of : tie.After-literal → tie.After-number
-number-of l = l .before .before
+number-of l = l .before .before .before
+
+slice-aggregate-field : tie.Need-slice-aggregate-field
+slice-aggregate-field c = search needs
 
 field-requires : tie.Need-field-requires
 field-requires c κs = search needs
@@ -30,6 +34,9 @@ no-number c =
     let told = ap ofRead (c .enum-told .given .1) in
     let e = sym (c .before .before .field .ensures) ∙ told in
     told ∙ sym (rw (seq-at, e))
+
+slice-aggregate-literal : tie.Need-slice-aggregate-literal
+slice-aggregate-literal c = search needs
 
 literal-requires : tie.Need-literal-requires
 literal-requires c κs = search needs
@@ -52,14 +59,16 @@ not-closed c =
     let e = lost noValue (readAt (literal _) _ _) (l .literal .ensures) (ap ofRead (c .before .o .given .1)) in
     sym (rw (seq-at, number (number-of l), e))
 
-pub enclosed-spec : {M : Type 1} → statement M
-enclosed-spec =
+pub release-form-spec : {M : Type 1} → statement M
+release-form-spec =
     tie.close
     (tie.spec
+    slice-aggregate-field
     field-requires
     enum-known-number
     enum-told
     no-number
+    slice-aggregate-literal
     literal-requires
     enum-known-j
     enum-known-o
