@@ -130,21 +130,22 @@ pub fn literal(s: &[u8], at: usize, l: &[u8]) -> Read
     Read::Bad(departure(s, at, l))
 }
 
-// The digits after a number's first one.
+// The digits after a number's first one. The number is held in 64 bits until it is whole, so that no digit waits for it
+// to be widened.
 fn more(s: &[u8], at: usize, first: u32) -> Read
     ensures { λ r. ⌜ ofRead r ≡ readAt (Reading.more first) (now (s .entry)) at ⌝ }
 {
-    let mut v = first;
+    let mut v = first as u64;
     let mut i = at;
     loop {
         let Class::Digit(d) = step(s, i) else {
-            return Read::Got(v, i);
+            return Read::Got(v as u32, i);
         };
-        let w = (v as u64) * 10 + d as u64;
+        let w = v * 10 + d as u64;
         if w >= 4_294_967_296 {
             return Read::Bad(i);
         }
-        v = w as u32;
+        v = w;
         i += 1;
     }
 }

@@ -40,8 +40,8 @@ add-j c = omega arith
 loop-less : tie.Need-loop-less Inv-loop μ-loop
 loop-less c = omega arith
 
-loop-again : tie.Need-loop-again Inv-loop μ-loop
-loop-again c =
+bytes-agree : tie.Need-loop-again Inv-loop μ-loop
+bytes-agree c =
     let q = c .before .before .before in
     let a = q .before .args in
     let more = one-more (now (a .l)) (now (a .s)) (a .at + q .loop .j) (q .loop .j) (q .loop .same) (omega arith) (omega arith) in
@@ -66,5 +66,5 @@ agrees-spec =
     shared-slice-read-same-2
     add-j
     loop-less
-    loop-again
+    bytes-agree
     returns)

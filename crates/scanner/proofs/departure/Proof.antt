@@ -34,8 +34,8 @@ shared-slice-read-if1 c = omega arith
 shared-slice-read-if1-2 : tie.Need-shared-slice-read-if1-2 Inv-loop μ-loop
 shared-slice-read-if1-2 c = on (c .before .before .before)
 
-returns : tie.Need-returns Inv-loop μ-loop
-returns c =
+byte-departs : tie.Need-returns Inv-loop μ-loop
+byte-departs c =
     let q = c .before .before .before .before in
     let a = q .before .args in
     sym (ap ext (q .loop .inv ∙ literal-departs (now (a .l)) (now (a .s)) (q .loop .i) (q .loop .j) (omega arith) (on q) (c .if1 .taken)))
@@ -55,8 +55,8 @@ loop-again c =
     let a = q .before .args in
     q .loop .inv ∙ literal-on (now (a .l)) (now (a .s)) (q .loop .i) (q .loop .j) (omega arith) (on q) (c .if1 .left)
 
-returns-2 : tie.Need-returns-2 Inv-loop μ-loop
-returns-2 c =
+text-ends : tie.Need-returns-2 Inv-loop μ-loop
+text-ends c =
     let q = c .before in
     let a = q .before .args in
     sym (ap ext (q .loop .inv ∙ literal-ends (now (a .l)) (now (a .s)) (q .loop .i) (q .loop .j) (omega arith) (on q)))
@@ -70,9 +70,9 @@ departure-spec =
     loop-holds
     shared-slice-read-if1
     shared-slice-read-if1-2
-    returns
+    byte-departs
     add-i
     add-j
     loop-less
     loop-again
-    returns-2)
+    text-ends)

@@ -34,20 +34,20 @@ step-requires c κs = search needs
 enum-known-d : tie.Need-enum-known-d Inv-loop μ-loop
 enum-known-d c = c .match .keys1
 
+value-fits : tie.Need-cast-t9 Inv-loop μ-loop
+value-fits c = omega arith
+
 returns : tie.Need-returns Inv-loop μ-loop
 returns c =
     let q = c .before .before in
     let none = no-digit _ _ (not-digit _ _ (c .before .step .result) (c .before .step .ensures) (c .match .keys2)) in
     sym (q .loop .inv .1 ∙ laws.more-ends (now (q .before .before .args .s)) (q .loop .i) none (q .loop .v))
 
-cast-w : tie.Need-cast-w Inv-loop μ-loop
-cast-w c = omega (arith, read (c .before))
-
 mul-w : tie.Need-mul-w Inv-loop μ-loop
 mul-w c = omega (arith, read (c .before))
 
-cast-w-2 : tie.Need-cast-w-2 Inv-loop μ-loop
-cast-w-2 c = omega (arith, read (c .before))
+cast-w : tie.Need-cast-w Inv-loop μ-loop
+cast-w c = omega (arith, read (c .before))
 
 add-w : tie.Need-add-w Inv-loop μ-loop
 add-w c = omega (arith, read (c .before))
@@ -58,17 +58,14 @@ returns-2 c =
     let h = read (c .before .before) in
     sym (q .loop .inv .1 ∙ laws.more-over (now (q .before .before .args .s)) (q .loop .i) (c .before .before .d .given .0 .0) h (q .loop .v) (omega arith))
 
-cast-v : tie.Need-cast-v Inv-loop μ-loop
-cast-v c = omega (arith, read (c .before .before))
-
 add-i : tie.Need-add-i Inv-loop μ-loop
 add-i c = omega (arith, read (c .before .before))
 
 loop-less : tie.Need-loop-less Inv-loop μ-loop
 loop-less c = omega (arith, read (c .before .before))
 
-loop-again : tie.Need-loop-again Inv-loop μ-loop
-loop-again c =
+digit-fits : tie.Need-loop-again Inv-loop μ-loop
+digit-fits c =
     let q = c .before .before .before .before .before in
     let h = read (c .before .before) in
     (omega arith, q .loop .inv .1 ∙ laws.more-on (now (q .before .before .args .s)) (q .loop .i) (c .before .before .d .given .0 .0) h (q .loop .v) (c .if1 .left))
@@ -82,13 +79,12 @@ more-spec =
     loop-holds
     step-requires
     enum-known-d
+    value-fits
     returns
-    cast-w
     mul-w
-    cast-w-2
+    cast-w
     add-w
     returns-2
-    cast-v
     add-i
     loop-less
-    loop-again)
+    digit-fits)
