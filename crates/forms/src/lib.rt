@@ -337,8 +337,8 @@ fn task(s: &[u8], at: usize, out: &mut [u32], k: usize, clock: Clock) -> Read
         return release;
     };
     out[k] = p;
-    out[k + 1] = c;
-    out[k + 2] = a;
+    out[k + places::CYCLES_IN_TASK] = c;
+    out[k + places::FIRST_IN_TASK] = a;
     scanner::literal(s, i, b")\n")
 }
 

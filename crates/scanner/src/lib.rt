@@ -8,7 +8,8 @@ ghost use Rattle.text.specs.Reading;
 ghost use Rattle.text.specs.Reading.{readAt, mapRes, ext, starts};
 ghost use Rattle.scanner.specs.Steps.{Stands, ofRead, noValue, taken};
 
-// What stands at a place of the text.
+// What stands at a place of the text: the end, or a byte by the classes that document 01 names for the step. A line's end
+// stands in fixed strings alone, so that no form asks for it by its class.
 pub enum Class {
     End,
     Digit(u32),
