@@ -32,7 +32,7 @@ if [ -n "${SELFTEST:-}" ]; then
 else
     build_archive
     archives=("$archive")
-    build_entries "$out" bench/walk/entries walks numbers taskset ticks
+    build_entries "$out" bench/walk/entries walks numbers ticks
     archives+=("$archive")
 fi
 gcc "$out/bench.o" "$out/generated.o" "$out/walk.o" "$out/events.o" "${archives[@]}" -o "$out/bench"

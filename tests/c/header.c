@@ -1,5 +1,6 @@
 /* The header as a caller has it, in C99 and in C++11 alike: every call and every cause of it is used, and the archive
-   refuses with the number that the name of each cause stands for. Ends with 0 if so, with 1 and a line for each that differs if not. */
+   refuses with the number that the name of each cause stands for.
+   Ends with 0 if so, with 1 and a line for each that differs if not. */
 
 #include "../../include/seedspell.h"    /* first, so that it needs nothing before it */
 

@@ -1,5 +1,5 @@
-// Whole-number arithmetic in code: common divisors by halving and subtracting, the least power of two, the lesser of two
-// numbers, a range. What each one is, numbers defines; tasks, words and times are left to the crates above.
+// Whole-number arithmetic in code: common divisors by halving and subtracting, the least power of two, the lesser of
+// two numbers, a range. What each one is, numbers defines; tasks, words and times are left to the crates above.
 ghost use mathlib.Core.Path.{_≡_};
 ghost use Prim.Native.Nat.{suc, _-_, _*_, _/_, _^_, _≤_, _<_, min};
 ghost use Rattle.numbers.specs.Numbers.{between, gcd, LeastPower};
@@ -116,8 +116,8 @@ pub struct Divisor {
     pub steps: u32,
 }
 
-// The greatest common divisor, by halving and subtracting alone. Twos that both numbers have stay in: both are multiples
-// of u throughout, and one is halved only while it is an even multiple.
+// The greatest common divisor, by halving and subtracting alone. Twos that both numbers have stay in: both are
+// multiples of u throughout, and one is halved only while it is an even multiple.
 pub fn common_divisor(x: u64, y: u64) -> Divisor
     requires { ⌜ (0 < x) × (0 < y) × (x * y < 2 ^ 50) ⌝ }
     ensures { λ r. ⌜ (r .value ≡ gcd x y) × (r .steps ≡ steps x y) × (r .steps ≤ mostSteps) ⌝ }

@@ -86,15 +86,11 @@ pub extern "C" fn seedspell_walk(set: &[u32], plan: &[u32], results: &mut [u8]) 
             }
             let end = walk::walk_checked(set, plan, rates, tasks, hyper);
             match end {
-                WalkEnd::Kept {
-                    busy,
-                    idle,
-                    preempted,
-                } => {
+                WalkEnd::Kept(busy, idle, preempted) => {
                     put_values(results, 1, busy, idle, preempted);
                     0
                 }
-                WalkEnd::Missed { tick, task } => {
+                WalkEnd::Missed(tick, task) => {
                     put_values(results, 0, tick, task, 0);
                     0
                 }

@@ -1,5 +1,5 @@
 // The checks of a task set in code, and the readers of its words and quantities. What each says is defined in
-// `taskset`; what stands where in a list, and what each word may be, is left to the crate layout.
+// `taskset`; what stands where in a list, and what each word may be, is left to layout, and in code to places.
 ghost use mathlib.Core.Path.{_≡_};
 ghost use mathlib.Core.List.{[], _∷_};
 ghost use Prim.Native.Nat.{_+_, _*_, _<_, _≤_};

@@ -1,5 +1,5 @@
-// A set's figures in code: the two numbers of a refusal, and the job time. What they are, taskset defines; which refusal
-// is given is left to the crates above.
+// A set's figures in code: the two numbers of a refusal, and the job time. What they are, taskset defines; which
+// refusal is given is left to the crates above.
 ghost use mathlib.Core.Path.{_≡_};
 ghost use Prim.Native.Nat.{_≤_};
 ghost use Rattle.taskset.specs.Quantities.{jobTicks};

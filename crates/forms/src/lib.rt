@@ -18,15 +18,15 @@ use scanner::Class;
 use scanner::Read;
 
 // The idle line: the number that it says, or that there is none.
-pub enum Idle {
+enum Idle {
     Given(u32),
     Absent,
 }
 
 // The lines of the head.
-pub struct Head {
-    pub slack: u32,
-    pub idle: Idle,
+struct Head {
+    slack: u32,
+    idle: Idle,
 }
 
 // What stands behind the head: so many rates, or a chip by its name.
@@ -37,22 +37,22 @@ pub enum Clock {
 
 // What reading the idle line gives, the head, a chip's name, and the line behind the head: it and the place after it, or
 // the offset at which the text departs.
-pub enum IdleRead {
+enum IdleRead {
     Got(Idle, usize),
     Bad(usize),
 }
 
-pub enum HeadRead {
+enum HeadRead {
     Got(Head, usize),
     Bad(usize),
 }
 
-pub enum ChipRead {
+enum ChipRead {
     Got(Chip, usize),
     Bad(usize),
 }
 
-pub enum ClockRead {
+enum ClockRead {
     Got(Clock, usize),
     Bad(usize),
 }

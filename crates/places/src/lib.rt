@@ -1,5 +1,5 @@
-// The list of words of a task set in code: how many words stand where, which kind each one is of, and whether it is in its
-// range. What a list is, layout defines; what is made of its words is left to the crates above.
+// The list of words of a task set in code: how many words stand where, which kind each one is of, and whether it is in
+// its range. What a list is, layout defines; what is made of its words is left to the crates above.
 ghost use mathlib.Core.Path.{_≡_};
 ghost use Prim.Native.Nat.{_-_, _^_, _<_, _≤_};
 ghost use lib.ListN.{length};

@@ -37,7 +37,7 @@ fn count_low(v: u64) -> usize
 }
 
 // How many digits a number has: of a longer one the lower ten are taken off at once.
-pub fn count_number(v: u64) -> usize
+fn count_number(v: u64) -> usize
     ensures { λ r. ⌜ r ≡ length (decimal v) ⌝ }
 {
     if v < 10_000_000_000 {

@@ -8,8 +8,8 @@ ghost use Rattle.text.specs.Reading;
 ghost use Rattle.text.specs.Reading.{readAt, mapRes, ext, starts};
 ghost use Rattle.scanner.specs.Steps.{Stands, ofRead, noValue, taken};
 
-// What stands at a place of the text: the end, or a byte by the classes that document 01 names for the step. A line's end
-// stands in fixed strings alone, so that no form asks for it by its class.
+// What stands at a place of the text: the end, or a byte by the classes that document 01 names for the step. A line's
+// end stands in fixed strings alone, so that no form asks for it by its class.
 pub enum Class {
     End,
     Digit(u32),
@@ -152,7 +152,7 @@ fn more(s: &[u8], at: usize, first: u32) -> Read
 }
 
 // A number: 0, or digits that start with 1 to 9.
-pub fn number(s: &[u8], at: usize) -> Read
+fn number(s: &[u8], at: usize) -> Read
     ensures { λ r. ⌜ ofRead r ≡ readAt Reading.number (now (s .entry)) at ⌝ }
 {
     let Class::Digit(d) = step(s, at) else {

@@ -48,8 +48,8 @@ fn read_more(bytes: &mut [u8], at: usize) -> Got
 }
 
 // Reads until the input ends or the places are full: fewer bytes than were asked for are no end, since a pipe hands out
-// what it has. Each turn brings a byte or uses up one of 1,000 retries, so that the loop ends: the room that is left and
-// the retries that are left, together, get less with each turn.
+// what it has. Each turn brings a byte or uses up one of 1,000 retries, so that the loop ends: the room that is left
+// and the retries that are left, together, get less with each turn.
 pub(crate) fn read_input(bytes: &mut [u8; 8192]) -> Input
     ensures { λ r. ⌜ InputFits (now (bytes .exit)) r ⌝ }
 {

@@ -2,10 +2,11 @@
 // refusal.
 //
 // What it offers to standard output is the answer to the bytes that it has read: write_answer asks for that, and
-// answer_bytes gives it. It plans what it has read where a read has found the end of the input, or where all 8,192 places
-// are taken, and complains unless all of the answer was taken. Which bytes a read brings, and where those of a write go,
-// no contract can say: read, write and errno are taken at their word. The program always returns, however often a signal interrupts it. Its exit status is
-// always 0, so that an input that cannot be read, or an answer that cannot be written, shows on standard error only.
+// answer_bytes gives it. It plans what it has read where a read has found the end of the input, or where all 8,192
+// places are taken, and complains unless all of the answer was taken. Which bytes a read brings, and where those of a
+// write go, no contract can say: read, write and errno are taken at their word. The program always returns, however
+// often a signal interrupts it. Where it ends by itself its exit status is 0, so that an input that cannot be read, or
+// an answer that cannot be written, shows on standard error only.
 mod input;
 mod output;
 

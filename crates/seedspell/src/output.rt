@@ -24,8 +24,8 @@ pub(crate) enum Output {
     CutShort(usize),
 }
 
-// One write, of the bytes from `at` on, at least one. A write that takes nothing without an error counts as interrupted, so that it
-// is tried again and uses up a retry.
+// One write, of the bytes from `at` on, at least one. A write that takes nothing without an error counts as interrupted,
+// so that it is tried again and uses up a retry.
 fn write_more(answer: &[u8], at: usize) -> Put
     requires { ⌜ at < length (now answer) ⌝ }
     ensures { λ r. ⌜ WroteMore (now (answer .entry)) at r ⌝ }

@@ -1,5 +1,5 @@
-// What a task set comes to and what each call answers. Here are the types of the answers; specs/ defines what document 01
-// says of each, proofs/ has the theory. What stands where in a set's list is left to the crate layout, all code, the
+// What a task set comes to and what each call answers. Here are the types of the answers; specs/ defines what document
+// 01 says of each, proofs/ has the theory. What stands where in a set's list is left to the crate layout, all code, the
 // checks among it, to the crates above.
 
 // Why a call declines: a case for each row of document 01's table, numbers 1 to 8 in this order, and then for those of

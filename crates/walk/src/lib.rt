@@ -146,16 +146,12 @@ fn answer_of(e: WalkEnd) -> WalkAnswer
     ensures { λ r. ⌜ r ≡ answerOf e ⌝ }
 {
     match e {
-        WalkEnd::Kept {
-            busy,
-            idle,
-            preempted,
-        } => WalkAnswer::Kept {
+        WalkEnd::Kept(busy, idle, preempted) => WalkAnswer::Kept {
             busy,
             idle,
             preempted,
         },
-        WalkEnd::Missed { tick, task } => WalkAnswer::Missed { tick, task },
+        WalkEnd::Missed(tick, task) => WalkAnswer::Missed { tick, task },
     }
 }
 

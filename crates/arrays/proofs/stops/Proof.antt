@@ -12,8 +12,8 @@ mul-result-2 c = search needs
 returns : tie.Need-returns
 returns c = rw (eq-eqb _ 0 (c .if1 .taken))
 
-returns-2 : tie.Need-returns-2
-returns-2 c = rw (ne-eqb _ 0 (c .if1 .left))
+by-the-rule : tie.Need-returns-2
+by-the-rule c = rw (ne-eqb _ 0 (c .if1 .left))
 
 pub stops-spec : {M : Type 1} → statement M
-stops-spec = tie.close (tie.spec mul-result mul-result-2 returns returns-2)
+stops-spec = tie.close (tie.spec mul-result mul-result-2 returns by-the-rule)

@@ -15,11 +15,11 @@ returns-2 c = inl (refl, λ l. (omega arith, λ e. absurd (omega arith)))
 returns-3 : tie.Need-returns-3
 returns-3 c = inr (refl, record { fits = omega arith; cost = omega arith; load = λ e. absurd (omega arith) })
 
-returns-4 : tie.Need-returns-4
-returns-4 c = inr (refl, record { fits = omega arith; cost = omega arith; load = λ e. omega arith })
+lower-load : tie.Need-returns-4
+lower-load c = inr (refl, record { fits = omega arith; cost = omega arith; load = λ e. omega arith })
 
 returns-5 : tie.Need-returns-5
 returns-5 c = inl (refl, λ l. (omega arith, λ e. omega arith))
 
 pub look-spec : {M : Type 1} → statement M
-look-spec = tie.close (tie.spec returns returns-2 returns-3 returns-4 returns-5)
+look-spec = tie.close (tie.spec returns returns-2 returns-3 lower-load returns-5)
