@@ -15,7 +15,7 @@ use Rattle.layout.specs.Words.{mostRates, mostTasks, idle, rateCount, rate, per
 use Rattle.layout.specs.declared.Layout.{Layout}
 use Rattle.taskset.specs.Quantities.{hyperLimit, jobTime, taskLoad, taskNet}
 use Rattle.taskset.specs.Sets.{IsSet}
-use Rattle.taskset.proofs.Sets.{task-net-small}
+use Rattle.taskset.proofs.Sets.{job-time-at, job-energy-at, task-net-small}
 use Rattle.options.specs.Options.{Laid, LaidBoth, TaskGiven}
 
 -- ---- one array
@@ -108,7 +108,7 @@ module _ {layout : Layout} {m l t : ℕ} {s : List ℕ} (g : TaskGiven layout m 
           omega (
             arith,
             mul-le-mul {n₁ = l / p} {m₁ = x} {n₂ = hyperLimit} {m₂ = 4000000000} jobs-few
-                (omega (arith, x-is, ceil-small (cycles layout s t) (rate layout s r) f)),
+                (omega (arith, x-is, job-time-at layout s t r from, ceil-small (cycles layout s t) (rate layout s r) f)),
           )
 
       -- What idle ticks draw in the job's time is no more than its energy, so that the rest is one.
@@ -118,7 +118,8 @@ module _ {layout : Layout} {m l t : ℕ} {s : List ℕ} (g : TaskGiven layout m 
       pub energy-fits : x ≡ jobTime layout s t r → y ≡ energy layout s t r → h ≡ idle s
           → l / p * (y - h * x) ≤ hyperLimit * 1000000
       energy-fits x-is y-is h-is =
-          rw (g .hyper, p-is, h-is, x-is, y-is) (task-net-small layout s set-is t r (g .of-task .task) from rate-number)
+          rw (g .hyper, p-is, h-is, x-is, y-is, ← job-energy-at layout s t r from)
+          (task-net-small layout s set-is t r (g .of-task .task) from rate-number)
 
       pub both-more : (ls es : List ℕ) → x ≡ jobTime layout s t r → y ≡ energy layout s t r → h ≡ idle s
           → LaidBoth layout s m t r ls es
@@ -128,6 +129,7 @@ module _ {layout : Layout} {m l t : ℕ} {s : List ℕ} (g : TaskGiven layout m 
             put-more (taskLoad layout s) m t r (l / p * x) ls task-few rates-few from to (rw (g .hyper, p-is, x-is) refl)
             (omega (arith, load-fits x-is)) (b .loads);
         energies =
-            put-more (taskNet layout s) m t r (l / p * (y - h * x)) es task-few rates-few from to (rw (g .hyper, p-is, h-is, x-is, y-is) refl)
+            put-more (taskNet layout s) m t r (l / p * (y - h * x)) es task-few rates-few from to
+            (rw (g .hyper, p-is, h-is, x-is, y-is, ← job-energy-at layout s t r from) refl)
             (omega (arith, energy-fits x-is y-is h-is)) (b .energies);
       }

@@ -23,7 +23,7 @@ use Rattle.layout.specs.declared.Layout.the-variants.{Ordinary}
 use Rattle.layout.proofs.Layouts.{slack-in-head, slack-kind, idle-in-head, idle-kind, first-in-extra, first-kind}
 use Rattle.layout.proofs.Places.{kind-head, kind-rates, kind-rate, kind-tasks, kind-task, kind-period, kind-cycles, kind-extra, kind-energy}
 use Rattle.layout.proofs.Whole.{whole-of}
-use Rattle.taskset.specs.Quantities.{jobTicks, jobTime, hyperPeriod, taskEnergy, problem}
+use Rattle.taskset.specs.Quantities.{jobTicks, jobTime, jobEnergy, hyperPeriod, taskEnergy, problem}
 use Rattle.taskset.specs.Quantities.{reportedEnergy, workNeeded}
 use Rattle.taskset.specs.Refusals.{number, second, RateFault, IsNotAbove, EnergyFault, IsBelowIdle, PassesLimit, IsTooLong}
 use Rattle.taskset.specs.Refusals.{mostPlans, IsTooMany, IsShort, NoneOk, Check, Passes, _▹_, check, wordCheck}
@@ -32,6 +32,7 @@ use Rattle.taskset.specs.Calls.{plannerValues, Selected, HoldsPlan, Plan
 use Rattle.taskset.specs.Calls.{Cleared, WorkAfter, DifferInFirsts, PlannerGives, DullGives}
 use Rattle.taskset.specs.declared.PlannerAnswer.{PlannerAnswer}
 use Rattle.taskset.specs.declared.PlannerAnswer.the-variants.{Planned, Refused as NotPlanned}
+use Rattle.taskset.proofs.Sets.{job-time-at, job-energy-at}
 use Rattle.taskset.proofs.Checks.{no-word-fault, Agree, AllAgree, _then_, no-more, agree-accepts, agree-refuses}
 
 -- ---- the words that the planner reads
@@ -109,7 +110,13 @@ changed-first s t v l =
 module _ (s s′ : List ℕ) (a : Alike s s′) where
   job-time-same : (t r : ℕ) → t < taskCount Ordinary s → 1 ≤ r → r ≤ rateCount Ordinary s
       → jobTime Ordinary s t r ≡ jobTime Ordinary s′ t r
-  job-time-same t r l b h = ap₂ jobTicks (a .cycle-counts t l) (a .rates (ratePlace Ordinary r) (omega arith) (omega arith))
+  job-time-same t r l b h =
+      job-time-at Ordinary s t r b ∙
+      ap₂ jobTicks (a .cycle-counts t l) (a .rates (ratePlace Ordinary r) (omega arith) (omega arith)) ∙ sym (job-time-at Ordinary s′ t r b)
+
+  job-energy-same : (t r : ℕ) → t < taskCount Ordinary s → 1 ≤ r → r ≤ rateCount Ordinary s
+      → jobEnergy Ordinary s t r ≡ jobEnergy Ordinary s′ t r
+  job-energy-same t r l b h = job-energy-at Ordinary s t r b ∙ a .energies t r l b h ∙ sym (job-energy-at Ordinary s′ t r b)
 
   -- What idle ticks draw in a job's time.
   drawn-same : (t r : ℕ) → t < taskCount Ordinary s → 1 ≤ r → r ≤ rateCount Ordinary s
@@ -134,7 +141,7 @@ module _ (s s′ : List ℕ) (a : Alike s s′) where
     rates = a .rate-counts;
     limit = hyper-same;
     loads = λ t r l b h. ap₂ _*_ (jobs-same t l) (job-time-same t r l b h);
-    energies = λ t r l b h. ap₂ _*_ (jobs-same t l) (ap₂ _-_ (a .energies t r l b h) (drawn-same t r l b h));
+    energies = λ t r l b h. ap₂ _*_ (jobs-same t l) (ap₂ _-_ (job-energy-same t r l b h) (drawn-same t r l b h));
   }
 
   work-same : workNeeded s ≡ workNeeded s′
@@ -144,7 +151,7 @@ module _ (s s′ : List ℕ) (a : Alike s s′) where
   reported-same P p =
       ap₂ _+_
       (total-same (taskEnergy Ordinary s) (taskEnergy Ordinary s′) (taskCount Ordinary s) P P
-      (λ t l. ap₂ _*_ (jobs-same t l) (a .energies t (getD P t 0) l (p .above t l) (p .below t l))) ∙
+      (λ t l. ap₂ _*_ (jobs-same t l) (job-energy-same t (getD P t 0) l (p .above t l) (p .below t l))) ∙
       ap (λ (n : ℕ). total (taskEnergy Ordinary s′) n P) (a .task-counts))
       (ap₂ _*_ (a .idles) (ap₂ _-_ hyper-same (load-same (problem s) (problem s′) problem-same P p)))
 

@@ -1,7 +1,7 @@
 -- Idle energy (document 02, note 4): what check 10 says of a list, which energy is the first below H × job time, and that
 -- the energy reported of a plan is the one that selection goes by, and H for every tick of the hyper-period.
 -- Assumes nothing.
-use Prim.Native.Nat.{ℕ, suc, _+_, _-_, _*_, _/_, _≤_, _<_}
+use Prim.Native.Nat.{ℕ, zero, suc, _+_, _-_, _*_, _/_, _≤_, _<_}
 use mathlib.Core.Path.{_≡_, refl, sym, ap, _∙_}
 use mathlib.Core.List.{List}
 use mathlib.Core.Logic.{_⊎_, inl, inr, ⊎-elim}
@@ -15,7 +15,7 @@ use Rattle.selection.specs.Plan.{IsPlan, planLoad, planEnergy}
 use Rattle.layout.specs.Words.{idle, rateCount, taskCount, taskSize, energyPlace, period, energy}
 use Rattle.layout.specs.declared.Layout.{Layout}
 use Rattle.layout.specs.declared.Layout.the-variants.{Ordinary}
-use Rattle.taskset.specs.Quantities.{jobTime, hyperPeriod, taskLoad, taskEnergy, netEnergy, taskNet, problem}
+use Rattle.taskset.specs.Quantities.{jobTime, jobEnergy, hyperPeriod, taskLoad, taskEnergy, netEnergy, taskNet, problem}
 use Rattle.taskset.specs.Quantities.{jobsEnergy, reportedEnergy}
 use Rattle.taskset.specs.Sets.{Covered, Below}
 use Rattle.taskset.specs.Refusals.{IsBelowIdle, Passes, idleCheck}
@@ -89,8 +89,9 @@ whole-energy j e h x fits =
 module _ (layout : Layout) (s : List ℕ) (covered : Covered layout s) where
   task-energy-is : (t r : ℕ) → t < taskCount layout s → 1 ≤ r → r ≤ rateCount layout s
       → taskEnergy layout s t r ≡ taskNet layout s t r + idle s * taskLoad layout s t r
-  task-energy-is t r l a b =
-      whole-energy (hyperPeriod layout s / period layout s t) (energy layout s t r) (idle s) (jobTime layout s t r) (covered t r l a b)
+  task-energy-is t zero l a b = absurd (omega arith)
+  task-energy-is t (suc r) l a b =
+      whole-energy (hyperPeriod layout s / period layout s t) (energy layout s t (suc r)) (idle s) (jobTime layout s t (suc r)) (covered t (suc r) l a b)
 
   pub energies-are : (P : List ℕ) → ((t : ℕ) → t < taskCount layout s → 1 ≤ getD P t 0) → ((t : ℕ) → t < taskCount layout s → getD P t 0 ≤ rateCount layout s)
       → total (taskEnergy layout s) (taskCount layout s) P
@@ -115,7 +116,7 @@ reported-is s covered P plan fits =
 
 -- Where idle ticks draw nothing, both are document 01's own: the energy per job, and the sum of the task energies.
 module _ (s : List ℕ) (nothing : idle s ≡ 0) where
-  pub net-without : (layout : Layout) (t r : ℕ) → netEnergy layout s t r ≡ energy layout s t r
+  pub net-without : (layout : Layout) (t r : ℕ) → netEnergy layout s t r ≡ jobEnergy layout s t r
   net-without layout t r = rw nothing (omega arith)
 
   pub reported-without : (P : List ℕ) → reportedEnergy s P ≡ jobsEnergy s P

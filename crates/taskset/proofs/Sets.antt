@@ -2,7 +2,7 @@
 -- every deadline for ever'.
 -- Assumes nothing.
 use Prim.Native.Nat.{ℕ, zero, suc, _+_, _-_, _*_, _/_, _≤_, _<_, _∣_}
-use mathlib.Core.Path.{_≡_, sym, ap, _∙_}
+use mathlib.Core.Path.{_≡_, refl, sym, ap, _∙_}
 use mathlib.Core.List.{List}
 use mathlib.Core.Logic.{_↔_, ⊎-elim}
 use native.Mathlib.Nat.{mul-le-mul, mul-le-mul-left, div-le-self, le-of-dvd, mod-eq-zero-of-dvd}
@@ -19,8 +19,8 @@ use Rattle.schedule.proofs.ByPlace.{sum-places}
 use Rattle.schedule.proofs.Periodic.{Regular, keeps-iff-fits, tasks-regular}
 use Rattle.selection.specs.Plan.{IsPlan, planLoad}
 use Rattle.selection.proofs.Fastest.{Falling}
-use Rattle.layout.specs.Words.{mostTasks, mostIdle, headSize, word, idle, rateCount, taskCount, ratePlace, rate, period, energy}
-use Rattle.taskset.specs.Quantities.{hyperLimit, jobTime, hyperPeriod, taskLoad, taskEnergy, netEnergy, taskNet}
+use Rattle.layout.specs.Words.{mostTasks, mostIdle, headSize, word, idle, rateCount, taskCount, ratePlace, rate, period, cycles, energy}
+use Rattle.taskset.specs.Quantities.{hyperLimit, jobTicks, jobTime, jobEnergy, hyperPeriod, taskLoad, taskEnergy, netEnergy, taskNet}
 use Rattle.taskset.specs.Quantities.{problemOf, endlessTasks}
 use Rattle.taskset.specs.Sets.{IsSet}
 use Rattle.taskset.specs.Refusals.{RateFault, PassesLimit, Passes, Accepts, _▹_, wordCheck, rateCheck, wordChecks, hyperCheck}
@@ -28,6 +28,15 @@ use Rattle.taskset.proofs.Checks.{accepts-next, no-word-fault, no-rate-
 use Rattle.layout.specs.Whole.{IsWhole}
 use Rattle.layout.proofs.Whole.{whole-of, whole-iff, idle-in}
 use Rattle.layout.specs.declared.Layout.{Layout}
+
+-- At a rate number, which counts from 1, there is a job, with its time and its energy.
+pub job-time-at : (layout : Layout) (s : List ℕ) (t r : ℕ) → 1 ≤ r → jobTime layout s t r ≡ jobTicks (cycles layout s t) (rate layout s r)
+job-time-at layout s t zero h = absurd (omega arith)
+job-time-at layout s t (suc r) h = refl
+
+pub job-energy-at : (layout : Layout) (s : List ℕ) (t r : ℕ) → 1 ≤ r → jobEnergy layout s t r ≡ energy layout s t r
+job-energy-at layout s t zero h = absurd (omega arith)
+job-energy-at layout s t (suc r) h = refl
 
 module _ (layout : Layout) (s : List ℕ) where
   ascends : ((q : ℕ) → RateFault layout s q → ⊥) → (r : ℕ) → 1 ≤ r → r < rateCount layout s → rate layout s r < rate layout s (suc r)
@@ -102,23 +111,25 @@ module _ (layout : Layout) (s : List ℕ) where
     pub falling : Falling (problemOf layout s)
     falling t r l a b =
         mul-le-mul-left _
-        (ceil-falls _ (rate layout s r) (rate layout s (rateCount layout s)) (set .whole .rate-range r a b .0) (rates-up (rateCount layout s - r) r (omega arith) a))
+        (rw (job-time-at layout s t (rateCount layout s) (omega arith), job-time-at layout s t r a)
+        (ceil-falls _ (rate layout s r) (rate layout s (rateCount layout s)) (set .whole .rate-range r a b .0) (rates-up (rateCount layout s - r) r (omega arith) a)))
 
     -- Every job takes at least one tick.
     pub job-time-positive : (t r : ℕ) → t < taskCount layout s → 1 ≤ r → r ≤ rateCount layout s → 1 ≤ jobTime layout s t r
-    job-time-positive t r l a b = ceil-positive _ _ (set .whole .cycles-range t l .0) (set .whole .rate-range r a b .0)
+    job-time-positive t r l a b =
+        rw (job-time-at layout s t r a) (ceil-positive _ _ (set .whole .cycles-range t l .0) (set .whole .rate-range r a b .0))
 
     -- Energies: at most as many jobs as the hyper-period has ticks, of at most 1,000,000 microjoules, for each of at
     -- most 32 tasks.
     pub task-energy-small : (t r : ℕ) → t < taskCount layout s → 1 ≤ r → r ≤ rateCount layout s → taskEnergy layout s t r ≤ hyperLimit * 1000000
     task-energy-small t r l a b =
         let jobs : hyperPeriod layout s / period layout s t ≤ hyperLimit = omega (arith, div-le-self (hyperPeriod layout s) (period layout s t), set .hyper-range .1) in
-        omega (arith, mul-le-mul jobs (set .whole .energy-range t r l a b .1))
+        rw (job-energy-at layout s t r a) (omega (arith, mul-le-mul jobs (set .whole .energy-range t r l a b .1)))
 
     pub task-net-small : (t r : ℕ) → t < taskCount layout s → 1 ≤ r → r ≤ rateCount layout s
         → taskNet layout s t r ≤ hyperLimit * 1000000
     task-net-small t r l a b =
-        let less : netEnergy layout s t r ≤ energy layout s t r = omega arith in
+        let less : netEnergy layout s t r ≤ jobEnergy layout s t r = omega arith in
         omega (arith, task-energy-small t r l a b, mul-le-mul-left (hyperPeriod layout s / period layout s t) less)
 
     -- With at most 1,000 microjoules for each idle tick.

@@ -26,9 +26,15 @@ allZero f zero = true
 allZero f (suc n) = allZero f n && eqb (f n) 0
 
 module _ (layout : Layout) (s : List ℕ) where
-  -- The job time of the task at t at rate number r.
+  -- The job time and "the energy per job" of the task at t at rate number r. "Tasks and rates are numbered from 1": rate
+  -- number 0 is no job, so that its time and its energy are 0.
   abbrev pub jobTime : ℕ → ℕ → ℕ
-  jobTime t r = jobTicks (cycles layout s t) (rate layout s r)
+  jobTime t zero = 0
+  jobTime t (suc r) = jobTicks (cycles layout s t) (rate layout s (suc r))
+
+  abbrev pub jobEnergy : ℕ → ℕ → ℕ
+  jobEnergy t zero = 0
+  jobEnergy t (suc r) = energy layout s t (suc r)
 
   -- "Hyper-period L: the least common multiple of the periods"
   abbrev pub hyperPeriod : ℕ
@@ -39,11 +45,11 @@ module _ (layout : Layout) (s : List ℕ) where
   taskLoad t r = hyperPeriod / period layout s t * jobTime t r
 
   abbrev pub taskEnergy : ℕ → ℕ → ℕ
-  taskEnergy t r = hyperPeriod / period layout s t * energy layout s t r
+  taskEnergy t r = hyperPeriod / period layout s t * jobEnergy t r
 
   -- "the energy per job less H × job time": of the task at t at rate number r, and of all its jobs in a hyper-period.
   abbrev pub netEnergy : ℕ → ℕ → ℕ
-  netEnergy t r = energy layout s t r - idle s * jobTime t r
+  netEnergy t r = jobEnergy t r - idle s * jobTime t r
 
   abbrev pub taskNet : ℕ → ℕ → ℕ
   taskNet t r = hyperPeriod / period layout s t * netEnergy t r
