@@ -9,7 +9,7 @@ use lib.Seq.{take-at}
 use Rattle.selection.specs.Plan.{Fitting}
 use Rattle.layout.specs.Words.{taskCount, first}
 use Rattle.layout.specs.declared.Layout.the-variants.{Ordinary}
-use Rattle.taskset.specs.Quantities.{problem, workNeeded}
+use Rattle.taskset.specs.Quantities.{problemOf, workNeeded}
 use Rattle.taskset.specs.Refusals.{number, second, Accepts, Refuses, _▹_, wordChecks, idleChecks, hyperCheck, workCheck}
 use Rattle.taskset.specs.Refusals.{roomCheck, noneCheck, planCheck, readyChecks, plannerChecks, walkChecks}
 use Rattle.taskset.specs.Calls.{SetAfter}
@@ -20,6 +20,7 @@ use Rattle.taskset.specs.declared.CopyAnswer.{CopyAnswer}
 use Rattle.taskset.specs.declared.CopyAnswer.the-variants.{Wrote, Refused as NotCopied}
 use Rattle.taskset.specs.declared.PlannerAnswer.the-variants.{Planned, Refused as NotPlanned}
 use Rattle.taskset.specs.declared.WalkAnswer.the-variants.{Kept, Missed, Refused as NotWalked}
+use Rattle.taskset.specs.declared.Engine.the-variants.{Table}
 use Rattle.taskset.proofs.Checks.{accepts-but-last, accepts-next, refuses-next, refuses-before, passed, not-both}
 use Rattle.taskset.proofs.DemandThree.{outcome-kept, sound-plan, own-firsts}
 use Rattle.taskset.proofs.Copied.{copied, count-is, front-is}
@@ -57,12 +58,12 @@ module _ {s P : List ℕ} {unit load hyper energy : ℕ} (given : PlannedSet s P
   pub not-missed : (t k : ℕ) → Walked s P (Missed t k) → ⊥
   not-missed t k w =
       w .owes .from-these
-      (promise s (given .accepts) P unit load hyper energy (given .selected) .keeps-from (first Ordinary s)
-      (own-firsts s (is-set s (given .accepts))))
+      (promise s (given .accepts) P unit load hyper energy (given .selected) .granted (first Ordinary s)
+      (own-firsts Ordinary s (is-set s (given .accepts))))
 
   accepted : Accepts (walkChecks s P)
   accepted =
-      let checks = plannerChecks s planLent workLent in
+      let checks = plannerChecks (Table Ordinary) s planLent workLent in
       let words = wordChecks Ordinary s in
       accepts-next (words ▹ hyperCheck Ordinary s) (planCheck Ordinary s P)
       (accepts-next words (hyperCheck Ordinary s)
@@ -74,25 +75,25 @@ module _ {s P : List ℕ} {unit load hyper energy : ℕ} (given : PlannedSet s P
 
 -- ---- a set
 pub set-refused : (s d d′ : List ℕ) (n : ℕ) (r : Refusal)
-    → Refuses (plannerChecks s planLent workLent) (number r) (second r)
+    → Refuses (plannerChecks (Table Ordinary) s planLent workLent) (number r) (second r)
     → Put (refusedLine (number r) (second r)) d d′ n → PutSet s d d′ n
 set-refused s d d′ n r h put = (refusedLine (number r) (second r), steps.refused (number r) (second r) h refl, put)
 
-pub ready-refused : (s : List ℕ) (r : Refusal) → SetAfter (readyChecks s planLent workLent) Ordinary s (NotGood r)
-    → Refuses (plannerChecks s planLent workLent) (number r) (second r)
-ready-refused s r h = refuses-before (readyChecks s planLent workLent) (noneCheck (Fitting (problem s))) (number r) (second r) h
+pub ready-refused : (s : List ℕ) (r : Refusal) → SetAfter (readyChecks (Table Ordinary) s planLent workLent) Ordinary s (NotGood r)
+    → Refuses (plannerChecks (Table Ordinary) s planLent workLent) (number r) (second r)
+ready-refused s r h = refuses-before (readyChecks (Table Ordinary) s planLent workLent) (noneCheck (Fitting (problemOf Ordinary s))) (number r) (second r) h
 
 -- What passes the checks before 7 with some words passes them with more.
 pub more-room : (s : List ℕ) (p w p′ w′ m n l : ℕ) → p ≤ p′ → w ≤ w′
-    → SetAfter (readyChecks s p w) Ordinary s (Good m n l) → SetAfter (readyChecks s p′ w′) Ordinary s (Good m n l)
+    → SetAfter (readyChecks (Table Ordinary) s p w) Ordinary s (Good m n l) → SetAfter (readyChecks (Table Ordinary) s p′ w′) Ordinary s (Good m n l)
 more-room s p w p′ w′ m n l a b h =
     let set = idleChecks Ordinary s ▹ hyperCheck Ordinary s in
-    let five = workCheck (workNeeded s) w in
+    let five = workCheck (workNeeded Ordinary s) w in
     let six = roomCheck (taskCount Ordinary s) p in (
-      accepts-next (set ▹ workCheck (workNeeded s) w′) (roomCheck (taskCount Ordinary s) p′)
-          (accepts-next set (workCheck (workNeeded s) w′) (accepts-but-last set five (accepts-but-last (set ▹ five) six (h .0)))
-          (λ k x. passed 5 (readyChecks s p w) refl (h .0) k (omega (arith, x .0), x .1)))
-          (λ k x. passed 6 (readyChecks s p w) refl (h .0) k (omega (arith, x .0), x .1)),
+      accepts-next (set ▹ workCheck (workNeeded Ordinary s) w′) (roomCheck (taskCount Ordinary s) p′)
+          (accepts-next set (workCheck (workNeeded Ordinary s) w′) (accepts-but-last set five (accepts-but-last (set ▹ five) six (h .0)))
+          (λ k x. passed 5 (readyChecks (Table Ordinary) s p w) refl (h .0) k (omega (arith, x .0), x .1)))
+          (λ k x. passed 6 (readyChecks (Table Ordinary) s p w) refl (h .0) k (omega (arith, x .0), x .1)),
       h .1,
       h .2,
       h .3,
@@ -100,11 +101,11 @@ more-room s p w p′ w′ m n l a b h =
 
 -- The plan list and the working list as the call lent them.
 module _ (s plan work plan′ work′ : List ℕ) (lp : length plan ≡ planLent) (lw : length work ≡ workLent) where
-  pub call-refused : (r : Refusal) → PlannerCall s plan work plan′ work′ (NotPlanned r)
-      → Refuses (plannerChecks s planLent workLent) (number r) (second r)
+  pub call-refused : (r : Refusal) → PlannerCall (Table Ordinary) s plan work plan′ work′ (NotPlanned r)
+      → Refuses (plannerChecks (Table Ordinary) s planLent workLent) (number r) (second r)
   call-refused r c = rw (lp, lw) at (c .gives .0 .0)
 
-  pub call-planned : (n u l h e : ℕ) → n ≡ taskCount Ordinary s → PlannerCall s plan work plan′ work′ (Planned u l h e)
+  pub call-planned : (n u l h e : ℕ) → n ≡ taskCount Ordinary s → PlannerCall (Table Ordinary) s plan work plan′ work′ (Planned u l h e)
       → PlannedSet s (take n plan′) u l h e
   call-planned n u l h e count c =
       let g = c .gives .0 .1 in

@@ -10,12 +10,14 @@ use lib.Seq.{take-all}
 use Rattle.selection.specs.Plan.{Fitting}
 use Rattle.layout.specs.Words.{headKinds, extraKinds, taskCount}
 use Rattle.layout.specs.declared.Layout.the-variants.{Ordinary}
-use Rattle.taskset.specs.Quantities.{problem, workNeeded}
+use Rattle.taskset.specs.Quantities.{problemOf, workNeeded}
 use Rattle.taskset.specs.Refusals.{Accepts, Refuses, _▹_, wordChecks, idleCheck, idleChecks, hyperCheck, workCheck}
 use Rattle.taskset.specs.Refusals.{roomCheck, noneCheck, readyChecks, plannerChecks}
 use Rattle.taskset.specs.Calls.{walkValues, outcomeValues, walkOf, Selected, PlannerGives}
 use Rattle.taskset.specs.declared.PlannerAnswer.the-variants.{Planned}
 use Rattle.taskset.specs.declared.WalkAnswer.the-variants.{Kept}
+use Rattle.taskset.specs.Planning.{planning}
+use Rattle.taskset.specs.declared.Engine.the-variants.{Table}
 use Rattle.taskset.proofs.Checks.{accepts-next, passed}
 use Rattle.taskset.proofs.Cases.{S, S-from, chip-set, slow-or-fast, cases}
 use Rattle.taskset.proofs.DemandThree.{outcome-kept}
@@ -34,21 +36,21 @@ use Rattle.answer.specs.Answer.{workLent, planLent, setLent, PrintsPlan,
 -- A case of the planner, where just the words needed are lent; more of them change nothing. P is its plan, with the four
 -- values, and the walk of P is kept with the three counts.
 module _ (s P out lent words words′ : List ℕ) (unit load hyper energy busy idle preempted : ℕ)
-    (gives : PlannerGives s lent words P words′ (Planned unit load hyper energy))
-    (work : workNeeded s ≤ workLent) (room : taskCount Ordinary s ≤ planLent) (size : length P ≡ taskCount Ordinary s)
+    (gives : PlannerGives (Table Ordinary) s lent words P words′ (Planned unit load hyper energy))
+    (work : workNeeded Ordinary s ≤ workLent) (room : taskCount Ordinary s ≤ planLent) (size : length P ≡ taskCount Ordinary s)
     (walked : walkValues (Kept busy idle preempted) ≡ outcomeValues (walkOf s P))
     (lines : out ≡ planLine unit load hyper energy ++ (rateLines 1 P ++ walkLine busy idle preempted)) where
-  accepts : Accepts (plannerChecks s planLent workLent)
+  accepts : Accepts (plannerChecks (Table Ordinary) s planLent workLent)
   accepts =
-      let before = plannerChecks s (length lent) (length words) in
+      let before = plannerChecks (Table Ordinary) s (length lent) (length words) in
       let a = gives .0 .0 in
       let two = wordChecks Ordinary s in
       let ten = idleChecks Ordinary s in
       let set = ten ▹ hyperCheck Ordinary s in
-      let five = set ▹ workCheck (workNeeded s) workLent in
-      accepts-next (readyChecks s planLent workLent) (noneCheck (Fitting (problem s)))
+      let five = set ▹ workCheck (workNeeded Ordinary s) workLent in
+      accepts-next (readyChecks (Table Ordinary) s planLent workLent) (noneCheck (Fitting (problemOf Ordinary s)))
       (accepts-next five (roomCheck (taskCount Ordinary s) planLent)
-      (accepts-next set (workCheck (workNeeded s) workLent)
+      (accepts-next set (workCheck (workNeeded Ordinary s) workLent)
       (accepts-next ten (hyperCheck Ordinary s)
       (accepts-next two (idleCheck Ordinary s) (passed 2 before refl a, (passed 3 before refl a, tt)) (passed 10 before refl a))
       (passed 4 before refl a))
@@ -62,7 +64,7 @@ module _ (s P out lent words words′ : List ℕ) (unit load hyper energy busy i
       let same : g .0 ≡ P = sym (g .2 .front) ∙ take-all (taskCount Ordinary s) P (omega arith) in
       record {
         accepts = accepts;
-        selected = subst (λ (Q : List ℕ). Selected s Q (unit ∷ load ∷ hyper ∷ energy ∷ [])) same (g .1);
+        selected = subst (λ (Q : List ℕ). Selected (planning Ordinary s) Q (unit ∷ load ∷ hyper ∷ energy ∷ [])) same (g .1);
         walked = outcome-kept _ busy idle preempted walked;
         lines = lines;
       }
@@ -142,18 +144,18 @@ idle-example-printed =
     (read-script (slow-or-fast 10 910) idle-910 (idle-line-910 .text))
     (subst (λ (w : List ℕ). PrintsPlan w (1 ∷ []) idle-printed 1 90 100 1010 90 10 0) (sym (idle-line-910 .words-are)) idle-plan)
 
-below : Refuses (plannerChecks (slow-or-fast 10 899) planLent workLent) 10 9
+below : Refuses (plannerChecks (Table Ordinary) (slow-or-fast 10 899) planLent workLent) 10 9
 below =
     let plan : List ℕ = replicate planLent 0 in
     let work : List ℕ = replicate workLent 0 in
-    let refuses : Refuses (plannerChecks (slow-or-fast 10 899) (length plan) (length work)) 10 9
+    let refuses : Refuses (plannerChecks (Table Ordinary) (slow-or-fast 10 899) (length plan) (length work)) 10 9
     = cases .idle-above plan work .0 .0 in
-    subst (λ (w : ℕ). Refuses (plannerChecks (slow-or-fast 10 899) planLent w) 10 9) (length-replicate {A = ℕ} workLent 0)
-    (subst (λ (p : ℕ). Refuses (plannerChecks (slow-or-fast 10 899) p (length work)) 10 9)
+    subst (λ (w : ℕ). Refuses (plannerChecks (Table Ordinary) (slow-or-fast 10 899) planLent w) 10 9) (length-replicate {A = ℕ} workLent 0)
+    (subst (λ (p : ℕ). Refuses (plannerChecks (Table Ordinary) (slow-or-fast 10 899) p (length work)) 10 9)
     (length-replicate {A = ℕ} planLent 0) refuses)
 
 pub below-printed : Prints idle-899 (bytes "(refused 10 9)\n")
 below-printed =
     refused (scriptOf (slow-or-fast 10 899)) 10 9 (read-script (slow-or-fast 10 899) idle-899 (idle-line-899 .text))
-    (subst (λ (w : List ℕ). Refuses (plannerChecks w planLent workLent) 10 9) (sym (idle-line-899 .words-are)) below)
+    (subst (λ (w : List ℕ). Refuses (plannerChecks (Table Ordinary) w planLent workLent) 10 9) (sym (idle-line-899 .words-are)) below)
     (sym refused-10-9)

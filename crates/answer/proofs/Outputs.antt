@@ -12,7 +12,7 @@ use Rattle.numbers.proofs.Tests.{lt-or-le}
 use Rattle.schedule.specs.Counted.{IsKept, kept}
 use Rattle.selection.specs.Plan.{Fitting, IsPlan}
 use Rattle.layout.specs.Words.{mostTasks, taskCount}
-use Rattle.taskset.specs.Quantities.{problem}
+use Rattle.taskset.specs.Quantities.{problemOf}
 use Rattle.taskset.specs.Refusals.{number, second, Accepts, Refuses, roomCheck, noneCheck, readyChecks, plannerChecks}
 use Rattle.taskset.specs.Calls.{Selected, Copied, walkOf}
 use Rattle.taskset.specs.DemandThree.{PlanPromise}
@@ -20,9 +20,11 @@ use Rattle.taskset.specs.declared.CopyAnswer.{CopyAnswer}
 use Rattle.taskset.specs.declared.CopyAnswer.the-variants.{Wrote, Refused as NotCopied}
 use Rattle.taskset.proofs.Checks.{accepts-but-last, accepts-next, refuses-unique, passed, not-both}
 use Rattle.taskset.specs.Sets.{IsSet}
+use Rattle.taskset.specs.Planning.{planning}
+use Rattle.taskset.specs.declared.Engine.the-variants.{Table}
 use Rattle.layout.specs.declared.Layout.the-variants.{Ordinary}
 use Rattle.taskset.proofs.Unique.{planner-single, selected-unique, short-single, single-next, refusal-unique}
-use Rattle.taskset.proofs.DemandThree.{plan-given, walk-kept, planner-plans, refusal-owes}
+use Rattle.taskset.proofs.DemandThree.{plan-given, walk-kept, engine-plans, list-plans, refusal-owes}
 use Rattle.taskset.proofs.Copied.{SameCopied, count-is, copied-one}
 use Rattle.text.specs.Text.{Script, WellFormed, FirstBad, words}
 use Rattle.text.proofs.Sizes.{text-length}
@@ -33,26 +35,27 @@ use Rattle.answer.specs.Answer.{workLent, planLent, setLent, PrintsPlan,
 use Rattle.answer.specs.Answer.{Owes, outputChecks, RespondGives, Responds}
 
 -- ---- of a set that the planner takes
-module _ (s : List ℕ) (accepts : Accepts (plannerChecks s planLent workLent)) where
-  ready : Accepts (readyChecks s planLent workLent)
-  ready = accepts-but-last (readyChecks s planLent workLent) (noneCheck (Fitting (problem s))) accepts
+module _ (s : List ℕ) (accepts : Accepts (plannerChecks (Table Ordinary) s planLent workLent)) where
+  ready : Accepts (readyChecks (Table Ordinary) s planLent workLent)
+  ready = accepts-but-last (readyChecks (Table Ordinary) s planLent workLent) (noneCheck (Fitting (problemOf Ordinary s))) accepts
 
   pub is-set : IsSet Ordinary s
-  is-set = planner-plans s planLent workLent .set ready
+  is-set = engine-plans (Table Ordinary) s planLent workLent .set ready
 
   pub tasks-few : taskCount Ordinary s ≤ mostTasks
   tasks-few = is-set .whole .tasks-range .1
 
-  module _ (P : List ℕ) (unit load hyper energy : ℕ) (selected : Selected s P (unit ∷ load ∷ hyper ∷ energy ∷ [])) where
-    pub is-plan : IsPlan (problem s) P
+  module _ (P : List ℕ) (unit load hyper energy : ℕ) (selected : Selected (planning Ordinary s) P (unit ∷ load ∷ hyper ∷ energy ∷ [])) where
+    pub is-plan : IsPlan (problemOf Ordinary s) P
     is-plan = selected .planned .chosen .ok .plan
 
     pub plan-length : length P ≤ mostTasks
     plan-length = omega (arith, is-plan .size, tasks-few)
 
     -- Demand 3, with note 5's margin.
-    pub promise : PlanPromise s P unit energy
-    promise = plan-given s is-set (planner-plans s planLent workLent .covered ready) P unit load hyper energy selected
+    pub promise : PlanPromise (planning Ordinary s) P unit energy
+    promise =
+        plan-given (planning Ordinary s) (list-plans (engine-plans (Table Ordinary) s planLent workLent) .sound ready) P unit load hyper energy selected
 
     -- After a plan the walk is kept, from whatever first releases: there is no other line.
     pub walk-is-kept : IsKept (walkOf s P)
@@ -63,8 +66,8 @@ pub owes : (t out : List ℕ) (p : Prints t out) → Owes p
 owes t out (unread n k r e) = tt
 owes t out (refused s n k h r e) =
     let w = words s in
-    let ready = readyChecks w planLent workLent in
-    let owed = refusal-owes w ready (planner-plans w planLent workLent) n k r in
+    let ready = readyChecks (Table Ordinary) w planLent workLent in
+    let owed = refusal-owes (planning Ordinary w) ready (list-plans (engine-plans (Table Ordinary) w planLent workLent)) n k r in
     (owed .0, (λ none. owed .1 none .0))
 owes t out (planned s P unit load hyper energy busy idle preempted h x) =
     promise (words s) (x .accepts) P unit load hyper energy (x .selected)
@@ -87,7 +90,7 @@ kept-same b i p c j q e = (cc, cc, cc)
 plans-same : (s P Q o₁ o₂ : List ℕ) (u l h e b i p v m k f c j q : ℕ)
     → PrintsPlan s P o₁ u l h e b i p → PrintsPlan s Q o₂ v m k f c j q → o₁ ≡ o₂
 plans-same s P Q o₁ o₂ u l h e b i p v m k f c j q x y =
-    let same = selected-unique s P Q _ _ (x .selected) (y .selected) in
+    let same = selected-unique (planning Ordinary s) P Q _ _ (x .selected) (y .selected) in
     let values = same .1 in
     let plan = same .0 in
     let one : walkOf s P ≡ walkOf s Q =
@@ -104,16 +107,16 @@ one-output t o₁ o₂ (unread n k r x) (refused s n′ k′ h r′ y) = absurd 
 one-output t o₁ o₂ (unread n k r x) (planned s P u l h e b i p is y) = absurd (not-both (readerChecks t setLent) n k (is .accepts) r)
 one-output t o₁ o₂ (refused s n k h r x) (unread n′ k′ r′ y) = absurd (not-both (readerChecks t setLent) n′ k′ (h .accepts) r′)
 one-output t o₁ o₂ (refused s n k h r x) (refused s′ n′ k′ h′ r′ y) =
-    let r″ = subst (λ (z : Script). Refuses (plannerChecks (words z) planLent workLent) n′ k′) (one-script s′ s t (h′ .text) (h .text)) r′ in
-    let e = refuses-unique (plannerChecks (words s) planLent workLent) (planner-single (words s) planLent workLent) n k n′ k′ r r″ in
+    let r″ = subst (λ (z : Script). Refuses (plannerChecks (Table Ordinary) (words z) planLent workLent) n′ k′) (one-script s′ s t (h′ .text) (h .text)) r′ in
+    let e = refuses-unique (plannerChecks (Table Ordinary) (words s) planLent workLent) (planner-single (Table Ordinary) (words s) planLent workLent) n k n′ k′ r r″ in
     x ∙ cc (e .0, e .1) ∙ sym y
 one-output t o₁ o₂ (refused s n k h r x) (planned s′ P u l hh e b i p is y) =
-    absurd (not-both (plannerChecks (words s) planLent workLent) n k
-    (subst (λ (z : Script). Accepts (plannerChecks (words z) planLent workLent)) (one-script s′ s t (is .text) (h .text)) (y .accepts)) r)
+    absurd (not-both (plannerChecks (Table Ordinary) (words s) planLent workLent) n k
+    (subst (λ (z : Script). Accepts (plannerChecks (Table Ordinary) (words z) planLent workLent)) (one-script s′ s t (is .text) (h .text)) (y .accepts)) r)
 one-output t o₁ o₂ (planned s P u l h e b i p is x) (unread n k r y) = absurd (not-both (readerChecks t setLent) n k (is .accepts) r)
 one-output t o₁ o₂ (planned s P u l hh e b i p is x) (refused s′ n k h r y) =
-    absurd (not-both (plannerChecks (words s′) planLent workLent) n k
-    (subst (λ (z : Script). Accepts (plannerChecks (words z) planLent workLent)) (one-script s s′ t (is .text) (h .text)) (x .accepts)) r)
+    absurd (not-both (plannerChecks (Table Ordinary) (words s′) planLent workLent) n k
+    (subst (λ (z : Script). Accepts (plannerChecks (Table Ordinary) (words z) planLent workLent)) (one-script s s′ t (is .text) (h .text)) (x .accepts)) r)
 one-output t o₁ o₂ (planned s P u l h e b i p is x) (planned s′ Q v m k f c j q is′ y) =
     plans-same (words s) P Q o₁ o₂ u l h e b i p v m k f c j q x
     (subst (λ (z : Script). PrintsPlan (words z) Q o₂ v m k f c j q) (one-script s′ s t (is′ .text) (is .text)) y)

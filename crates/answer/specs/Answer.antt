@@ -12,6 +12,9 @@ use Rattle.taskset.specs.Calls.{Selected, Copied, walkOf}
 use Rattle.taskset.specs.DemandThree.{PlanPromise, NoneKeeps}
 use Rattle.taskset.specs.declared.CopyAnswer.{CopyAnswer}
 use Rattle.taskset.specs.declared.CopyAnswer.the-variants.{Wrote, Refused as NotCopied}
+use Rattle.taskset.specs.Planning.{planning}
+use Rattle.taskset.specs.declared.Engine.the-variants.{Table}
+use Rattle.layout.specs.declared.Layout.the-variants.{Ordinary}
 use Rattle.text.specs.Text.{Script, IsTextOf, words}
 use Rattle.text.specs.Calls.{readerChecks}
 use Rattle.lines.specs.Lines.{planLine, rateLines, walkLine, refusedLine}
@@ -31,8 +34,8 @@ setLent = mostWords
 -- unit, load, L and energy; the walk of P, from the set's first releases, is kept with its counts; and out is their lines:
 -- the plan's, one a task from task number 1 on, the walk's.
 pub record PrintsPlan (s P out : List ℕ) (unit load hyper energy busy idle preempted : ℕ) : Type 0 where
-  pub accepts : Accepts (plannerChecks s planLent workLent)
-  pub selected : Selected s P (unit ∷ load ∷ hyper ∷ energy ∷ [])
+  pub accepts : Accepts (plannerChecks (Table Ordinary) s planLent workLent)
+  pub selected : Selected (planning Ordinary s) P (unit ∷ load ∷ hyper ∷ energy ∷ [])
   pub walked : walkOf s P ≡ kept busy idle preempted
   pub lines : out ≡ planLine unit load hyper energy ++ (rateLines 1 P ++ walkLine busy idle preempted)
 
@@ -45,7 +48,7 @@ pub record Read (s : Script) (t : List ℕ) : Type 0 where
 -- or of the planner on the words of t's script; else a plan's lines.
 pub data Prints (t out : List ℕ) : Type 0 where
   unread : (n k : ℕ) → Refuses (readerChecks t setLent) n k → out ≡ refusedLine n k → Prints t out
-  refused : (s : Script) (n k : ℕ) → Read s t → Refuses (plannerChecks (words s) planLent workLent) n k
+  refused : (s : Script) (n k : ℕ) → Read s t → Refuses (plannerChecks (Table Ordinary) (words s) planLent workLent) n k
       → out ≡ refusedLine n k → Prints t out
   planned : (s : Script) (P : List ℕ) (unit load hyper energy busy idle preempted : ℕ)
       → Read s t → PrintsPlan (words s) P out unit load hyper energy busy idle preempted → Prints t out
@@ -66,8 +69,8 @@ RespondGives t d d′ (NotCopied r) =
 -- deadline for ever.
 abbrev pub Owes : {t out : List ℕ} → Prints t out → Type 0
 Owes (unread n k r e) = Unit {0}
-Owes (refused s n k h r e) = (n ≡ 7) ↔ (Accepts (readyChecks (words s) planLent workLent) × NoneKeeps (words s))
-Owes (planned s P unit load hyper energy busy idle preempted h x) = PlanPromise (words s) P unit energy
+Owes (refused s n k h r e) = (n ≡ 7) ↔ (Accepts (readyChecks (Table Ordinary) (words s) planLent workLent) × NoneKeeps (planning Ordinary (words s)))
+Owes (planned s P unit load hyper energy busy idle preempted h x) = PlanPromise (planning Ordinary (words s)) P unit energy
 
 -- The bytes that the call writes are an output, with all that it owes.
 abbrev pub RespondOwes : (t d′ : List ℕ) → CopyAnswer → Type 0

@@ -2,12 +2,14 @@
 // lines, or the line of the refusal. Standard input and output are left to the program.
 ghost use Rattle.answer.specs.Answer.{Responds};
 ghost use Rattle.answer.specs.Steps.{PutAnswer, PutSet, PlannedSet};
+use layout::Layout;
 use lines::PlanFigures;
 use lines::WalkFigures;
 use places::MOST_TASKS;
 use places::MOST_WORDS;
 use taskset::Checked;
 use taskset::CopyAnswer;
+use taskset::Engine;
 use taskset::PlannerAnswer;
 use taskset::Refusal;
 use taskset::WalkAnswer;
@@ -45,14 +47,15 @@ fn answer_set(set: &[u32], text: &mut [u8; 2048]) -> usize
 {
     let mut plan = [0u32; MOST_TASKS];
     let mut work = [0u32; WORK_WORDS];
-    match planner::ready(set, MOST_TASKS, WORK_WORDS) {
+    let engine = Engine::Table(Layout::Ordinary);
+    match planner::ready(set, engine, MOST_TASKS, WORK_WORDS) {
         Checked::Refused(r) => lines::put_refused(text, r),
         Checked::Good {
             rates,
             tasks,
             hyper,
         } => {
-            match planner::plan_checked(set, &mut plan, &mut work, rates, tasks, hyper) {
+            match planner::plan_checked(set, engine, &mut plan, &mut work, rates, tasks, hyper) {
                 PlannerAnswer::Refused(r) => lines::put_refused(text, r),
                 PlannerAnswer::Planned {
                     unit,

@@ -3,13 +3,18 @@
 // overlap (include/seedspell.h).
 ghost use mathlib.Core.Path.{_≡_};
 ghost use Prim.Native.Nat.{_+_, _<_, _≤_, _^_};
+ghost use lib.Dec.{ltb};
 ghost use lib.ListN.{length};
+ghost use Rattle.layout.specs.declared.Layout.the-variants.{Ordinary};
+ghost use Rattle.taskset.specs.declared.Engine.the-variants.{Table};
 ghost use Rattle.taskset.specs.Refusals.{second};
 ghost use Rattle.taskset.specs.Calls.{code};
-ghost use Rattle.entries.specs.Entry.{PlanEntry, DullEntry, WalkEntry, GenerateEntry};
+ghost use Rattle.entries.specs.Entry.{resultSize, PlanEntry, DullEntry, WalkEntry, GenerateEntry};
 ghost use Rattle.entries.specs.Put.{Placed, Four, AnswerSmall, AnswerPut};
 use generator::Room;
+use layout::Layout;
 use taskset::Checked;
+use taskset::Engine;
 use taskset::PlannerAnswer;
 use taskset::Refusal;
 use ticks::WalkEnd;
@@ -47,6 +52,13 @@ fn put_values(d: &mut [u8], a: u64, b: u64, c: u64, e: u64)
     put_value(d, 24, e);
 }
 
+// Whether so many result bytes are too few for four values.
+fn too_few(results_len: usize) -> bool
+    ensures { λ r. ⌜ r ≡ ltb «results_len» resultSize ⌝ }
+{
+    results_len < 32
+}
+
 // Leaves the answer of a call that plans: 0 and its four values, or a refusal.
 fn put_answer(d: &mut [u8], answer: PlannerAnswer) -> u64
     requires { ⌜ (32 ≤ length (now d)) × AnswerSmall answer ⌝ }
@@ -80,8 +92,7 @@ pub extern "C" fn seedspell_walk(set: &[u32], plan: &[u32], results: &mut [u8]) 
             tasks,
             hyper,
         } => {
-            let room = results.len();
-            if room < 32 {
+            if too_few(results.len()) {
                 return code_of(Refusal::TooShort(32));
             }
             let end = walk::walk_checked(set, plan, rates, tasks, hyper);
@@ -99,7 +110,35 @@ pub extern "C" fn seedspell_walk(set: &[u32], plan: &[u32], results: &mut [u8]) 
     }
 }
 
-// The planner: 0 and 32 result bytes (unit, load, L, energy), or a refusal. Too few result bytes are refused before 7.
+// A list planned by an engine: 0 and 32 result bytes (unit, load, L, energy), or a refusal. Too few result bytes are
+// refused before 7.
+fn plan_list(
+    set: &[u32],
+    engine: Engine,
+    plan: &mut [u32],
+    work: &mut [u32],
+    results: &mut [u8],
+) -> u64
+    ensures { λ r. ⌜ PlanEntry engine (now (set .entry)) (now (plan .entry)) (now (work .entry)) (now (results .entry)) (now (plan .exit)) (now (work .exit)) (now (results .exit)) r ⌝ }
+{
+    let checked = planner::ready(set, engine, plan.len(), work.len());
+    match checked {
+        Checked::Refused(r) => code_of(r),
+        Checked::Good {
+            rates,
+            tasks,
+            hyper,
+        } => {
+            if too_few(results.len()) {
+                return code_of(Refusal::TooShort(32));
+            }
+            let answer = planner::plan_checked(set, engine, plan, work, rates, tasks, hyper);
+            put_answer(results, answer)
+        }
+    }
+}
+
+// The planner, of the ordinary list.
 #[no_mangle]
 pub extern "C" fn seedspell_plan(
     set: &[u32],
@@ -107,48 +146,18 @@ pub extern "C" fn seedspell_plan(
     work: &mut [u32],
     results: &mut [u8],
 ) -> u64
-    ensures { λ r. ⌜ PlanEntry (now (set .entry)) (now (plan .entry)) (now (work .entry)) (now (results .entry)) (now (plan .exit)) (now (work .exit)) (now (results .exit)) r ⌝ }
+    ensures { λ r. ⌜ PlanEntry (Table Ordinary) (now (set .entry)) (now (plan .entry)) (now (work .entry)) (now (results .entry)) (now (plan .exit)) (now (work .exit)) (now (results .exit)) r ⌝ }
 {
-    let checked = planner::ready(set, plan.len(), work.len());
-    match checked {
-        Checked::Refused(r) => code_of(r),
-        Checked::Good {
-            rates,
-            tasks,
-            hyper,
-        } => {
-            let size = results.len();
-            if size < 32 {
-                return code_of(Refusal::TooShort(32));
-            }
-            let answer = planner::plan_checked(set, plan, work, rates, tasks, hyper);
-            put_answer(results, answer)
-        }
-    }
+    plan_list(set, Engine::Table(Layout::Ordinary), plan, work, results)
 }
 
-// The dull engine: 0 and 32 result bytes (unit, load, L, energy), or a refusal. Too few result bytes are refused before
-// 7.
+// The dull engine, which is lent no working words.
 #[no_mangle]
 pub extern "C" fn seedspell_plan_dull(set: &[u32], plan: &mut [u32], results: &mut [u8]) -> u64
     ensures { λ r. ⌜ DullEntry (now (set .entry)) (now (plan .entry)) (now (results .entry)) (now (plan .exit)) (now (results .exit)) r ⌝ }
 {
-    let checked = dull::ready(set, plan.len());
-    match checked {
-        Checked::Refused(r) => code_of(r),
-        Checked::Good {
-            rates,
-            tasks,
-            hyper,
-        } => {
-            let bytes = results.len();
-            if bytes < 32 {
-                return code_of(Refusal::TooShort(32));
-            }
-            let answer = dull::plan_checked(set, plan, rates, tasks, hyper);
-            put_answer(results, answer)
-        }
-    }
+    let mut none = [0u32; 1];
+    plan_list(set, Engine::Exhaustive, plan, &mut none, results)
 }
 
 // The generator: 0 and 32 result bytes (the set's length, 0, 0, 0), or a refusal. Too few result bytes are refused before
@@ -161,8 +170,7 @@ pub extern "C" fn seedspell_generate(seed: u32, n: u32, set: &mut [u32], results
     match room {
         Room::Refused(r) => code_of(r),
         Room::Enough(needed) => {
-            let lent = results.len();
-            if lent < 32 {
+            if too_few(results.len()) {
                 return code_of(Refusal::TooShort(32));
             }
             generator::put_set(seed, n, set);

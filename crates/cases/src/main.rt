@@ -8,6 +8,7 @@ mod print;
 ghost use Prim.Native.Nat.{_≤_};
 use input::Window;
 use layout::Layout;
+use taskset::Engine;
 
 // A function for each kind of record. It takes the record's name and what stands behind it, runs the call and prints
 // the line, but for the byte that ends it. Where the record is not of its form, it prints nothing and gives false.
@@ -58,7 +59,8 @@ fn plan_record(name: &[u8], s: &[u8]) -> bool {
     let w = working.value;
     let mut plan = [0u32; 400];
     let mut work = [7u32; 16384];
-    let a = planner::plan(&words[0..k], &mut plan[0..j], &mut work[0..w]);
+    let engine = Engine::Table(Layout::Ordinary);
+    let a = planner::plan(&words[0..k], engine, &mut plan[0..j], &mut work[0..w]);
     print::text(name);
     print::planned(a, &plan);
     true
@@ -76,7 +78,8 @@ fn dull_record(name: &[u8], s: &[u8]) -> bool {
     let k = set.value;
     let j = lent.value;
     let mut plan = [0u32; 400];
-    let a = dull::plan(&words[0..k], &mut plan[0..j]);
+    let mut none = [7u32; 1];
+    let a = planner::plan(&words[0..k], Engine::Exhaustive, &mut plan[0..j], &mut none);
     print::text(name);
     print::planned(a, &plan);
     true

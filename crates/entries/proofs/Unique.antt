@@ -2,17 +2,19 @@
 -- Assumes nothing.
 use Prim.Native.Nat.{ℕ}
 use mathlib.Core.Path.{_≡_, refl, sym, ap, _∙_}
-use mathlib.Core.List.{List, _++_}
+use mathlib.Core.List.{List, [], _++_}
 use mathlib.Core.Logic.{⊎-elim}
 use lib.ListN.{length, drop}
 use Rattle.selection.specs.Plan.{Fitting}
-use Rattle.taskset.specs.Quantities.{problem}
+use Rattle.taskset.specs.Planning.{Planning, planning, layoutOf}
+use Rattle.taskset.specs.declared.Engine.{Engine}
+use Rattle.taskset.specs.declared.Engine.the-variants.{Exhaustive}
 use Rattle.taskset.specs.Refusals.{number, second, Check, roomCheck, noneCheck}
-use Rattle.taskset.specs.Refusals.{readyChecks, dullReadyChecks, dullChecks, walkChecks}
-use Rattle.taskset.specs.Calls.{code, plannerValues, walkValues, PlannerGives, DullGives, WalkAnswers}
+use Rattle.taskset.specs.Refusals.{readyChecks, walkChecks}
+use Rattle.taskset.specs.Calls.{code, plannerValues, walkValues, PlannerGives, WalkAnswers}
 use Rattle.taskset.proofs.Checks.{AllSingle, not-both}
-use Rattle.taskset.proofs.Unique.{short-single, none-single, single-next, ready-single, dull-ready-single, dull-single}
-use Rattle.taskset.proofs.Unique.{walk-single, planner-unique, plan-unique, walk-unique, refusal-unique}
+use Rattle.taskset.proofs.Unique.{short-single, none-single, single-next, ready-single}
+use Rattle.taskset.proofs.Unique.{walk-single, planner-unique, walk-unique, refusal-unique}
 use Rattle.draws.specs.Calls.{generatorChecks, GeneratorGives}
 use Rattle.draws.proofs.Unique.{generator-single, generator-unique}
 use Rattle.entries.specs.Entry.{resultBytes, resultSize, EntryGives, walkEntryChecks, WalkEntryGives, beforeSeven}
@@ -53,13 +55,13 @@ walk-entry-unique s P d d₁ d₂ x y g h =
     (u .0, u .2)
 
 -- ---- a call that plans
-plan-entry-single : (cs : List Check) → AllSingle cs → (s : List ℕ) (size : ℕ) → AllSingle (planEntryChecks cs s size)
-plan-entry-single cs single s size =
-    single-next (beforeSeven cs size) (noneCheck (Fitting (problem s)))
+plan-entry-single : (cs : List Check) → AllSingle cs → (m : Planning) (size : ℕ) → AllSingle (planEntryChecks cs m size)
+plan-entry-single cs single m size =
+    single-next (beforeSeven cs size) (noneCheck (Fitting (m .problem)))
     (single-next cs (roomCheck resultSize size) single (short-single resultSize size))
-    (none-single (Fitting (problem s)))
+    (none-single (Fitting (m .problem)))
 
--- ---- the planner
+-- ---- a list
 -- The plan list and the working list, as an answer gives them back.
 record Lent : Type 0 where
   plan : List ℕ
@@ -74,31 +76,27 @@ pub record SameEntry (x y : ℕ) (plan₁ work₁ results₁ plan₂ work₂ res
   pub work : work₁ ≡ work₂
   pub results : results₁ ≡ results₂
 
-pub plan-entry-unique : (s plan work d plan₁ work₁ d₁ plan₂ work₂ d₂ : List ℕ) (x y : ℕ)
-    → PlanEntry s plan work d plan₁ work₁ d₁ x → PlanEntry s plan work d plan₂ work₂ d₂ y
+pub plan-entry-unique : (e : Engine) (s plan work d plan₁ work₁ d₁ plan₂ work₂ d₂ : List ℕ) (x y : ℕ)
+    → PlanEntry e s plan work d plan₁ work₁ d₁ x → PlanEntry e s plan work d plan₂ work₂ d₂ y
     → SameEntry x y plan₁ work₁ d₁ plan₂ work₂ d₂
-plan-entry-unique s plan work d plan₁ work₁ d₁ plan₂ work₂ d₂ x y g h =
-    let ready = readyChecks s (length plan) (length work) in
-    let u = entry-unique {L = Lent} (planEntryChecks ready s (length d))
-    (plan-entry-single ready (ready-single s (length plan) (length work)) s (length d))
-    (λ l. PlannerGives s plan work (l .plan) (l .work)) plannerValues (λ l. (l .plan ≡ plan) × (l .work ≡ work))
+plan-entry-unique e s plan work d plan₁ work₁ d₁ plan₂ work₂ d₂ x y g h =
+    let ready = readyChecks e s (length plan) (length work) in
+    let m = planning (layoutOf e) s in
+    let u = entry-unique {L = Lent} (planEntryChecks ready m (length d))
+    (plan-entry-single ready (ready-single e s (length plan) (length work)) m (length d))
+    (λ l. PlannerGives e s plan work (l .plan) (l .work)) plannerValues (λ l. (l .plan ≡ plan) × (l .work ≡ work))
     (λ l₁ l₂ a b p q.
-    let z = planner-unique s plan work (l₁ .plan) (l₁ .work) (l₂ .plan) (l₂ .work) a b p q in
+    let z = planner-unique e s plan work (l₁ .plan) (l₁ .work) (l₂ .plan) (l₂ .work) a b p q in
     (z .answer, lent-same l₁ l₂ (z .plan) (z .work)))
     (λ l₁ l₂ p q. lent-same l₁ l₂ (p .0 ∙ sym (q .0)) (p .1 ∙ sym (q .1)))
     (record { plan = plan₁; work = work₁ }) (record { plan = plan₂; work = work₂ }) d d₁ d₂ x y (g .gives) (h .gives) in
     record { returned = u .0; plan = ap (λ (l : Lent). l .plan) (u .1); work = ap (λ (l : Lent). l .work) (u .1); results = u .2 }
 
--- ---- the dull engine
 pub dull-entry-unique : (s plan d plan₁ d₁ plan₂ d₂ : List ℕ) (x y : ℕ)
     → DullEntry s plan d plan₁ d₁ x → DullEntry s plan d plan₂ d₂ y → (x ≡ y) × (plan₁ ≡ plan₂) × (d₁ ≡ d₂)
 dull-entry-unique s plan d plan₁ d₁ plan₂ d₂ x y g h =
-    let ready = dullReadyChecks s (length plan) in
-    entry-unique (planEntryChecks ready s (length d))
-    (plan-entry-single ready (dull-ready-single s (length plan)) s (length d))
-    (DullGives s plan) plannerValues (λ l. l ≡ plan)
-    (λ l₁ l₂ a b p q. plan-unique (dullChecks s (length plan)) (dull-single s (length plan)) s plan l₁ l₂ a b p q)
-    (λ l₁ l₂ p q. p ∙ sym q) plan₁ plan₂ d d₁ d₂ x y (g .gives) (h .gives)
+    let u = plan-entry-unique Exhaustive s plan [] d plan₁ [] d₁ plan₂ [] d₂ x y g h in
+    (u .returned, u .plan, u .results)
 
 -- ---- the generator
 generate-entry-single : (seed n setLength size : ℕ) → AllSingle (generateEntryChecks seed n setLength size)

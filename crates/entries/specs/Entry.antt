@@ -6,13 +6,15 @@ use mathlib.Core.Logic.{_⊎_, _↔_}
 use lib.ListN.{length, getD, take, drop}
 use Rattle.schedule.specs.Walk.{KeepsForEver}
 use Rattle.selection.specs.Plan.{Fitting, planLoad}
-use Rattle.layout.specs.Words.{rateCount, taskCount}
 use Rattle.layout.specs.declared.Layout.the-variants.{Ordinary}
-use Rattle.taskset.specs.Quantities.{hyperPeriod, problem, walkTasks}
+use Rattle.taskset.specs.Quantities.{walkTasks}
+use Rattle.taskset.specs.Planning.{Planning, Keeps, planning, layoutOf}
 use Rattle.taskset.specs.Refusals.{number, second, Check, Accepts, Refuses, _▹_, roomCheck}
-use Rattle.taskset.specs.Refusals.{noneCheck, readyChecks, dullReadyChecks, walkChecks}
-use Rattle.taskset.specs.Calls.{code, plannerValues, walkValues, RateNumber, PlannerGives, DullGives, WalkAnswers}
-use Rattle.taskset.specs.DemandThree.{Keeps, margin, PlanPromise, NoneKeeps, Together, KeptOwes, MissedOwes}
+use Rattle.taskset.specs.Refusals.{noneCheck, readyChecks, walkChecks}
+use Rattle.taskset.specs.Calls.{code, plannerValues, walkValues, RateNumber, PlannerGives, WalkAnswers}
+use Rattle.taskset.specs.DemandThree.{margin, PlanPromise, NoneKeeps, Together, KeptOwes, MissedOwes}
+use Rattle.taskset.specs.declared.Engine.{Engine}
+use Rattle.taskset.specs.declared.Engine.the-variants.{Exhaustive}
 use Rattle.taskset.specs.declared.Refusal.{Refusal}
 use Rattle.taskset.specs.declared.PlannerAnswer.{PlannerAnswer}
 use Rattle.taskset.specs.declared.CopyAnswer.{CopyAnswer}
@@ -72,44 +74,44 @@ pub record WalkEntry (s P results results′ : List ℕ) (returned : ℕ) : Type
   pub kept : returned ≡ 0 → resultAt results′ 0 ≡ 1 → KeptOwes s P (resultAt results′ 1) (resultAt results′ 2)
   pub missed : returned ≡ 0 → resultAt results′ 0 ≡ 0 → MissedOwes s P
   pub keeps-kept : returned ≡ 0 → KeepsForEver (walkTasks Ordinary s P) → resultAt results′ 0 ≡ 1
-  pub kept-iff-keeps : returned ≡ 0 → Together s → (resultAt results′ 0 ≡ 1) ↔ Keeps s P
+  pub kept-iff-keeps : returned ≡ 0 → Together s → (resultAt results′ 0 ≡ 1) ↔ Keeps Ordinary s P
 
 -- A CALL THAT PLANS, FROM C. cs are its own checks but 7; then come the result bytes, then 7. size is how many of them
 -- are lent.
 abbrev pub beforeSeven : List Check → ℕ → List Check
 beforeSeven cs size = cs ▹ roomCheck resultSize size
 
-abbrev pub planEntryChecks : List Check → List ℕ → ℕ → List Check
-planEntryChecks cs s size = beforeSeven cs size ▹ noneCheck (Fitting (problem s))
+abbrev pub planEntryChecks : List Check → Planning → ℕ → List Check
+planEntryChecks cs m size = beforeSeven cs size ▹ noneCheck (Fitting (m .problem))
 
--- The contract of its entry, where plan′ and results′ are the plan list and the result bytes as given back: the above;
--- and demand 3 again over the plan words and the bytes. Where 0 is returned, every plan word is a rate number, and the
--- plan keeps its promise, with notes 5 and 6, with the unit that the first value is and the energy that the fourth is;
--- the second value is its load, the third the hyper-period. Margin and energy are so small that a host can work with
--- them in 64 bits. And 7 is returned if and only if no cause before it holds and no plan keeps every deadline for ever.
-pub record PlansEntry (cs : List Check) (Gives : PlannerAnswer → Type 0) (Unchanged : Type 0)
-    (s plan′ results results′ : List ℕ) (returned : ℕ) : Type 0 where
-  pub gives : EntryGives (planEntryChecks cs s (length results)) Gives plannerValues Unchanged results results′ returned
-  pub numbers : returned ≡ 0 → (t : ℕ) → t < taskCount Ordinary s → RateNumber (rateCount Ordinary s) (getD plan′ t 0)
+-- The contract of its entry, where m is what is planned, and plan′ and results′ are the plan list and the result bytes as
+-- given back: the above; and demand 3 again over the plan words and the bytes. Where 0 is returned, every plan word is a
+-- rate number, and the plan keeps its promise, with notes 5 and 6, with the unit that the first value is and the energy
+-- that the fourth is; the second value is its load, the third the hyper-period. Margin and energy are so small that a host
+-- can work with them in 64 bits. And 7 is returned if and only if no cause before it holds and no plan keeps every
+-- deadline for ever.
+pub record PlansEntry (cs : List Check) (Gives : PlannerAnswer → Type 0) (Unchanged : Type 0) (m : Planning)
+    (plan′ results results′ : List ℕ) (returned : ℕ) : Type 0 where
+  pub gives : EntryGives (planEntryChecks cs m (length results)) Gives plannerValues Unchanged results results′ returned
+  pub numbers : returned ≡ 0 → (t : ℕ) → t < m .problem .count → RateNumber (m .problem .rates) (getD plan′ t 0)
   pub promise : returned ≡ 0
-      → PlanPromise s (take (taskCount Ordinary s) plan′) (resultAt results′ 0) (resultAt results′ 3)
-  pub margin-fits : returned ≡ 0 → margin s (resultAt results′ 0) < 2 ^ 54
+      → PlanPromise m (take (m .problem .count) plan′) (resultAt results′ 0) (resultAt results′ 3)
+  pub margin-fits : returned ≡ 0 → margin m (resultAt results′ 0) < 2 ^ 54
   pub energy-fits : returned ≡ 0 → resultAt results′ 3 < 2 ^ 49
-  pub load-is : returned ≡ 0 → resultAt results′ 1 ≡ planLoad (problem s) (take (taskCount Ordinary s) plan′)
-  pub hyper-is : returned ≡ 0 → resultAt results′ 2 ≡ hyperPeriod Ordinary s
-  pub seven-iff : (returned ≡ 7 * 2 ^ 32) ↔ (Accepts (beforeSeven cs (length results)) × NoneKeeps s)
+  pub load-is : returned ≡ 0 → resultAt results′ 1 ≡ planLoad (m .problem) (take (m .problem .count) plan′)
+  pub hyper-is : returned ≡ 0 → resultAt results′ 2 ≡ m .hyper
+  pub seven-iff : (returned ≡ 7 * 2 ^ 32) ↔ (Accepts (beforeSeven cs (length results)) × NoneKeeps m)
 
--- THE PLANNER FROM C. plan, work and results are the lists as lent, plan′, work′ and results′ as given back.
-abbrev pub PlanEntry : (s plan work results plan′ work′ results′ : List ℕ) → ℕ → Type 0
-PlanEntry s plan work results plan′ work′ =
-    PlansEntry (readyChecks s (length plan) (length work)) (PlannerGives s plan work plan′ work′)
-    ((plan′ ≡ plan) × (work′ ≡ work)) s plan′ results
+-- A LIST PLANNED FROM C, by the engine e: the planner's entry has the table, over the ordinary list. plan, work and
+-- results are the lists as lent, plan′, work′ and results′ as given back.
+abbrev pub PlanEntry : Engine → (s plan work results plan′ work′ results′ : List ℕ) → ℕ → Type 0
+PlanEntry e s plan work results plan′ work′ =
+    PlansEntry (readyChecks e s (length plan) (length work)) (PlannerGives e s plan work plan′ work′)
+    ((plan′ ≡ plan) × (work′ ≡ work)) (planning (layoutOf e) s) plan′ results
 
--- THE DULL ENGINE FROM C (document 02, note 7). plan and results are the lists as lent, plan′ and results′ as given
--- back.
+-- THE DULL ENGINE FROM C (document 02, note 7): "It needs no working words", and none are lent.
 abbrev pub DullEntry : (s plan results plan′ results′ : List ℕ) → ℕ → Type 0
-DullEntry s plan results plan′ =
-    PlansEntry (dullReadyChecks s (length plan)) (DullGives s plan plan′) (plan′ ≡ plan) s plan′ results
+DullEntry s plan results plan′ = PlanEntry Exhaustive s plan [] results plan′ []
 
 -- THE GENERATOR FROM C (document 02, note 1). Its own checks, then the result bytes. The lengths are those of the set's
 -- list and of the result bytes.

@@ -6,7 +6,7 @@ use mathlib.Core.List.{List}
 use native.Mathlib.Omega.{arith}
 use lib.ListN.{length}
 use Rattle.layout.specs.Words.{slackPlace, taskCount}
-use Rattle.layout.specs.declared.Layout.the-variants.{Ordinary}
+use Rattle.layout.specs.declared.Layout.{Layout}
 use Rattle.layout.specs.Whole.{IsWhole}
 use Rattle.layout.proofs.Whole.{whole-of}
 use Rattle.taskset.specs.Refusals.{number, second, Check, Passes, Accepts}
@@ -18,37 +18,37 @@ use Rattle.taskset.specs.declared.Checked.the-variants.{Good, Refused as NotGoo
 use Rattle.taskset.proofs.Checks.{no-word-fault, accepts-next, refuses-next, refuses-before, passed}
 
 -- A set of m rates, n tasks and hyper-period l has passed checks 2, 3, 10 and 4.
-pub record SetPassed (s : List ℕ) (m n l : ℕ) : Type 0 where
-  pub after : SetAfter (idleChecks Ordinary s ▹ hyperCheck Ordinary s) Ordinary s (Good m n l)
+pub record SetPassed (layout : Layout) (s : List ℕ) (m n l : ℕ) : Type 0 where
+  pub after : SetAfter (idleChecks layout s ▹ hyperCheck layout s) layout s (Good m n l)
 
-module _ {s : List ℕ} {m n l : ℕ} (passed-set : SetPassed s m n l) where
-  pub whole : IsWhole Ordinary s
+module _ {layout : Layout} {s : List ℕ} {m n l : ℕ} (passed-set : SetPassed layout s m n l) where
+  pub whole : IsWhole layout s
   whole =
-      whole-of Ordinary s
-      (no-word-fault Ordinary s (passed 2 (idleChecks Ordinary s ▹ hyperCheck Ordinary s) refl (passed-set .after .0)))
+      whole-of layout s
+      (no-word-fault layout s (passed 2 (idleChecks layout s ▹ hyperCheck layout s) refl (passed-set .after .0)))
 
   pub some-words : slackPlace < length s
   some-words = omega (arith, whole .size)
 
-module _ (s : List ℕ) (c : Check) (planLength : ℕ) where
+module _ (layout : Layout) (s : List ℕ) (c : Check) (planLength : ℕ) where
   abbrev set : List Check
-  set = idleChecks Ordinary s ▹ hyperCheck Ordinary s
+  set = idleChecks layout s ▹ hyperCheck layout s
 
   abbrev room : Check
-  room = roomCheck (taskCount Ordinary s) planLength
+  room = roomCheck (taskCount layout s) planLength
 
   -- A refusal of the set is this call's.
-  pub set-refused : (r : Refusal) → SetAfter set Ordinary s (NotGood r)
-      → SetAfter (set ▹ c ▹ room) Ordinary s (NotGood r)
+  pub set-refused : (r : Refusal) → SetAfter set layout s (NotGood r)
+      → SetAfter (set ▹ c ▹ room) layout s (NotGood r)
   set-refused r h = refuses-before (set ▹ c) room (number r) (second r) (refuses-before set c (number r) (second r) h)
 
-  module _ {m n l : ℕ} (passed-set : SetPassed s m n l) where
-    good : SetAfter set Ordinary s (Good m n l)
+  module _ {m n l : ℕ} (passed-set : SetPassed layout s m n l) where
+    good : SetAfter set layout s (Good m n l)
     good = passed-set .after
 
     -- The call's own check holds.
     pub own-refused : (r : Refusal) → number r ≡ c .number → c .cause (second r)
-        → SetAfter (set ▹ c ▹ room) Ordinary s (NotGood r)
+        → SetAfter (set ▹ c ▹ room) layout s (NotGood r)
     own-refused r e h =
         refuses-before (set ▹ c) room (number r) (second r)
         (subst (λ (x : ℕ). Refuses (set ▹ c) x (second r)) (sym e) (refuses-next set c (second r) (good .0) h))
@@ -58,8 +58,8 @@ module _ (s : List ℕ) (c : Check) (planLength : ℕ) where
       own : Accepts (set ▹ c)
       own = accepts-next set c (good .0) pass
 
-      pub plan-short : planLength < n → SetAfter (set ▹ c ▹ room) Ordinary s (NotGood (TooShort n))
+      pub plan-short : planLength < n → SetAfter (set ▹ c ▹ room) layout s (NotGood (TooShort n))
       plan-short h = refuses-next (set ▹ c) room n own (omega (arith, good .2), good .2)
 
-      pub is-ready : n ≤ planLength → SetAfter (set ▹ c ▹ room) Ordinary s (Good m n l)
+      pub is-ready : n ≤ planLength → SetAfter (set ▹ c ▹ room) layout s (Good m n l)
       is-ready h = (accepts-next (set ▹ c) room own (λ k x. omega (arith, x .0, good .2)), good .1, good .2, good .3)

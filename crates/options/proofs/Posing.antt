@@ -13,16 +13,17 @@ use Rattle.selection.proofs.Fastest.{some-fits-iff-fastest}
 use Rattle.selection.specs.Same.{Same}
 use Rattle.selection.proofs.Same.{fastest-load-same}
 use Rattle.layout.specs.Words.{mostRates, mostTasks, slackPlace, slack}
-use Rattle.layout.specs.declared.Layout.the-variants.{Ordinary}
+use Rattle.layout.specs.declared.Layout.{Layout}
 use Rattle.layout.proofs.Whole.{slack-in}
-use Rattle.taskset.specs.Quantities.{hyperLimit, hyperPeriod, problem}
+use Rattle.taskset.specs.Quantities.{hyperLimit, hyperPeriod, problemOf}
+use Rattle.taskset.specs.Planning.{planning}
 use Rattle.taskset.proofs.Sets.{falling}
 use Rattle.arrays.specs.Arrays.{optionAt, Small, arrays}
 use Rattle.arrays.specs.declared.Request.{Request}
 use Rattle.options.specs.Options.{LaidBoth, TasksGiven}
 use Rattle.options.specs.Posed.{SetGiven, Poses}
 
-module _ {s : List ℕ} {m n l : ℕ} (given : SetGiven s m n l) where
+module _ {layout : Layout} {s : List ℕ} {m n l : ℕ} (given : SetGiven layout s m n l) where
   pub hyper-fits : l ≤ hyperLimit
   hyper-fits = omega (arith, given .hyper, given .set .hyper-range .1)
 
@@ -38,7 +39,7 @@ module _ {s : List ℕ} {m n l : ℕ} (given : SetGiven s m n l) where
   few : n ≤ mostTasks
   few = omega (arith, given .tasks, given .set .whole .tasks-range .1)
 
-  pub tasks-given : TasksGiven Ordinary m n l s
+  pub tasks-given : TasksGiven layout m n l s
   tasks-given = record {
     few = few;
     each = λ t h. record {
@@ -49,7 +50,7 @@ module _ {s : List ℕ} {m n l : ℕ} (given : SetGiven s m n l) where
     };
   }
 
-  module _ {loads energies : List ℕ} (put : LaidBoth Ordinary s m n 1 loads energies) where
+  module _ {loads energies : List ℕ} (put : LaidBoth layout s m n 1 loads energies) where
     -- What is asked at slack g, and the problem that the arrays then give, at any slack.
     abbrev request : ℕ → Request
     request g = record { tasks = n; rates = m; limit = l; slack = g }
@@ -58,7 +59,7 @@ module _ {s : List ℕ} {m n l : ℕ} (given : SetGiven s m n l) where
     chosenFrom = arrays (request 0) loads energies
 
     -- The arrays give the set's own problem.
-    same : Same chosenFrom (problem s)
+    same : Same chosenFrom (problemOf layout s)
     same = record {
       count = given .tasks;
       rates = given .rates;
@@ -76,23 +77,23 @@ module _ {s : List ℕ} {m n l : ℕ} (given : SetGiven s m n l) where
       unfolding fastest
       array-sum = f-is
 
-      fastest-is : f ≡ planLoad (problem s) (fastest (problem s))
-      fastest-is = array-sum ∙ fastest-load-same chosenFrom (problem s) same (omega (arith, rates-range .0))
+      fastest-is : f ≡ planLoad (problemOf layout s) (fastest (problemOf layout s))
+      fastest-is = array-sum ∙ fastest-load-same chosenFrom (problemOf layout s) same (omega (arith, rates-range .0))
 
-      fits-iff : ((P : List ℕ) × Fitting (problem s) P)
-          ↔ (planLoad (problem s) (fastest (problem s)) ≤ hyperPeriod Ordinary s)
+      fits-iff : ((P : List ℕ) × Fitting (problemOf layout s) P)
+          ↔ (planLoad (problemOf layout s) (fastest (problemOf layout s)) ≤ hyperPeriod layout s)
       fits-iff =
-          some-fits-iff-fastest (problem s) (omega (arith, given .set .whole .rates-range .0))
-          (falling Ordinary s (given .set))
+          some-fits-iff-fastest (problemOf layout s) (omega (arith, given .set .whole .rates-range .0))
+          (falling layout s (given .set))
 
       -- Where the fastest plan does not fit, none does.
-      pub none-fits : l < f → (P : List ℕ) → Fitting (problem s) P → ⊥
+      pub none-fits : l < f → (P : List ℕ) → Fitting (problemOf layout s) P → ⊥
       none-fits h P fit = omega (arith, fits-iff .0 (P, fit), fastest-is, given .hyper)
 
       -- Where it does, a plan can be asked for.
-      pub posed : f ≤ l → {g : ℕ} → g ≡ slack s → Poses s loads energies (request g)
+      pub posed : f ≤ l → {g : ℕ} → g ≡ slack s → Poses (planning layout s) loads energies (request g)
       posed fits {g} g-is =
-          let range = slack-in Ordinary s (given .set .whole) in
+          let range = slack-in layout s (given .set .whole) in
           record {
             same = same;
             slack-is = g-is;

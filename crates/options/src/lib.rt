@@ -4,7 +4,6 @@
 ghost use mathlib.Core.Path.{_≡_};
 ghost use Prim.Native.Nat.{_+_, _*_, _^_, _<_};
 ghost use lib.ListN.{length};
-ghost use Rattle.layout.specs.declared.Layout.the-variants.{Ordinary};
 ghost use Rattle.layout.specs.Words.{idlePlace, idle};
 ghost use Rattle.taskset.specs.declared.PlannerAnswer.the-variants.{Planned};
 ghost use Rattle.options.specs.Options.{LaidBoth, TaskGiven, TasksGiven};
@@ -74,15 +73,16 @@ pub fn pose(
     loads: &mut [u64; 512],
     energies: &mut [u64; 512],
     set: &[u32],
+    layout: Layout,
     rates: usize,
     tasks: usize,
     hyper: u64,
 ) -> Posed
-    requires { ⌜ SetGiven (now set) rates tasks hyper ⌝ }
-    requires { ⌜ LaidBoth Ordinary (now set) rates 0 1 (now loads) (now energies) ⌝ }
-    ensures { λ r. ⌜ SetPosed (now (set .entry)) rates tasks (now (loads .exit)) (now (energies .exit)) r ⌝ }
+    requires { ⌜ SetGiven layout (now set) rates tasks hyper ⌝ }
+    requires { ⌜ LaidBoth layout (now set) rates 0 1 (now loads) (now energies) ⌝ }
+    ensures { λ r. ⌜ SetPosed layout (now (set .entry)) rates tasks (now (loads .exit)) (now (energies .exit)) r ⌝ }
 {
-    put_tasks(loads, energies, set, Layout::Ordinary, rates, tasks, hyper);
+    put_tasks(loads, energies, set, layout, rates, tasks, hyper);
     let fastest = arrays::fastest_sum(loads, tasks, rates);
     if hyper < fastest {
         return Posed::NoneFits;

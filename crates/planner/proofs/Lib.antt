@@ -1,4 +1,4 @@
-pub mod Enough
+pub mod Engines
 pub mod Calls
 pub mod Unique
 pub mod Firsts

@@ -23,13 +23,15 @@ use Rattle.selection.proofs.Choose.{spend, cell}
 use Rattle.selection.proofs.Compute.{trace, leastEnergy, choose, usedFrom, usedExponent, planned-is}
 use Rattle.layout.specs.Words.{slack, rateCount, taskCount, headKinds, extraKinds, kindIn, headKind, taskKind, kindAt, allows}
 use Rattle.layout.specs.declared.Layout.the-variants.{Ordinary}
-use Rattle.taskset.specs.Quantities.{hyperPeriod, problem, walkTasks, jobsEnergy, reportedEnergy, workNeeded}
+use Rattle.taskset.specs.Quantities.{hyperPeriod, problemOf, walkTasks, jobsEnergy, reportedEnergy, workNeeded}
 use Rattle.taskset.specs.Refusals.{number, second, Check, Accepts}
 use Rattle.taskset.specs.Refusals.{_▹_, wordChecks, idleChecks, hyperCheck}
 use Rattle.taskset.specs.Refusals.{workCheck, roomCheck, noneCheck, planCheck, readyChecks, plannerChecks}
 use Rattle.taskset.specs.Refusals.{walkChecks}
 use Rattle.taskset.specs.Calls.{code, plannerValues, walkValues, SetAfter, PlannerGives, WalkAnswers}
-use Rattle.taskset.specs.DemandThree.{Keeps, margin, IsLeast, PlanPromise, Together}
+use Rattle.taskset.specs.DemandThree.{margin, IsLeast, PlanPromise, Together}
+use Rattle.taskset.specs.Planning.{Keeps, planning}
+use Rattle.taskset.specs.declared.Engine.the-variants.{Table}
 use Rattle.taskset.specs.declared.Refusal.{Refusal}
 use Rattle.taskset.specs.declared.Refusal.the-variants.{BadWord, NotAbove, TooLong, WorkShort, TooShort, NoPlan, BadPlan, BelowIdle}
 use Rattle.taskset.specs.declared.Checked.{Checked}
@@ -42,7 +44,7 @@ use Rattle.taskset.proofs.Verdict.{checkedOf, coveredOf, checked-answer
 use Rattle.taskset.proofs.PlanVerdict.{isUnfit, planVerdict, PlanSays, plan-verdict-says}
 use Rattle.taskset.specs.Sets.{IsSet}
 use Rattle.taskset.proofs.Sets.{set-of, falling}
-use Rattle.taskset.proofs.DemandThree.{planner-plans, answer-owes, walk-owes}
+use Rattle.taskset.proofs.DemandThree.{engine-plans, list-plans, answer-owes, walk-owes}
 use Rattle.taskset.proofs.Margin.{allowance, margin-reached}
 
 -- "The set list S", with slack G.
@@ -103,7 +105,7 @@ with-firsts p q a b = 100 ∷ 0 ∷ 2 ∷ 1 ∷ 2 ∷ 2 ∷ p ∷ 1 ∷ a ∷ 5 
 
 -- The planner refuses, whatever is lent, and leaves both lists as they are.
 abbrev pub Declined : List ℕ → Refusal → Type 0
-Declined s r = (plan work : List ℕ) → PlannerGives s plan work plan work (NotPlanned r)
+Declined s r = (plan work : List ℕ) → PlannerGives (Table Ordinary) s plan work plan work (NotPlanned r)
 
 -- ---- from what the verdicts compute to what the calls answer
 module _ (s : List ℕ) where
@@ -124,7 +126,7 @@ module _ (s : List ℕ) where
   set-refused : (r : Refusal) → checked ≡ NotGood r → Declined s r
   set-refused r e plan work = (
     (
-      refuses-early set (plannerChecks s (length plan) (length work)) (same (same (same (same nothing)))) (number r)
+      refuses-early set (plannerChecks (Table Ordinary) s (length plan) (length work)) (same (same (same (same nothing)))) (number r)
           (second r) (answered (NotGood r) e),
       refl,
     ),
@@ -139,12 +141,12 @@ module _ (s : List ℕ) where
     is-set = set-of Ordinary s (passed 2 set refl passes) (passed 3 set refl passes) (passed 4 set refl passes)
 
     -- Too few working words.
-    work-short : (plan work : List ℕ) → length work < workNeeded s → PlannerGives s plan work plan work (NotPlanned (WorkShort (workNeeded s)))
+    work-short : (plan work : List ℕ) → length work < workNeeded Ordinary s → PlannerGives (Table Ordinary) s plan work plan work (NotPlanned (WorkShort (workNeeded Ordinary s)))
     work-short plan work h = (
       (
-        refuses-early (set ▹ workCheck (workNeeded s) (length work)) (plannerChecks s (length plan) (length work))
-            (same (same (same (same (same nothing))))) 5 (workNeeded s)
-            (refuses-next set (workCheck (workNeeded s) (length work)) (workNeeded s) passes (h, refl)),
+        refuses-early (set ▹ workCheck (workNeeded Ordinary s) (length work)) (plannerChecks (Table Ordinary) s (length plan) (length work))
+            (same (same (same (same (same nothing))))) 5 (workNeeded Ordinary s)
+            (refuses-next set (workCheck (workNeeded Ordinary s) (length work)) (workNeeded Ordinary s) passes (h, refl)),
         refl,
       ),
       refl,
@@ -153,30 +155,30 @@ module _ (s : List ℕ) where
     -- What is lent is long enough.
     module _ (plan work : List ℕ) where
       abbrev upTo5 : List Check
-      upTo5 = set ▹ workCheck (workNeeded s) (length work)
+      upTo5 = set ▹ workCheck (workNeeded Ordinary s) (length work)
 
-      work-enough : workNeeded s ≤ length work → Accepts upTo5
-      work-enough q = accepts-next set (workCheck (workNeeded s) (length work)) passes (λ k h. omega (arith, h .0))
+      work-enough : workNeeded Ordinary s ≤ length work → Accepts upTo5
+      work-enough q = accepts-next set (workCheck (workNeeded Ordinary s) (length work)) passes (λ k h. omega (arith, h .0))
 
-      enough : workNeeded s ≤ length work → taskCount Ordinary s ≤ length plan → Accepts (readyChecks s (length plan) (length work))
+      enough : workNeeded Ordinary s ≤ length work → taskCount Ordinary s ≤ length plan → Accepts (readyChecks (Table Ordinary) s (length plan) (length work))
       enough q p = accepts-next upTo5 (roomCheck (taskCount Ordinary s) (length plan)) (work-enough q) (λ k h. omega (arith, h .0))
 
     -- A plan, where just the words needed are lent.
-    planned : (P : List ℕ) (a unit load energy : ℕ) → 1 ≤ rateCount Ordinary s → planLoad (problem s) (fastest (problem s)) ≤ L → length P ≡ taskCount Ordinary s
-        → usedExponent (problem s) (slack s) ≡ a → choose (problem s) (2 ^ a) ≡ P → 2 ^ a ≡ unit
-        → planLoad (problem s) P ≡ load → reportedEnergy s P ≡ energy
-        → (plan work : List ℕ) → length plan ≡ taskCount Ordinary s → length work ≡ workNeeded s
-        → PlannerGives s plan work P (replicate (workNeeded s) 0) (Planned unit load l energy)
+    planned : (P : List ℕ) (a unit load energy : ℕ) → 1 ≤ rateCount Ordinary s → planLoad (problemOf Ordinary s) (fastest (problemOf Ordinary s)) ≤ L → length P ≡ taskCount Ordinary s
+        → usedExponent (problemOf Ordinary s) (slack s) ≡ a → choose (problemOf Ordinary s) (2 ^ a) ≡ P → 2 ^ a ≡ unit
+        → planLoad (problemOf Ordinary s) P ≡ load → reportedEnergy Ordinary s P ≡ energy
+        → (plan work : List ℕ) → length plan ≡ taskCount Ordinary s → length work ≡ workNeeded Ordinary s
+        → PlannerGives (Table Ordinary) s plan work P (replicate (workNeeded Ordinary s) 0) (Planned unit load l energy)
     planned P a unit load energy some-rate fits size used chosen u w j plan work p q =
-        let fit : Fitting (problem s) (fastest (problem s)) = fastest-fits (problem s) some-rate fits in (
+        let fit : Fitting (problemOf Ordinary s) (fastest (problemOf Ordinary s)) = fastest-fits (problemOf Ordinary s) some-rate fits in (
           (
-            accepts-next (readyChecks s (length plan) (length work)) (noneCheck (Fitting (problem s)))
-                (enough plan work (omega arith) (omega arith)) (λ k h. h .1 (fastest (problem s)) fit),
+            accepts-next (readyChecks (Table Ordinary) s (length plan) (length work)) (noneCheck (Fitting (problemOf Ordinary s)))
+                (enough plan work (omega arith) (omega arith)) (λ k h. h .1 (fastest (problemOf Ordinary s)) fit),
             (
               P,
               record {
                 exponent = a;
-                planned = rw (← chosen, ← used) (planned-is (problem s) fit (slack s));
+                planned = rw (← chosen, ← used) (planned-is (problemOf Ordinary s) fit (slack s));
                 values-are = cc (u, w, j, answered (Good m n l) e .3);
               },
               record {
@@ -187,15 +189,15 @@ module _ (s : List ℕ) where
               },
             ),
           ),
-          rw (drop-of-length-le work {i = workNeeded s} (omega arith)) (sym (append-nil (replicate (workNeeded s) 0))),
+          rw (drop-of-length-le work {i = workNeeded Ordinary s} (omega arith)) (sym (append-nil (replicate (workNeeded Ordinary s) 0))),
         )
 
     -- Enough working words, and a plan list that is too short.
-    plan-short : (plan work : List ℕ) → workNeeded s ≤ length work → length plan < taskCount Ordinary s
-        → PlannerGives s plan work plan work (NotPlanned (TooShort (taskCount Ordinary s)))
+    plan-short : (plan work : List ℕ) → workNeeded Ordinary s ≤ length work → length plan < taskCount Ordinary s
+        → PlannerGives (Table Ordinary) s plan work plan work (NotPlanned (TooShort (taskCount Ordinary s)))
     plan-short plan work q p = (
       (
-        refuses-before (readyChecks s (length plan) (length work)) (noneCheck (Fitting (problem s)))
+        refuses-before (readyChecks (Table Ordinary) s (length plan) (length work)) (noneCheck (Fitting (problemOf Ordinary s)))
             6 (taskCount Ordinary s)
             (refuses-next (upTo5 plan work) (roomCheck (taskCount Ordinary s) (length plan)) (taskCount Ordinary s)
             (work-enough plan work q) (p, refl)),
@@ -205,16 +207,16 @@ module _ (s : List ℕ) where
     )
 
     -- No plan fits where the plan with every task at rate M does not.
-    no-plan : 1 ≤ rateCount Ordinary s → L < planLoad (problem s) (fastest (problem s))
-        → (plan work : List ℕ) → taskCount Ordinary s ≤ length plan → workNeeded s ≤ length work → PlannerGives s plan work plan work (NotPlanned NoPlan)
+    no-plan : 1 ≤ rateCount Ordinary s → L < planLoad (problemOf Ordinary s) (fastest (problemOf Ordinary s))
+        → (plan work : List ℕ) → taskCount Ordinary s ≤ length plan → workNeeded Ordinary s ≤ length work → PlannerGives (Table Ordinary) s plan work plan work (NotPlanned NoPlan)
     no-plan some-rate over plan work p q =
         let refuses =
-        refuses-next (readyChecks s (length plan) (length work)) (noneCheck (Fitting (problem s))) 0
+        refuses-next (readyChecks (Table Ordinary) s (length plan) (length work)) (noneCheck (Fitting (problemOf Ordinary s))) 0
         (enough plan work q p) (refl, none-fits) in
         ((refuses, refl), refl)
       where
-        none-fits : (P : List ℕ) → Fitting (problem s) P → ⊥
-        none-fits P f = omega (arith, fastest-least (problem s) some-rate (falling Ordinary s is-set) P (f .plan), f .fits)
+        none-fits : (P : List ℕ) → Fitting (problemOf Ordinary s) P → ⊥
+        none-fits P f = omega (arith, fastest-least (problemOf Ordinary s) some-rate (falling Ordinary s is-set) P (f .plan), f .fits)
 
 -- ---- the same of the walk, which makes no check 10
 module _ (s : List ℕ) where
@@ -238,50 +240,51 @@ module _ (s : List ℕ) where
           refuses-next walked (planCheck Ordinary s P) k (walk-answered (Good m n l) e .0) bad
 
 -- With every first release 0, a plan whose walk is kept keeps every deadline for ever.
-kept-keeps : (s P : List ℕ) (busy idle preempted : ℕ) → Together s → WalkAnswers s P (Kept busy idle preempted) → Keeps s P
+kept-keeps : (s P : List ℕ) (busy idle preempted : ℕ) → Together s → WalkAnswers s P (Kept busy idle preempted) → Keeps Ordinary s P
 kept-keeps s P busy idle preempted zero w =
     walk-owes s P (Kept busy idle preempted) w .together zero .0
 
 -- ---- a plan given, with just the words needed lent, and its promise
 abbrev Given : (s P : List ℕ) (unit load hyper energy : ℕ) → Type 0
 Given s P unit load hyper energy =
-    (plan work : List ℕ) → length plan ≡ taskCount Ordinary s → length work ≡ workNeeded s
-    → PlannerGives s plan work P (replicate (workNeeded s) 0) (Planned unit load hyper energy)
+    (plan work : List ℕ) → length plan ≡ taskCount Ordinary s → length work ≡ workNeeded Ordinary s
+    → PlannerGives (Table Ordinary) s plan work P (replicate (workNeeded Ordinary s) 0) (Planned unit load hyper energy)
 
 module _ (s P : List ℕ) (unit load hyper energy : ℕ) (size : length P ≤ taskCount Ordinary s) (given : Given s P unit load hyper energy) where
-  promised : PlanPromise s P unit energy
+  promised : PlanPromise (planning Ordinary s) P unit energy
   promised =
       let plan : List ℕ = replicate (taskCount Ordinary s) 0 in
-      let work : List ℕ = replicate (workNeeded s) 0 in
-      subst (λ (R : List ℕ). PlanPromise s R unit energy) (take-all (taskCount Ordinary s) P size)
-      (answer-owes s (readyChecks s (length plan) (length work)) (planner-plans s (length plan) (length work)) plan P
+      let work : List ℕ = replicate (workNeeded Ordinary s) 0 in
+      subst (λ (R : List ℕ). PlanPromise (planning Ordinary s) R unit energy) (take-all (taskCount Ordinary s) P size)
+      (answer-owes (planning Ordinary s) (readyChecks (Table Ordinary) s (length plan) (length work))
+      (list-plans (engine-plans (Table Ordinary) s (length plan) (length work))) plan P
       (Planned unit load hyper energy)
-      (given plan work (length-replicate (taskCount Ordinary s) 0) (length-replicate (workNeeded s) 0) .0))
+      (given plan work (length-replicate (taskCount Ordinary s) 0) (length-replicate (workNeeded Ordinary s) 0) .0))
 
   -- A plan whose walk is kept, with an energy that is just the margin below: it has the least.
   least-by-margin : (Q : List ℕ) (busy idle preempted : ℕ) → Together s → WalkAnswers s Q (Kept busy idle preempted)
-      → energy ≡ reportedEnergy s Q + margin s unit → IsLeast s Q (reportedEnergy s Q)
-  least-by-margin Q busy idle preempted zero w = margin-reached s P unit energy promised Q (kept-keeps s Q busy idle preempted zero w)
+      → energy ≡ reportedEnergy Ordinary s Q + margin (planning Ordinary s) unit → IsLeast (planning Ordinary s) Q (reportedEnergy Ordinary s Q)
+  least-by-margin Q busy idle preempted zero w = margin-reached (planning Ordinary s) P unit energy promised Q (kept-keeps s Q busy idle preempted zero w)
 
 -- ---- the cases
 pub record Cases : Type 0 where
   -- (M) "S: plan 2 1, unit 1, load 29, energy 41." (M) "S has W = 243".
   pub planned-100 : (plan work : List ℕ) → length plan ≡ 2 → length work ≡ 243
-      → PlannerGives (S 100) plan work (2 ∷ 1 ∷ []) (replicate 243 0) (Planned 1 29 30 41)
+      → PlannerGives (Table Ordinary) (S 100) plan work (2 ∷ 1 ∷ []) (replicate 243 0) (Planned 1 29 30 41)
   -- (M) "242 working words: refusal 5 with 243."
-  work-242 : (plan work : List ℕ) → length work ≡ 242 → PlannerGives (S 100) plan work plan work (NotPlanned (WorkShort 243))
+  work-242 : (plan work : List ℕ) → length work ≡ 242 → PlannerGives (Table Ordinary) (S 100) plan work plan work (NotPlanned (WorkShort 243))
   -- (M) "S with slack 1,000: plan 1 2, unit 8, load 28, energy 42." (M) "S with slack 1,000: W = 27."
   pub planned-1000 : (plan work : List ℕ) → length plan ≡ 2 → length work ≡ 27
-      → PlannerGives (S 1000) plan work (1 ∷ 2 ∷ []) (replicate 27 0) (Planned 8 28 30 42)
+      → PlannerGives (Table Ordinary) (S 1000) plan work (1 ∷ 2 ∷ []) (replicate 27 0) (Planned 8 28 30 42)
   -- (M) "S, walk of 1 1: missed, tick 15, task 2." (M) "Walk of 2 1: kept, 29, 1, 1."
   walk-of-1-1 : WalkAnswers (S 100) (1 ∷ 1 ∷ []) (Missed 15 2)
   pub walk-of-2-1 : WalkAnswers (S 100) (2 ∷ 1 ∷ []) (Kept 29 1 1)
   -- (M) "Plan 1 3 for S: load 24." (M) "Walk of 1 4: refusal 8, place 1."
-  load-of-1-3 : planLoad (problem (S 100)) (1 ∷ 3 ∷ []) ≡ 24
+  load-of-1-3 : planLoad (problemOf Ordinary (S 100)) (1 ∷ 3 ∷ []) ≡ 24
   walk-of-1-4 : WalkAnswers (S 100) (1 ∷ 4 ∷ []) (NotWalked (BadPlan 1))
   -- (M) "Highest rate 2, one task of period 30: 60 cycles fit," (M) "61 give refusal 7."
-  cycles-60 : (plan work : List ℕ) → length plan ≡ 1 → length work ≡ 82 → PlannerGives (one-task 60) plan work (2 ∷ []) (replicate 82 0) (Planned 1 30 30 6)
-  pub cycles-61 : (plan work : List ℕ) → 1 ≤ length plan → 82 ≤ length work → PlannerGives (one-task 61) plan work plan work (NotPlanned NoPlan)
+  cycles-60 : (plan work : List ℕ) → length plan ≡ 1 → length work ≡ 82 → PlannerGives (Table Ordinary) (one-task 60) plan work (2 ∷ []) (replicate 82 0) (Planned 1 30 30 6)
+  pub cycles-61 : (plan work : List ℕ) → 1 ≤ length plan → 82 ≤ length work → PlannerGives (Table Ordinary) (one-task 61) plan work plan work (NotPlanned NoPlan)
   -- "A slack of 0: refusal 2, place 0. Empty list: refusal 2, place 0. Rates 4 4: refusal 3, place 3."
   slack-0 : Declined (S 0) (BadWord 0)
   empty : Declined [] (BadWord 0)
@@ -297,31 +300,31 @@ pub record Cases : Type 0 where
   left-over : Declined (with-rates 2 4 (9 ∷ 1 ∷ [])) (BadWord 11)
   -- A plan list of one word for two tasks: refusal 6 with 2. Two plans that differ in rate numbers alone: the lower
   -- number for task 2.
-  plan-list-1 : (plan work : List ℕ) → length plan ≡ 1 → length work ≡ 243 → PlannerGives (S 100) plan work plan work (NotPlanned (TooShort 2))
-  pub tie : (plan work : List ℕ) → length plan ≡ 2 → length work ≡ 243 → PlannerGives even-tasks plan work (2 ∷ 1 ∷ []) (replicate 243 0) (Planned 1 4 4 6)
+  plan-list-1 : (plan work : List ℕ) → length plan ≡ 1 → length work ≡ 243 → PlannerGives (Table Ordinary) (S 100) plan work plan work (NotPlanned (TooShort 2))
+  pub tie : (plan work : List ℕ) → length plan ≡ 2 → length work ≡ 243 → PlannerGives (Table Ordinary) even-tasks plan work (2 ∷ 1 ∷ []) (replicate 243 0) (Planned 1 4 4 6)
   -- Document 02, note 4. The slower rate costs 910 - 10 × 90 = 10 over idling, the faster 200 - 10 × 10 = 100: plan 1, and
   -- with 10 idle ticks 910 + 10 × 10 = 1,010 in all, against 200 + 10 × 90 = 1,100 for plan 2.
   pub idle-counts : (plan work : List ℕ) → length plan ≡ 1 → length work ≡ 82
-      → PlannerGives (slow-or-fast 10 910) plan work (1 ∷ []) (replicate 82 0) (Planned 1 90 100 1010)
+      → PlannerGives (Table Ordinary) (slow-or-fast 10 910) plan work (1 ∷ []) (replicate 82 0) (Planned 1 90 100 1010)
   pub walk-idle : WalkAnswers (slow-or-fast 10 910) (1 ∷ []) (Kept 90 10 0)
   -- So no bound between the jobs' energies alone holds: that of the plan given is 910, and plan 2 keeps every deadline
   -- for ever with 200, 1,100 with its idle energy.
-  pub jobs-alone : (jobsEnergy (slow-or-fast 10 910) (1 ∷ []) ≡ 910) × (jobsEnergy (slow-or-fast 10 910) (2 ∷ []) ≡ 200) ×
-      (reportedEnergy (slow-or-fast 10 910) (2 ∷ []) ≡ 1100) × Keeps (slow-or-fast 10 910) (2 ∷ [])
-  pub jobs-alone-false : (1000 * jobsEnergy (slow-or-fast 10 910) (1 ∷ []) ≤ 1100 * jobsEnergy (slow-or-fast 10 910) (2 ∷ [])) → ⊥
+  pub jobs-alone : (jobsEnergy Ordinary (slow-or-fast 10 910) (1 ∷ []) ≡ 910) × (jobsEnergy Ordinary (slow-or-fast 10 910) (2 ∷ []) ≡ 200) ×
+      (reportedEnergy Ordinary (slow-or-fast 10 910) (2 ∷ []) ≡ 1100) × Keeps Ordinary (slow-or-fast 10 910) (2 ∷ [])
+  pub jobs-alone-false : (1000 * jobsEnergy Ordinary (slow-or-fast 10 910) (1 ∷ []) ≤ 1100 * jobsEnergy Ordinary (slow-or-fast 10 910) (2 ∷ [])) → ⊥
   pub jobs-alone-above :
-      (jobsEnergy (slow-or-fast 10 910) (1 ∷ []) ≤ jobsEnergy (slow-or-fast 10 910) (2 ∷ []) + margin (slow-or-fast 10 910) 1)
+      (jobsEnergy Ordinary (slow-or-fast 10 910) (1 ∷ []) ≤ jobsEnergy Ordinary (slow-or-fast 10 910) (2 ∷ []) + margin (planning Ordinary (slow-or-fast 10 910)) 1)
       → ⊥
   -- Without idle energy the faster rate is the cheaper.
   idle-nothing : (plan work : List ℕ) → length plan ≡ 1 → length work ≡ 82
-      → PlannerGives (slow-or-fast 0 910) plan work (2 ∷ []) (replicate 82 0) (Planned 8 10 100 200)
+      → PlannerGives (Table Ordinary) (slow-or-fast 0 910) plan work (2 ∷ []) (replicate 82 0) (Planned 8 10 100 200)
   -- "10, an energy below H × job time": 900 is not below 10 × 90, and 899 is. With 900 the energy that selection sees is 0.
   idle-equal : (plan work : List ℕ) → length plan ≡ 1 → length work ≡ 82
-      → PlannerGives (slow-or-fast 10 900) plan work (1 ∷ []) (replicate 82 0) (Planned 1 90 100 1000)
+      → PlannerGives (Table Ordinary) (slow-or-fast 10 900) plan work (1 ∷ []) (replicate 82 0) (Planned 1 90 100 1000)
   pub idle-above : Declined (slow-or-fast 10 899) (BelowIdle 9)
   -- All that selection sees is 0: the first unit is 1, and the least load decides.
   nothing-left : (plan work : List ℕ) → length plan ≡ 2 → length work ≡ 243
-      → PlannerGives (idle-tasks 10 10 40 20 40 20) plan work (2 ∷ 2 ∷ []) (replicate 243 0) (Planned 1 4 10 100)
+      → PlannerGives (Table Ordinary) (idle-tasks 10 10 40 20 40 20) plan work (2 ∷ 2 ∷ []) (replicate 243 0) (Planned 1 4 10 100)
   -- "with the first such energy's place": tasks in order, rates in order; no plan would use the second task's 39, as its
   -- other rate is cheaper. "after 3, before 4, and never by walk".
   first-task : Declined (idle-tasks 10 10 40 19 39 20) (BelowIdle 10)
@@ -334,26 +337,26 @@ pub record Cases : Type 0 where
   -- Document 02, note 5. With energies 33 and 64, at unit 32 both round to 2, and the lower load decides: plan 2, energy
   -- 64, which is 31 above the least. So no smaller margin than 1 × (32 - 1) would hold, without idle energy or with it.
   margin-31 : (plan work : List ℕ) → length plan ≡ 1 → length work ≡ 10
-      → PlannerGives (two-energies 0 33 64) plan work (2 ∷ []) (replicate 10 0) (Planned 32 5 10 64)
-  margin-31-reached : (margin (two-energies 0 33 64) 32 ≡ 31) × IsLeast (two-energies 0 33 64) (1 ∷ []) 33
+      → PlannerGives (Table Ordinary) (two-energies 0 33 64) plan work (2 ∷ []) (replicate 10 0) (Planned 32 5 10 64)
+  margin-31-reached : (margin (planning Ordinary (two-energies 0 33 64)) 32 ≡ 31) × IsLeast (planning Ordinary (two-energies 0 33 64)) (1 ∷ []) 33
   idle-margin : (plan work : List ℕ) → length plan ≡ 1 → length work ≡ 10
-      → PlannerGives (two-energies 1 43 69) plan work (2 ∷ []) (replicate 10 0) (Planned 32 5 10 74)
-  idle-margin-reached : (margin (two-energies 1 43 69) 32 ≡ 31) × IsLeast (two-energies 1 43 69) (1 ∷ []) 43
+      → PlannerGives (Table Ordinary) (two-energies 1 43 69) plan work (2 ∷ []) (replicate 10 0) (Planned 32 5 10 74)
+  idle-margin-reached : (margin (planning Ordinary (two-energies 1 43 69)) 32 ≡ 31) × IsLeast (planning Ordinary (two-energies 1 43 69)) (1 ∷ []) 43
   -- With 3 and 4 the unit is 2, the energy 4 and the least 3: at unit 2 nothing is 'the least'. Two such tasks together
   -- cost 8, and 6 is the least: the margin counts every task.
   unit-2 : (plan work : List ℕ) → length plan ≡ 1 → length work ≡ 10
-      → PlannerGives (two-energies 0 3 4) plan work (2 ∷ []) (replicate 10 0) (Planned 2 5 10 4)
-  unit-2-above : IsLeast (two-energies 0 3 4) (1 ∷ []) 3 × (IsLeast (two-energies 0 3 4) (2 ∷ []) 4 → ⊥)
+      → PlannerGives (Table Ordinary) (two-energies 0 3 4) plan work (2 ∷ []) (replicate 10 0) (Planned 2 5 10 4)
+  unit-2-above : IsLeast (planning Ordinary (two-energies 0 3 4)) (1 ∷ []) 3 × (IsLeast (planning Ordinary (two-energies 0 3 4)) (2 ∷ []) 4 → ⊥)
   both-tasks : (plan work : List ℕ) → length plan ≡ 2 → length work ≡ 27
-      → PlannerGives (twice 3 4) plan work (2 ∷ 2 ∷ []) (replicate 27 0) (Planned 2 10 20 8)
-  both-tasks-reached : (margin (twice 3 4) 2 ≡ 2) × IsLeast (twice 3 4) (1 ∷ 1 ∷ []) 6
+      → PlannerGives (Table Ordinary) (twice 3 4) plan work (2 ∷ 2 ∷ []) (replicate 27 0) (Planned 2 10 20 8)
+  both-tasks-reached : (margin (planning Ordinary (twice 3 4)) 2 ≡ 2) × IsLeast (planning Ordinary (twice 3 4)) (1 ∷ 1 ∷ []) 6
   -- "With unit 1 it is therefore the least there is": 41, for S.
-  pub least-41 : IsLeast (S 100) (2 ∷ 1 ∷ []) 41
+  pub least-41 : IsLeast (planning Ordinary (S 100)) (2 ∷ 1 ∷ []) 41
   -- Where the slack allows less than the margin: "one task whose task energy is 33 at every rate, with slack 1,000", 16
   -- against 31; and where the margin does, 31 against 32.
   unit-32 : (plan work : List ℕ) → length plan ≡ 1 → length work ≡ 10
-      → PlannerGives (two-energies 0 33 33) plan work (2 ∷ []) (replicate 10 0) (Planned 32 5 10 33)
-  allowances : (allowance (two-energies 0 33 33) 33 ≡ 16) × (margin (two-energies 0 33 33) 32 ≡ 31) × (allowance (two-energies 0 33 64) 64 ≡ 32)
+      → PlannerGives (Table Ordinary) (two-energies 0 33 33) plan work (2 ∷ []) (replicate 10 0) (Planned 32 5 10 33)
+  allowances : (allowance (planning Ordinary (two-energies 0 33 33)) 33 ≡ 16) × (margin (planning Ordinary (two-energies 0 33 33)) 32 ≡ 31) × (allowance (planning Ordinary (two-energies 0 33 64)) 64 ≡ 32)
   -- Document 02, note 6. "A below the period", of its own task: 1 and 3 with periods 2 and 4; 2 and 4 are "refusal 2".
   first-1 :
       SetAfter (idleChecks Ordinary (with-firsts 2 4 1 3) ▹ hyperCheck Ordinary (with-firsts 2 4 1 3)) Ordinary
@@ -362,13 +365,13 @@ pub record Cases : Type 0 where
   first-4 : Declined (with-firsts 2 4 1 4) (BadWord 13)
   -- "The planner still answers for a common release": with S's second task from 7 on, its plan; the walk of it to 60.
   pub planned-from : (plan work : List ℕ) → length plan ≡ 2 → length work ≡ 243
-      → PlannerGives (S-from 0 7) plan work (2 ∷ 1 ∷ []) (replicate 243 0) (Planned 1 29 30 41)
+      → PlannerGives (Table Ordinary) (S-from 0 7) plan work (2 ∷ 1 ∷ []) (replicate 243 0) (Planned 1 29 30 41)
   pub walk-from : WalkAnswers (S-from 0 7) (2 ∷ 1 ∷ []) (Kept 55 5 2)
   -- "it goes to 2 × L. If some A is above 0, 'kept' means just that stretch": periods 2 and 2, first releases 0 and 1, are
   -- kept with a load of 3, above L = 2, and the plan does not keep every deadline for ever, from there or together.
   walk-over-load : WalkAnswers (with-firsts 2 2 0 1) (1 ∷ 1 ∷ []) (Kept 4 0 0)
-  over-load : (planLoad (problem (with-firsts 2 2 0 1)) (1 ∷ 1 ∷ []) ≡ 3) × (hyperPeriod Ordinary (with-firsts 2 2 0 1) ≡ 2)
-  not-for-ever : (KeepsForEver (walkTasks Ordinary (with-firsts 2 2 0 1) (1 ∷ 1 ∷ [])) → ⊥) × (Keeps (with-firsts 2 2 0 1) (1 ∷ 1 ∷ []) → ⊥)
+  over-load : (planLoad (problemOf Ordinary (with-firsts 2 2 0 1)) (1 ∷ 1 ∷ []) ≡ 3) × (hyperPeriod Ordinary (with-firsts 2 2 0 1) ≡ 2)
+  not-for-ever : (KeepsForEver (walkTasks Ordinary (with-firsts 2 2 0 1) (1 ∷ 1 ∷ [])) → ⊥) × (Keeps Ordinary (with-firsts 2 2 0 1) (1 ∷ 1 ∷ []) → ⊥)
   -- 'Unfinished' is asked before the tick's releases: 2 preemptions, where it would be 3 after them. "If all are 0 it ends
   -- at L as before": in 4 ticks.
   walk-asked-before : WalkAnswers (with-firsts 2 4 1 1) (1 ∷ 1 ∷ []) (Kept 7 1 2)
@@ -377,12 +380,12 @@ pub record Cases : Type 0 where
   missed-together : WalkAnswers (with-firsts 2 2 0 0) (1 ∷ 1 ∷ []) (Missed 2 2)
   -- A chip's list: its plan, and the walk of it.
   pub planned-chip : (plan work : List ℕ) → length plan ≡ 2 → length work ≡ 51
-      → PlannerGives chip-set plan work (2 ∷ 2 ∷ []) (replicate 51 0) (Planned 128 20 40 1680)
+      → PlannerGives (Table Ordinary) chip-set plan work (2 ∷ 2 ∷ []) (replicate 51 0) (Planned 128 20 40 1680)
   pub walk-chip : WalkAnswers chip-set (2 ∷ 2 ∷ []) (Kept 20 20 0)
   -- Attempt 1, "A planner that gives every task the fastest rate": plan 3 3 for S has load 12 and energy 120. It fits;
   -- but plan 2 1 keeps every deadline for ever too, with 41, and demand 3's bound stops 120.
-  pub plan-3-3 : (planLoad (problem (S 100)) (3 ∷ 3 ∷ []) ≡ 12) × (reportedEnergy (S 100) (3 ∷ 3 ∷ []) ≡ 120) × Keeps (S 100) (3 ∷ 3 ∷ [])
-  pub plan-3-3-stopped : (unit : ℕ) → PlanPromise (S 100) (3 ∷ 3 ∷ []) unit 120 → ⊥
+  pub plan-3-3 : (planLoad (problemOf Ordinary (S 100)) (3 ∷ 3 ∷ []) ≡ 12) × (reportedEnergy Ordinary (S 100) (3 ∷ 3 ∷ []) ≡ 120) × Keeps Ordinary (S 100) (3 ∷ 3 ∷ [])
+  pub plan-3-3-stopped : (unit : ℕ) → PlanPromise (planning Ordinary (S 100)) (3 ∷ 3 ∷ []) unit 120 → ⊥
   -- What C is given: 0 and the values, or the refusal's number and second number in one.
   returns : (code (WorkShort 243) ≡ 21474836723) × (code (BadPlan 1) ≡ 34359738369)
   values : (plannerValues (Planned 1 29 30 41) ≡ 1 ∷ 29 ∷ 30 ∷ 41 ∷ []) × (walkValues (Kept 29 1 1) ≡ 1 ∷ 29 ∷ 1 ∷ 1 ∷ []) × (walkValues (Missed 15 2) ≡ 0 ∷ 15 ∷ 2 ∷ 0 ∷ [])
@@ -478,7 +481,7 @@ cases =
       );
       unit-2 = by-3-4;
       unit-2-above =
-          let cheaper : IsLeast (two-energies 0 3 4) (1 ∷ []) 3
+          let cheaper : IsLeast (planning Ordinary (two-energies 0 3 4)) (1 ∷ []) 3
           = least-by-margin (two-energies 0 3 4) (2 ∷ []) 2 5 10 4 (le-by-compare _ _ tt) by-3-4 (1 ∷ []) 10 0 0 refl
           (walks (two-energies 0 3 4) 2 1 10 refl (1 ∷ []) refl, refl) refl in
           (cheaper, (λ l. let below : 4 ≤ 3 = l .least (1 ∷ []) (cheaper .keeps) in omega arith));
@@ -515,7 +518,7 @@ cases =
       walk-chip = (walks chip-set 4 2 40 refl (2 ∷ 2 ∷ []) refl, refl);
       plan-3-3 = (refl, refl, kept-keeps (S 100) (3 ∷ 3 ∷ []) 12 18 0 refl (walks (S 100) 3 2 30 refl (3 ∷ 3 ∷ []) refl, refl));
       plan-3-3-stopped = λ unit p.
-          let other : Keeps (S 100) (2 ∷ 1 ∷ [])
+          let other : Keeps Ordinary (S 100) (2 ∷ 1 ∷ [])
           = kept-keeps (S 100) (2 ∷ 1 ∷ []) 29 1 1 refl (walks (S 100) 3 2 30 refl (2 ∷ 1 ∷ []) refl, refl) in
           let bound : 1000 * 120 ≤ 1100 * 41 = p .within (2 ∷ 1 ∷ []) other in
           omega arith;

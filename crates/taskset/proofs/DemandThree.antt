@@ -1,7 +1,8 @@
--- DEMAND 3. For a set that passes checks 2, 3, 10 and 4, whatever document 01 selects keeps every deadline for ever, its
--- energy is its own over the hyper-period, with its idle energy, and no plan that keeps every deadline for ever is cheaper
--- by more than the slack, or by more than the margin of document 02's note 5, with that plan's idle energy; and no plan
--- fits exactly when no plan keeps every deadline for ever. All of it is judged by the endless walk.
+-- DEMAND 3. Of anything that is planned and is sound (Sound, below), whatever document 01 selects is a plan that demand 3
+-- compares with, and grants what it is to grant; its energy is its own; and no other such plan is cheaper by more than the
+-- slack, or by more than the margin of document 02's note 5; and no plan fits exactly when there is no such plan. And a
+-- list that passes checks 2, 3, 10 and 4 is sound: those plans are the ones that keep every deadline for ever, judged by
+-- the endless walk, and every energy counts the idle ticks.
 -- Assumes nothing.
 use Prim.Native.Nat.{ℕ, _+_, _-_, _*_, _^_, _≤_, _<_}
 use native.Mathlib.Nat.{mul-add, mul-le-mul-right}
@@ -20,14 +21,17 @@ use Rattle.schedule.specs.Counted.{Outcome, IsKept, walk, kept, missed}
 use Rattle.schedule.proofs.Finite.{kept-misses-none, keeps-kept, kept-iff-keeps, busy-and-idle, busy-is-load}
 use Rattle.selection.specs.Plan.{Fitting, IsPlan, IsPlanned, planLoad, planEnergy}
 use Rattle.selection.proofs.Bounds.{planned-within, within-margin}
-use Rattle.layout.specs.Words.{longestPeriod, slack, idle, rateCount, taskCount, first}
-use Rattle.taskset.specs.Quantities.{hyperPeriod, problem, endlessTasks, tasksWith, walkTasks, lastTick, reportedEnergy}
+use Rattle.layout.specs.Words.{longestPeriod, idle, rateCount, taskCount, first}
+use Rattle.layout.specs.declared.Layout.{Layout}
+use Rattle.taskset.specs.Quantities.{hyperPeriod, problemOf, endlessTasks, tasksWith, walkTasks, lastTick}
 use Rattle.taskset.specs.Refusals.{number, second, Check, Accepts, Refuses, _▹_, NoneOk}
-use Rattle.taskset.specs.Refusals.{PlanFault, IsBadPlan, readyChecks, dullReadyChecks, walkChecks}
+use Rattle.taskset.specs.Refusals.{PlanFault, IsBadPlan, readyChecks, walkChecks}
 use Rattle.taskset.specs.Refusals.{wordCheck, rateCheck, idleCheck, hyperCheck, noneCheck}
 use Rattle.taskset.specs.Calls.{plannerValues, Selected, PlanGives, outcomeValues, walkOf, WalkAnswers}
-use Rattle.taskset.specs.DemandThree.{Keeps, margin, PlanPromise, NoneKeeps}
-use Rattle.taskset.specs.DemandThree.{AreFirsts, PlanOwes, Together, WalkOwes}
+use Rattle.taskset.specs.Planning.{Planning, Keeps, AreFirsts, planning, layoutOf}
+use Rattle.taskset.specs.DemandThree.{margin, PlanPromise, NoneKeeps, PlanOwes, Together, WalkOwes}
+use Rattle.taskset.specs.declared.Engine.{Engine}
+use Rattle.taskset.specs.declared.Engine.the-variants.{Table, Exhaustive}
 use Rattle.taskset.specs.declared.PlannerAnswer.{PlannerAnswer}
 use Rattle.taskset.specs.declared.PlannerAnswer.the-variants.{Planned, Refused as NotPlanned}
 use Rattle.taskset.specs.declared.WalkAnswer.{WalkAnswer}
@@ -42,26 +46,126 @@ use Rattle.taskset.proofs.Released.{load-keeps, keeps-load, together-la
 use Rattle.taskset.specs.Sets.{Covered}
 use Rattle.taskset.proofs.Idle.{covered-of, reported-is}
 
+-- ---- anything that is planned
+-- What the theorem asks: a plan is compared with exactly when it fits, and grants then what it is to grant; and what is
+-- reported of a plan that fits is the energy that selection goes by and the same for all.
+pub record Sound (m : Planning) : Type 0 where
+  pub keeps-iff : (Q : List ℕ) → m .Keeps Q ↔ Fitting (m .problem) Q
+  pub grants : (Q : List ℕ) → m .Keeps Q → m .Grants Q
+  pub besides : ℕ
+  pub energy-is : (Q : List ℕ) → Fitting (m .problem) Q → m .energy Q ≡ planEnergy (m .problem) Q + besides
+  pub slack-in : m .slack ≤ 1000
+
 -- A bound between two numbers holds with the same added to both.
 more-on-both : (G a b c : ℕ) → 1000 * a ≤ (1000 + G) * b → 1000 * (a + c) ≤ (1000 + G) * (b + c)
 more-on-both G a b c h = omega (arith, mul-add (1000 + G) b c, mul-le-mul-right {m = 1000} {n = 1000 + G} c (omega arith))
 
-module _ (s : List ℕ) (set : IsSet Ordinary s) where
+module _ (m : Planning) (sound : Sound m) where
+  -- The plan selected, with 2 ^ a the unit used. Selection bounds what every plan costs, and what is reported is that and
+  -- the same for all: so both bounds go over.
+  module _ (P : List ℕ) (a : ℕ) (planned : IsPlanned (m .problem) (m .slack) a P) where
+    in-slack : (Q : List ℕ) → m .Keeps Q → 1000 * m .energy P ≤ (1000 + m .slack) * m .energy Q
+    in-slack Q k =
+        let fits = sound .keeps-iff Q .0 k in
+        rw (sound .energy-is P (planned .chosen .ok), sound .energy-is Q fits)
+        (more-on-both (m .slack) (planEnergy (m .problem) P) (planEnergy (m .problem) Q) (sound .besides)
+        (planned-within (Fitting (m .problem)) (m .problem) (m .slack) a (sound .slack-in) P planned Q fits))
+
+    -- Note 5's.
+    in-margin : (Q : List ℕ) → m .Keeps Q → m .energy P ≤ m .energy Q + margin m (2 ^ a)
+    in-margin Q k =
+        let fits = sound .keeps-iff Q .0 k in
+        omega (
+          arith,
+          sound .energy-is P (planned .chosen .ok),
+          sound .energy-is Q fits,
+          within-margin (Fitting (m .problem)) (m .problem) (2 ^ a) (power-positive a) P (planned .chosen) Q fits,
+        )
+
+  -- A plan given keeps demand 3's promise, and note 5's.
+  pub plan-given : (P : List ℕ) (unit load hyper energy : ℕ)
+      → Selected m P (plannerValues (Planned unit load hyper energy)) → PlanPromise m P unit energy
+  plan-given P unit load hyper energy c =
+      let e = c .values-are in
+      let own : energy ≡ m .energy P = cc in
+      let unit-is : unit ≡ 2 ^ c .exponent = cc in
+      let keeps = sound .keeps-iff P .1 (c .planned .chosen .ok) in
+      let bound : (Q : List ℕ) → m .Keeps Q → m .energy P ≤ m .energy Q + margin m unit
+      = λ Q k. rw unit-is (in-margin P (c .exponent) (c .planned) Q k) in
+      record {
+        keeps = keeps;
+        granted = sound .grants P keeps;
+        own = own;
+        within = λ Q k. omega (arith, in-slack P (c .exponent) (c .planned) Q k);
+        from-1 = omega (arith, power-positive (c .exponent));
+        within-margin = λ Q k. omega (arith, bound Q k);
+        least = λ one.
+            let none : unit - 1 ≡ 0 = omega arith in
+            let no-margin : margin m unit ≡ 0 = rw none (omega arith) in
+            record { keeps = keeps; own = own; least = λ Q k. omega (arith, bound Q k) };
+      }
+
+  -- No plan fits exactly when there is none to compare with.
+  pub none-fits-iff-none-keeps : NoneOk (Fitting (m .problem)) 0 ↔ NoneKeeps m
+  none-fits-iff-none-keeps =
+      ((λ n Q k. n .1 Q (sound .keeps-iff Q .0 k)), (λ n. (refl, (λ P f. n P (sound .keeps-iff P .1 f)))))
+
+-- What the checks that a call which plans makes before 7 come to: what is planned is sound, and 7 is not among them.
+pub record Plans (m : Planning) (cs : List Check) : Type 0 where
+  pub sound : Accepts cs → Sound m
+  pub not-7 : Without 7 cs
+
+-- A call with such checks, and 7 last, refuses with 7 exactly when all before it pass and there is no plan to compare
+-- with.
+module _ (m : Planning) (cs : List Check) (plans : Plans m cs) where
+  abbrev last : Check
+  last = noneCheck (Fitting (m .problem))
+
+  refused-7 : (k : ℕ) → Refuses (cs ▹ last) 7 k → Accepts cs × NoneKeeps m
+  refused-7 k r =
+      let l = refuses-last cs last 7 k (plans .not-7) r in
+      (l .0, none-fits-iff-none-keeps m (plans .sound (l .0)) .0 (refl, l .1 .1))
+
+  pub refused-7-iff : Refuses (cs ▹ last) 7 0 ↔ (Accepts cs × NoneKeeps m)
+  refused-7-iff = (
+    refused-7 0,
+    λ h. refuses-next cs last 0 (h .0) (none-fits-iff-none-keeps m (plans .sound (h .0)) .1 (h .1)),
+  )
+
+  -- So the number of any refusal is 7 in that case, then with 0, and in no other.
+  pub refusal-owes : (n k : ℕ) → Refuses (cs ▹ last) n k → (n ≡ 7 → Accepts cs × NoneKeeps m) × (Accepts cs × NoneKeeps m → (n ≡ 7) × (k ≡ 0))
+  refusal-owes n k h = (
+    λ e. refused-7 k (subst (λ (x : ℕ). Refuses (cs ▹ last) x k) e h),
+    λ w. ⊎-elim (λ x. absurd (not-both cs n k (w .0) x)) (λ x. (x .1, x .2 .0)) (refuses-cases cs last n k h),
+  )
+
+  -- Whatever meets the definition of what such a call gives keeps what demand 3 asks of it.
+  pub answer-owes : (plan plan′ : List ℕ) (a : PlannerAnswer)
+      → PlanGives (cs ▹ last) m plan plan′ a → PlanOwes cs m plan′ a
+  answer-owes plan plan′ (Planned unit load hyper energy) g =
+      let ready = accepts-but-last cs last (g .0) in
+      rw (g .1 .2 .front) (plan-given m (plans .sound ready) (g .1 .0) unit load hyper energy (g .1 .1))
+  answer-owes plan plan′ (NotPlanned r) g =
+      let owes = refusal-owes (number r) (second r) (g .0) in
+      (owes .0, (λ w. owes .1 w .0))
+
+-- ---- a list
+module _ (layout : Layout) (s : List ℕ) (set : IsSet layout s) where
   -- A plan keeps every deadline for ever exactly when it fits.
-  pub keeps-iff-fits : (Q : List ℕ) → Keeps s Q ↔ Fitting (problem s) Q
+  pub keeps-iff-fits : (Q : List ℕ) → Keeps layout s Q ↔ Fitting (problemOf layout s) Q
   keeps-iff-fits Q = (
-    λ k. record { plan = k .plan; fits = keeps-iff-load Ordinary s set Q .0 (k .for-ever) },
-    λ f. record { plan = f .plan; for-ever = keeps-iff-load Ordinary s set Q .1 (f .fits) },
+    λ k. record { plan = k .plan; fits = keeps-iff-load layout s set Q .0 (k .for-ever) },
+    λ f. record { plan = f .plan; for-ever = keeps-iff-load layout s set Q .1 (f .fits) },
   )
 
   -- And then it does whatever the first releases.
-  pub keeps-with : (Q : List ℕ) → Keeps s Q → (a : ℕ → ℕ) → KeepsForEver (tasksWith Ordinary s a Q)
-  keeps-with Q k a = load-keeps Ordinary s set a Q (keeps-iff-fits Q .0 k .fits)
+  pub keeps-with : (Q : List ℕ) → Keeps layout s Q → (a : ℕ → ℕ) → KeepsForEver (tasksWith layout s a Q)
+  keeps-with Q k a = load-keeps layout s set a Q (keeps-iff-fits Q .0 k .fits)
 
   -- And whatever they are, no other plan does: a plan that keeps every deadline for ever from one choice of them does so
   -- from every other, and with all tasks released together.
-  pub keeps-from-iff : (a : ℕ → ℕ) → AreFirsts s a → (Q : List ℕ) → IsPlan (problem s) Q
-      → KeepsForEver (tasksWith Ordinary s a Q) ↔ Keeps s Q
+  pub keeps-from-iff : (a : ℕ → ℕ) → AreFirsts layout s a → (Q : List ℕ) → IsPlan (problemOf layout s) Q
+      → KeepsForEver (tasksWith layout s a Q) ↔ Keeps layout s Q
   keeps-from-iff a h Q plan = (
     λ k.
         keeps-iff-fits Q .1 (record {
@@ -71,69 +175,59 @@ module _ (s : List ℕ) (set : IsSet Ordinary s) where
     λ k. keeps-with Q k a,
   )
     where
-      load-limit : KeepsForEver (tasksWith Ordinary s a Q) → planLoad (problem s) Q ≤ hyperPeriod Ordinary s
+      load-limit : KeepsForEver (tasksWith layout s a Q) → planLoad (problemOf layout s) Q ≤ hyperPeriod layout s
       load-limit =
-          keeps-load Ordinary s set a Q longestPeriod (λ t l. omega (arith, h t l, set .whole .period-range t l .1))
+          keeps-load layout s set a Q longestPeriod (λ t l. omega (arith, h t l, set .whole .period-range t l .1))
 
   -- The list's own first releases are such a choice.
-  pub own-firsts : AreFirsts s (first Ordinary s)
-  own-firsts t h = first-in Ordinary s (set .whole) t h
+  pub own-firsts : AreFirsts layout s (first layout s)
+  own-firsts t h = first-in layout s (set .whole) t h
 
-  -- The plan selected, with 2 ^ a the unit used, of a set that passes 10. Selection bounds what every plan costs over
-  -- H × L, and every plan that keeps its deadlines costs that besides, this one too: so both bounds go over.
-  module _ (covered : Covered Ordinary s) (P : List ℕ) (a : ℕ) (planned : IsPlanned (problem s) (slack s) a P) where
-    reported : (Q : List ℕ) → Fitting (problem s) Q
-        → reportedEnergy s Q ≡ planEnergy (problem s) Q + idle s * hyperPeriod Ordinary s
-    reported Q f = reported-is s covered Q (f .plan) (f .fits)
+  -- A list that passes 10 besides is sound: H × L is reported of every plan.
+  pub list-sound : Covered layout s → Sound (planning layout s)
+  list-sound covered = record {
+    keeps-iff = keeps-iff-fits;
+    grants = λ Q k a h. keeps-with Q k a;
+    besides = idle s * hyperPeriod layout s;
+    energy-is = λ Q f. reported-is layout s covered Q (f .plan) (f .fits);
+    slack-in = slack-in layout s (set .whole) .1;
+  }
 
-    in-slack : (Q : List ℕ) → Keeps s Q → 1000 * reportedEnergy s P ≤ (1000 + slack s) * reportedEnergy s Q
-    in-slack Q k =
-        let fits = keeps-iff-fits Q .0 k in
-        rw (reported P (planned .chosen .ok), reported Q fits)
-        (more-on-both (slack s) (planEnergy (problem s) P) (planEnergy (problem s) Q) (idle s * hyperPeriod Ordinary s)
-        (planned-within (Fitting (problem s)) (problem s) (slack s) a (slack-in Ordinary s (set .whole) .1) P planned Q fits))
+-- What the checks of a call that plans a list come to: the list is a set, with energies that cover idling, and 7 is not
+-- among them.
+pub record PlansList (layout : Layout) (s : List ℕ) (cs : List Check) : Type 0 where
+  pub set : Accepts cs → IsSet layout s
+  pub covered : Accepts cs → Covered layout s
+  pub not-7 : Without 7 cs
 
-    -- Note 5's.
-    in-margin : (Q : List ℕ) → Keeps s Q → reportedEnergy s P ≤ reportedEnergy s Q + margin s (2 ^ a)
-    in-margin Q k =
-        let fits = keeps-iff-fits Q .0 k in
-        omega (
-          arith,
-          reported P (planned .chosen .ok),
-          reported Q fits,
-          within-margin (Fitting (problem s)) (problem s) (2 ^ a) (power-positive a) P (planned .chosen) Q fits,
-        )
+pub list-plans : {layout : Layout} {s : List ℕ} {cs : List Check} → PlansList layout s cs → Plans (planning layout s) cs
+list-plans {layout} {s} plans = record {
+  sound = λ a. list-sound layout s (plans .set a) (plans .covered a);
+  not-7 = plans .not-7;
+}
 
-  -- A plan given keeps demand 3's promise, and note 5's.
-  pub plan-given : Covered Ordinary s → (P : List ℕ) (unit load hyper energy : ℕ)
-      → Selected s P (plannerValues (Planned unit load hyper energy)) → PlanPromise s P unit energy
-  plan-given covered P unit load hyper energy c =
-      let e = c .values-are in
-      let own : energy ≡ reportedEnergy s P = cc in
-      let unit-is : unit ≡ 2 ^ c .exponent = cc in
-      let keeps = keeps-iff-fits P .1 (c .planned .chosen .ok) in
-      let bound : (Q : List ℕ) → Keeps s Q → reportedEnergy s P ≤ reportedEnergy s Q + margin s unit
-      = λ Q k. rw unit-is (in-margin covered P (c .exponent) (c .planned) Q k) in
-      record {
-        keeps = keeps;
-        keeps-from = λ a h. keeps-with P keeps a;
-        own = own;
-        within = λ Q k. omega (arith, in-slack covered P (c .exponent) (c .planned) Q k);
-        from-1 = omega (arith, power-positive (c .exponent));
-        within-margin = λ Q k. omega (arith, bound Q k);
-        least = λ one.
-            let none : unit - 1 ≡ 0 = omega arith in
-            let no-margin : margin s unit ≡ 0 = rw none (omega arith) in
-            record { keeps = keeps; own = own; least = λ Q k. omega (arith, bound Q k) };
-      }
+-- By computing: 2, 3, 4 and 10 are among them.
+plans-by : (layout : Layout) (s : List ℕ) (cs : List Check)
+    → numbered 2 cs ≡ some (wordCheck layout s) → numbered 3 cs ≡ some (rateCheck layout s)
+    → numbered 4 cs ≡ some (hyperCheck layout s) → numbered 10 cs ≡ some (idleCheck layout s)
+    → lacks 7 cs ≡ true → PlansList layout s cs
+plans-by layout s cs two three four ten none = record {
+  set = λ a. set-of layout s (passed 2 cs two a) (passed 3 cs three a) (passed 4 cs four a);
+  covered = λ a. covered-of layout s (passed 10 cs ten a);
+  not-7 = without-by 7 cs none;
+}
 
-  -- No plan fits exactly when no plan keeps every deadline for ever.
-  pub none-fits-iff-none-keeps : NoneOk (Fitting (problem s)) 0 ↔ NoneKeeps s
-  none-fits-iff-none-keeps = ((λ n Q k. n .1 Q (keeps-iff-fits Q .0 k)), (λ n. (refl, (λ P f. n P (keeps-iff-fits P .1 f)))))
+-- So those of either engine.
+pub engine-plans : (e : Engine) (s : List ℕ) (planLength workLength : ℕ)
+    → PlansList (layoutOf e) s (readyChecks e s planLength workLength)
+engine-plans (Table layout) s pl wl = plans-by layout s (readyChecks (Table layout) s pl wl) refl refl refl refl refl
+engine-plans Exhaustive s pl wl = plans-by Ordinary s (readyChecks Exhaustive s pl wl) refl refl refl refl refl
 
+-- ---- the walk of a list
+module _ (s : List ℕ) (set : IsSet Ordinary s) where
   module _ (P : List ℕ) where
     -- The walk of a plan that fits is kept, whatever the first releases: of any list of rate numbers.
-    pub walk-kept : planLoad (problem s) P ≤ hyperPeriod Ordinary s → IsKept (walkOf s P)
+    pub walk-kept : planLoad (problemOf Ordinary s) P ≤ hyperPeriod Ordinary s → IsKept (walkOf s P)
     walk-kept fits = keeps-kept (walkTasks Ordinary s P) (lastTick Ordinary s) (load-keeps Ordinary s set (first Ordinary s) P fits)
 
     -- With every first release 0 the walk says 'kept' exactly when the endless walk keeps every deadline, and then its
@@ -150,71 +244,11 @@ module _ (s : List ℕ) (set : IsSet Ordinary s) where
       pub walk-decides : IsKept (walkOf s P) ↔ KeepsForEver ks
       walk-decides = rw walk-is (kept-iff-keeps ks (hyperPeriod Ordinary s) (set .hyper-range .0) (regular Ordinary s set P))
 
-      pub walk-busy : (busy idle preempted : ℕ) → walkOf s P ≡ kept busy idle preempted → busy ≡ planLoad (problem s) P
+      pub walk-busy : (busy idle preempted : ℕ) → walkOf s P ≡ kept busy idle preempted → busy ≡ planLoad (problemOf Ordinary s) P
       walk-busy busy idle preempted e =
           busy-is-load ks (hyperPeriod Ordinary s) busy idle preempted (sym walk-is ∙ e) (set .hyper-range .0) (regular Ordinary s set P) ∙
           walk-load Ordinary s set P
 
--- What the checks that a call which plans makes before 7 come to: the list is a set, with energies that cover idling,
--- and 7 is not among them.
-pub record Plans (s : List ℕ) (cs : List Check) : Type 0 where
-  pub set : Accepts cs → IsSet Ordinary s
-  pub covered : Accepts cs → Covered Ordinary s
-  pub not-7 : Without 7 cs
-
--- By computing: 2, 3, 4 and 10 are among them.
-pub plans-by : (s : List ℕ) (cs : List Check)
-    → numbered 2 cs ≡ some (wordCheck Ordinary s) → numbered 3 cs ≡ some (rateCheck Ordinary s)
-    → numbered 4 cs ≡ some (hyperCheck Ordinary s) → numbered 10 cs ≡ some (idleCheck Ordinary s)
-    → lacks 7 cs ≡ true → Plans s cs
-plans-by s cs two three four ten none = record {
-  set = λ a. set-of Ordinary s (passed 2 cs two a) (passed 3 cs three a) (passed 4 cs four a);
-  covered = λ a. covered-of Ordinary s (passed 10 cs ten a);
-  not-7 = without-by 7 cs none;
-}
-
-pub planner-plans : (s : List ℕ) (planLength workLength : ℕ) → Plans s (readyChecks s planLength workLength)
-planner-plans s pl wl = plans-by s (readyChecks s pl wl) refl refl refl refl refl
-
-pub dull-plans : (s : List ℕ) (planLength : ℕ) → Plans s (dullReadyChecks s planLength)
-dull-plans s pl = plans-by s (dullReadyChecks s pl) refl refl refl refl refl
-
--- A call with such checks, and 7 last, refuses with 7 exactly when all before it pass and no plan keeps every deadline
--- for ever.
-module _ (s : List ℕ) (cs : List Check) (plans : Plans s cs) where
-  abbrev last : Check
-  last = noneCheck (Fitting (problem s))
-
-  refused-7 : (k : ℕ) → Refuses (cs ▹ last) 7 k → Accepts cs × NoneKeeps s
-  refused-7 k r =
-      let l = refuses-last cs last 7 k (plans .not-7) r in
-      (l .0, none-fits-iff-none-keeps s (plans .set (l .0)) .0 (refl, l .1 .1))
-
-  pub refused-7-iff : Refuses (cs ▹ last) 7 0 ↔ (Accepts cs × NoneKeeps s)
-  refused-7-iff = (
-    refused-7 0,
-    λ h. refuses-next cs last 0 (h .0) (none-fits-iff-none-keeps s (plans .set (h .0)) .1 (h .1)),
-  )
-
-  -- So the number of any refusal is 7 in that case, then with 0, and in no other.
-  pub refusal-owes : (n k : ℕ) → Refuses (cs ▹ last) n k → (n ≡ 7 → Accepts cs × NoneKeeps s) × (Accepts cs × NoneKeeps s → (n ≡ 7) × (k ≡ 0))
-  refusal-owes n k h = (
-    λ e. refused-7 k (subst (λ (x : ℕ). Refuses (cs ▹ last) x k) e h),
-    λ w. ⊎-elim (λ x. absurd (not-both cs n k (w .0) x)) (λ x. (x .1, x .2 .0)) (refuses-cases cs last n k h),
-  )
-
-  -- Whatever meets the definition of what such a call gives keeps what demand 3 asks of it.
-  pub answer-owes : (plan plan′ : List ℕ) (a : PlannerAnswer)
-      → PlanGives (cs ▹ last) s plan plan′ a → PlanOwes cs s plan′ a
-  answer-owes plan plan′ (Planned unit load hyper energy) g =
-      let ready = accepts-but-last cs last (g .0) in
-      rw (g .1 .2 .front)
-      (plan-given s (plans .set ready) (plans .covered ready) (g .1 .0) unit load hyper energy (g .1 .1))
-  answer-owes plan plan′ (NotPlanned r) g =
-      let owes = refusal-owes (number r) (second r) (g .0) in
-      (owes .0, (λ w. owes .1 w .0))
-
--- ---- the walk's answer
 -- An outcome is known by its values.
 pub outcome-kept : (o : Outcome) (b i p : ℕ) → 1 ∷ b ∷ i ∷ p ∷ [] ≡ outcomeValues o → o ≡ kept b i p
 outcome-kept (kept b′ i′ p′) b i p e = cc
@@ -225,7 +259,7 @@ outcome-missed (kept b i p) t k e = let z : _≡_ {A = ℕ} 0 1 = cc in absurd (
 outcome-missed (missed t′ k′) t k e = cc
 
 -- A plan without a fault is one rate number, 1 to M, for each task.
-pub plan-of : (s P : List ℕ) → ((k : ℕ) → IsBadPlan (rateCount Ordinary s) (taskCount Ordinary s) P k → ⊥) → IsPlan (problem s) P
+pub plan-of : (s P : List ℕ) → ((k : ℕ) → IsBadPlan (rateCount Ordinary s) (taskCount Ordinary s) P k → ⊥) → IsPlan (problemOf Ordinary s) P
 plan-of s P pass =
     record {
       size = size;
@@ -255,7 +289,7 @@ plan-of s P pass =
         (bool-cases (between 1 (rateCount Ordinary s) (getD P t 0)))
 
 -- And such a plan has no fault.
-pub sound-plan : (s P : List ℕ) → IsPlan (problem s) P → (k : ℕ) → IsBadPlan (rateCount Ordinary s) (taskCount Ordinary s) P k → ⊥
+pub sound-plan : (s P : List ℕ) → IsPlan (problemOf Ordinary s) P → (k : ℕ) → IsBadPlan (rateCount Ordinary s) (taskCount Ordinary s) P k → ⊥
 sound-plan s P p k bad =
     ⊎-elim
     (λ (x : (k < length P) × (between 1 (rateCount Ordinary s) (getD P k 0) ≡ false)).

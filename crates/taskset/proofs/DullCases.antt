@@ -12,8 +12,9 @@ use Rattle.numbers.proofs.Search.{seek}
 use Rattle.layout.specs.Words.{headKinds, extraKinds, kindIn, kindAt, headKind, taskKind, allows, rateCount, taskCount}
 use Rattle.layout.specs.declared.Layout.the-variants.{Ordinary}
 use Rattle.taskset.specs.Refusals.{number, second, mostPlans, Check, Passes, _▹_, idleChecks, hyperCheck}
-use Rattle.taskset.specs.Refusals.{manyCheck, dullChecks}
-use Rattle.taskset.specs.Calls.{SetAfter, DullGives}
+use Rattle.taskset.specs.Refusals.{manyCheck, plannerChecks}
+use Rattle.taskset.specs.Calls.{SetAfter, PlannerGives}
+use Rattle.taskset.specs.declared.Engine.the-variants.{Exhaustive}
 use Rattle.taskset.specs.declared.Refusal.{Refusal}
 use Rattle.taskset.specs.declared.Refusal.the-variants.{TooLong, TooManyPlans}
 use Rattle.taskset.specs.declared.Checked.{Checked}
@@ -33,9 +34,9 @@ tasks m p q (suc (suc n)) = (q ∷ 1 ∷ 0 ∷ replicate m 1) ++ tasks m p q (su
 many : ℕ → ℕ → ℕ → ℕ → List ℕ
 many m n p q = 100 ∷ 0 ∷ m ∷ (each (λ r. r) 1 m ++ (n ∷ tasks m p q n))
 
--- The dull engine refuses, whatever is lent, and leaves the plan list as it is.
+-- The dull engine refuses, whatever is lent, and leaves both lists as they are.
 abbrev pub DullDeclined : List ℕ → Refusal → Type 0
-DullDeclined s r = (plan : List ℕ) → DullGives s plan plan (NotPlanned r)
+DullDeclined s r = (plan work : List ℕ) → PlannerGives Exhaustive s plan work plan work (NotPlanned r)
 
 module _ (s : List ℕ) where
   abbrev set : List Check
@@ -45,17 +46,24 @@ module _ (s : List ℕ) where
   answered x e = subst (SetAfter set Ordinary s) e (covered-answers Ordinary s)
 
   set-refused : (r : Refusal) → coveredOf Ordinary s ≡ NotGood r → DullDeclined s r
-  set-refused r e plan = (
-    refuses-early set (dullChecks s (length plan)) (same (same (same (same nothing)))) (number r) (second r)
-        (answered (NotGood r) e),
+  set-refused r e plan work = (
+    (
+      refuses-early set (plannerChecks Exhaustive s (length plan) (length work)) (same (same (same (same nothing)))) (number r)
+          (second r) (answered (NotGood r) e),
+      refl,
+    ),
     refl,
   )
 
   too-many : (m n l : ℕ) → coveredOf Ordinary s ≡ Good m n l
       → mostPlans < rateCount Ordinary s ^ taskCount Ordinary s → DullDeclined s TooManyPlans
-  too-many m n l e over plan = (
-    refuses-early (set ▹ manyCheck Ordinary s) (dullChecks s (length plan)) (same (same (same (same (same nothing)))))
-        11 0 (refuses-next set (manyCheck Ordinary s) 0 (answered (Good m n l) e .0) (refl, over)),
+  too-many m n l e over plan work = (
+    (
+      refuses-early (set ▹ manyCheck Ordinary s) (plannerChecks Exhaustive s (length plan) (length work))
+          (same (same (same (same (same nothing)))))
+          11 0 (refuses-next set (manyCheck Ordinary s) 0 (answered (Good m n l) e .0) (refl, over)),
+      refl,
+    ),
     refl,
   )
 

@@ -14,8 +14,7 @@ use Rattle.numbers.proofs.Sums.{total-shared}
 use Rattle.selection.specs.Plan.{IsPlan, planLoad, planEnergy}
 use Rattle.layout.specs.Words.{idle, rateCount, taskCount, taskSize, energyPlace, period, energy}
 use Rattle.layout.specs.declared.Layout.{Layout}
-use Rattle.layout.specs.declared.Layout.the-variants.{Ordinary}
-use Rattle.taskset.specs.Quantities.{jobTime, jobEnergy, hyperPeriod, taskLoad, taskEnergy, netEnergy, taskNet, problem}
+use Rattle.taskset.specs.Quantities.{jobTime, jobEnergy, hyperPeriod, taskLoad, taskEnergy, netEnergy, taskNet, problemOf}
 use Rattle.taskset.specs.Quantities.{jobsEnergy, reportedEnergy}
 use Rattle.taskset.specs.Sets.{Covered, Below}
 use Rattle.taskset.specs.Refusals.{IsBelowIdle, Passes, idleCheck}
@@ -100,24 +99,24 @@ module _ (layout : Layout) (s : List ℕ) (covered : Covered layout s) where
       total-shared (taskEnergy layout s) (taskNet layout s) (taskLoad layout s) (idle s) (taskCount layout s) P
       (λ t l. task-energy-is t (getD P t 0) l (above t l) (below t l))
 
--- THE TWO ARE ONE BUT FOR A CONSTANT: of a list that passes 10, the energy reported of every plan that fits is the energy
--- that selection goes by and H × L.
-pub reported-is : (s : List ℕ) → Covered Ordinary s → (P : List ℕ) → IsPlan (problem s) P
-    → planLoad (problem s) P ≤ hyperPeriod Ordinary s
-    → reportedEnergy s P ≡ planEnergy (problem s) P + idle s * hyperPeriod Ordinary s
-reported-is s covered P plan fits =
-    let free : planLoad (problem s) P + (hyperPeriod Ordinary s - planLoad (problem s) P) ≡ hyperPeriod Ordinary s = omega arith in
-    omega (
-      arith,
-      energies-are Ordinary s covered P (plan .above) (plan .below),
-      ap (λ (x : ℕ). idle s * x) free,
-      mul-add (idle s) (planLoad (problem s) P) (hyperPeriod Ordinary s - planLoad (problem s) P),
-    )
+  -- THE TWO ARE ONE BUT FOR A CONSTANT: of a list that passes 10, the energy reported of every plan that fits is the
+  -- energy that selection goes by and H × L.
+  pub reported-is : (P : List ℕ) → IsPlan (problemOf layout s) P → planLoad (problemOf layout s) P ≤ hyperPeriod layout s
+      → reportedEnergy layout s P ≡ planEnergy (problemOf layout s) P + idle s * hyperPeriod layout s
+  reported-is P plan fits =
+      let load : ℕ = planLoad (problemOf layout s) P in
+      let free : load + (hyperPeriod layout s - load) ≡ hyperPeriod layout s = omega arith in
+      omega (
+        arith,
+        energies-are P (plan .above) (plan .below),
+        ap (λ (x : ℕ). idle s * x) free,
+        mul-add (idle s) load (hyperPeriod layout s - load),
+      )
 
 -- Where idle ticks draw nothing, both are document 01's own: the energy per job, and the sum of the task energies.
-module _ (s : List ℕ) (nothing : idle s ≡ 0) where
-  pub net-without : (layout : Layout) (t r : ℕ) → netEnergy layout s t r ≡ jobEnergy layout s t r
-  net-without layout t r = rw nothing (omega arith)
+module _ (layout : Layout) (s : List ℕ) (nothing : idle s ≡ 0) where
+  pub net-without : (t r : ℕ) → netEnergy layout s t r ≡ jobEnergy layout s t r
+  net-without t r = rw nothing (omega arith)
 
-  pub reported-without : (P : List ℕ) → reportedEnergy s P ≡ jobsEnergy s P
+  pub reported-without : (P : List ℕ) → reportedEnergy layout s P ≡ jobsEnergy layout s P
   reported-without P = rw nothing (omega arith)

@@ -11,6 +11,7 @@ pub mod Copied
 pub mod Unique
 pub mod TwoEngines
 pub mod DullCases
+pub mod Alike
 pub mod Firsts
 pub mod Cases
 pub mod WorkedDull

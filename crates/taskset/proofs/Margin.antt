@@ -10,21 +10,21 @@ use mathlib.Core.Logic.{_⊎_, inl, inr, ⊎-elim}
 use native.Mathlib.Omega.{arith}
 use Rattle.numbers.proofs.Sums.{total-bound}
 use Rattle.numbers.proofs.Tests.{lt-or-le}
-use Rattle.selection.specs.Plan.{Fitting, IsPlanned, fastest, planEnergy}
+use Rattle.selection.specs.Plan.{Fitting, IsPlanned, fastest, planLoad, planEnergy}
 use Rattle.selection.proofs.Bounds.{margin-in-slack}
 use Rattle.selection.proofs.Fastest.{fastest-plan}
 use Rattle.layout.specs.Words.{slack, taskCount}
-use Rattle.layout.specs.declared.Layout.the-variants.{Ordinary}
-use Rattle.taskset.specs.Quantities.{hyperLimit, problem, taskNet, reportedEnergy}
-use Rattle.taskset.specs.DemandThree.{Keeps, margin, IsLeast, PlanPromise}
+use Rattle.layout.specs.declared.Layout.{Layout}
+use Rattle.taskset.specs.Quantities.{hyperLimit, hyperPeriod, problemOf, taskNet}
+use Rattle.taskset.specs.Planning.{Planning, planning}
+use Rattle.taskset.specs.DemandThree.{margin, IsLeast, PlanPromise}
 use Rattle.taskset.specs.Sets.{IsSet}
-use Rattle.taskset.proofs.Sets.{task-net-small}
-use Rattle.taskset.specs.Sets.{Covered}
-use Rattle.taskset.proofs.Idle.{reported-is}
+use Rattle.taskset.proofs.Sets.{task-net-small, energy-small}
+use Rattle.taskset.proofs.DemandThree.{Sound}
 
 -- What the slack allows of an energy e: e × G / (1000 + G), rounded down.
-abbrev pub allowance : List ℕ → ℕ → ℕ
-allowance s e = e * slack s / (1000 + slack s)
+abbrev pub allowance : Planning → ℕ → ℕ
+allowance m e = e * m .slack / (1000 + m .slack)
 
 at-most-part : (e x G : ℕ) → x * (1000 + G) ≤ e * G → x ≤ e * G / (1000 + G)
 at-most-part e x G h = le-div-iff-mul-le {k = 1000 + G} {x = x} {y = e * G} (omega arith) .1 h
@@ -38,60 +38,79 @@ difference b e G h =
     omega (arith, at-most-part e (e - b) G (over (e - b) (omega arith))))
     (lt-or-le e b)
 
-module _ (s P : List ℕ) (unit energy : ℕ) (promise : PlanPromise s P unit energy) where
+module _ (m : Planning) (P : List ℕ) (unit energy : ℕ) (promise : PlanPromise m P unit energy) where
   -- The slack's bound as a difference.
-  pub within-allowance : (Q : List ℕ) → Keeps s Q → energy ≤ reportedEnergy s Q + allowance s energy
-  within-allowance Q k = difference (reportedEnergy s Q) energy (slack s) (promise .within Q k)
+  pub within-allowance : (Q : List ℕ) → m .Keeps Q → energy ≤ m .energy Q + allowance m energy
+  within-allowance Q k = difference (m .energy Q) energy (m .slack) (promise .within Q k)
 
   -- So the energy is above that of every plan that keeps every deadline for ever by at most either of the two.
-  pub above-least : (K : ℕ) → (K ≡ margin s unit) ⊎ (K ≡ allowance s energy) → (Q : List ℕ) → Keeps s Q
-      → energy ≤ reportedEnergy s Q + K
+  pub above-least : (K : ℕ) → (K ≡ margin m unit) ⊎ (K ≡ allowance m energy) → (Q : List ℕ) → m .Keeps Q
+      → energy ≤ m .energy Q + K
   above-least K (inl e) Q k = omega (arith, promise .within-margin Q k)
   above-least K (inr e) Q k = omega (arith, within-allowance Q k)
 
   -- And, in parts of which the energy of that plan has n, by at most x of them, where n × K is at most x × (energy - K).
-  pub above-in-parts : (K n x : ℕ) → (K ≡ margin s unit) ⊎ (K ≡ allowance s energy) → n * K ≤ x * (energy - K)
-      → (Q : List ℕ) → Keeps s Q → n * energy ≤ (n + x) * reportedEnergy s Q
+  pub above-in-parts : (K n x : ℕ) → (K ≡ margin m unit) ⊎ (K ≡ allowance m energy) → n * K ≤ x * (energy - K)
+      → (Q : List ℕ) → m .Keeps Q → n * energy ≤ (n + x) * m .energy Q
   above-in-parts K n x either h Q k =
       let bound = above-least K either Q k in
-      let rest : energy - K ≤ reportedEnergy s Q = omega arith in
+      let rest : energy - K ≤ m .energy Q = omega arith in
       omega (arith, mul-le-mul-left n bound, mul-le-mul-left x rest)
 
   -- Where a plan that keeps every deadline for ever reaches the margin, it is a plan of the least energy.
-  pub margin-reached : (Q : List ℕ) → Keeps s Q → energy ≡ reportedEnergy s Q + margin s unit
-      → IsLeast s Q (reportedEnergy s Q)
+  pub margin-reached : (Q : List ℕ) → m .Keeps Q → energy ≡ m .energy Q + margin m unit
+      → IsLeast m Q (m .energy Q)
   margin-reached Q k e = record { keeps = k; own = refl; least = λ R r. omega (arith, promise .within-margin R r) }
 
--- Of the plan selected, with 2 ^ a the unit used.
-module _ (s : List ℕ) (set : IsSet Ordinary s) (P : List ℕ) (a : ℕ) (planned : IsPlanned (problem s) (slack s) a P) where
-  -- The first unit is at most 2 ^ 49, as no plan's energy is above that: so the margin is below 2 ^ 54.
-  pub unit-small : 2 ^ a ≤ 2 ^ 49
-  unit-small =
-      let fast = fastest-plan (problem s) (omega (arith, set .whole .rates-range .0)) in
-      let most : planEnergy (problem s) (fastest (problem s)) ≤ 2 ^ 49
+-- Of the plan selected, with 2 ^ a the unit used: with a slack of at most 500 the margin is never above the slack's
+-- allowance.
+pub margin-is-smaller : (m : Planning) → Sound m → (P : List ℕ) (a : ℕ) → IsPlanned (m .problem) (m .slack) a P
+    → m .slack ≤ 500 → margin m (2 ^ a) ≤ allowance m (m .energy P)
+margin-is-smaller m sound P a planned small =
+    let more : planEnergy (m .problem) P ≤ m .energy P = omega (arith, sound .energy-is P (planned .chosen .ok)) in
+    at-most-part (m .energy P) (margin m (2 ^ a)) (m .slack)
+    (omega (
+      arith,
+      margin-in-slack (Fitting (m .problem)) (m .problem) (m .slack) a small P planned,
+      mul-le-mul-right (m .slack) more,
+    ))
+
+-- ---- what a host can work with in 64 bits
+-- The unit, the energy and the load of a plan that is given, and the hyper-period; and so the margin.
+pub record InBits (m : Planning) : Type 0 where
+  pub few : m .problem .count ≤ 32
+  pub units : (P : List ℕ) (a : ℕ) → IsPlanned (m .problem) (m .slack) a P → 2 ^ a ≤ 2 ^ 49
+  pub energies : (P : List ℕ) → Fitting (m .problem) P → m .energy P < 2 ^ 49
+  pub limit : m .problem .limit < 2 ^ 64
+  pub hyper : m .hyper < 2 ^ 64
+
+pub margin-small : (m : Planning) → InBits m → (P : List ℕ) (a : ℕ) → IsPlanned (m .problem) (m .slack) a P
+    → margin m (2 ^ a) < 2 ^ 54
+margin-small m bits P a planned =
+    let less : 2 ^ a - 1 ≤ 2 ^ 49 - 1 = omega (arith, bits .units P a planned) in
+    omega (arith, mul-le-mul (bits .few) less)
+
+-- A list's: no plan's energy is above 2 ^ 49, and so neither is the first unit.
+module _ (layout : Layout) (s : List ℕ) (set : IsSet layout s) where
+  unit-small : (P : List ℕ) (a : ℕ) → IsPlanned (problemOf layout s) (slack s) a P → 2 ^ a ≤ 2 ^ 49
+  unit-small P a planned =
+      let fast = fastest-plan (problemOf layout s) (omega (arith, set .whole .rates-range .0)) in
+      let most : planEnergy (problemOf layout s) (fastest (problemOf layout s)) ≤ 2 ^ 49
       = omega (
         arith,
-        total-bound (taskNet Ordinary s) (hyperLimit * 1000000) (taskCount Ordinary s) (fastest (problem s))
-            (λ t l. task-net-small Ordinary s set t _ l (fast .above t l) (fast .below t l)),
+        total-bound (taskNet layout s) (hyperLimit * 1000000) (taskCount layout s) (fastest (problemOf layout s))
+            (λ t l. task-net-small layout s set t _ l (fast .above t l) (fast .below t l)),
         set .whole .tasks-range .1,
       ) in
       let few : a ≤ 49 = omega (arith, planned .used .tried, planned .used .is-first .smallest 49 most) in
       pow-le-pow-right {n = 2} (omega arith) few
 
-  pub margin-small : margin s (2 ^ a) < 2 ^ 54
-  margin-small =
-      let few : 2 ^ a - 1 ≤ 2 ^ 49 - 1 = omega (arith, unit-small) in
-      omega (arith, mul-le-mul (set .whole .tasks-range .1) few)
-
-  -- With a slack of at most 500 the margin is never above the slack's allowance.
-  pub margin-is-smaller : Covered Ordinary s → slack s ≤ 500 → margin s (2 ^ a) ≤ allowance s (reportedEnergy s P)
-  margin-is-smaller covered small =
-      let mine = planned .chosen .ok in
-      let more : planEnergy (problem s) P ≤ reportedEnergy s P
-      = omega (arith, reported-is s covered P (mine .plan) (mine .fits)) in
-      at-most-part (reportedEnergy s P) (margin s (2 ^ a)) (slack s)
-      (omega (
-        arith,
-        margin-in-slack (Fitting (problem s)) (problem s) (slack s) a small P planned,
-        mul-le-mul-right (slack s) more,
-      ))
+  pub list-in-bits : InBits (planning layout s)
+  list-in-bits = record {
+    few = set .whole .tasks-range .1;
+    units = unit-small;
+    energies = λ P f.
+        omega (arith, energy-small layout s set P (f .plan) (hyperPeriod layout s - planLoad (problemOf layout s) P) (omega arith));
+    limit = omega (arith, set .hyper-range .1);
+    hyper = omega (arith, set .hyper-range .1);
+  }

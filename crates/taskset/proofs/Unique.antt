@@ -11,13 +11,16 @@ use lib.ListN.{length, take, drop, take-append-drop}
 use lib.Seq.{take-at, drop-at}
 use Rattle.selection.specs.Plan.{Fitting}
 use Rattle.selection.proofs.Unique.{planned-unique}
-use Rattle.layout.specs.Words.{slack, taskCount}
+use Rattle.layout.specs.Words.{taskCount}
 use Rattle.layout.specs.declared.Layout.{Layout}
 use Rattle.layout.specs.declared.Layout.the-variants.{Ordinary}
-use Rattle.taskset.specs.Quantities.{problem, workNeeded}
+use Rattle.taskset.specs.Quantities.{problemOf, workNeeded}
 use Rattle.taskset.specs.Refusals.{number, second, IsShort, NoneOk, Check, Refuses, _▹_, wordChecks, idleCheck}
-use Rattle.taskset.specs.Refusals.{idleChecks, hyperCheck, manyCheck, workCheck, roomCheck, noneCheck, planCheck}
-use Rattle.taskset.specs.Refusals.{readyChecks, plannerChecks, dullReadyChecks, dullChecks, walkChecks}
+use Rattle.taskset.specs.Refusals.{idleChecks, hyperCheck, manyCheck, roomCheck, noneCheck, planCheck}
+use Rattle.taskset.specs.Refusals.{engineCheck, readyChecks, plannerChecks, walkChecks}
+use Rattle.taskset.specs.Planning.{Planning, planning, layoutOf, workOf}
+use Rattle.taskset.specs.declared.Engine.{Engine}
+use Rattle.taskset.specs.declared.Engine.the-variants.{Table, Exhaustive}
 use Rattle.taskset.specs.Calls.{CopyGives, CountsAfter, SetAfter, Selected}
 use Rattle.taskset.specs.Calls.{PlanGives, WorkAfter, PlannerGives, WalkAnswers}
 use Rattle.taskset.specs.declared.Refusal.{Refusal}
@@ -108,35 +111,27 @@ idle-single layout s = single-next (wordChecks layout s) (idleCheck layout s) (w
 pub covered-single : (layout : Layout) (s : List ℕ) → AllSingle (idleChecks layout s ▹ hyperCheck layout s)
 covered-single layout s = single-next (idleChecks layout s) (hyperCheck layout s) (idle-single layout s) (too-long-single layout s)
 
-pub ready-single : (s : List ℕ) (planLength workLength : ℕ) → AllSingle (readyChecks s planLength workLength)
-ready-single s pl wl =
-    single-next (set ▹ workCheck (workNeeded s) wl) (roomCheck (taskCount Ordinary s) pl)
-    (single-next set (workCheck (workNeeded s) wl) (covered-single Ordinary s) (short-single (workNeeded s) wl))
-    (short-single (taskCount Ordinary s) pl)
-  where
-    set : List Check
-    set = idleChecks Ordinary s ▹ hyperCheck Ordinary s
-
-pub planner-single : (s : List ℕ) (planLength workLength : ℕ) → AllSingle (plannerChecks s planLength workLength)
-planner-single s pl wl =
-    single-next (readyChecks s pl wl) (noneCheck (Fitting (problem s))) (ready-single s pl wl) (none-single (Fitting (problem s)))
-
 pub many-single : (layout : Layout) (s : List ℕ) → Single (manyCheck layout s)
 many-single layout s j k a b = a .0 ∙ sym (b .0)
 
-pub dull-ready-single : (s : List ℕ) (planLength : ℕ) → AllSingle (dullReadyChecks s planLength)
-dull-ready-single s pl =
-    single-next (set ▹ manyCheck Ordinary s) (roomCheck (taskCount Ordinary s) pl)
-    (single-next set (manyCheck Ordinary s) (covered-single Ordinary s) (many-single Ordinary s))
-    (short-single (taskCount Ordinary s) pl)
-  where
-    set : List Check
-    set = idleChecks Ordinary s ▹ hyperCheck Ordinary s
+pub engine-single : (e : Engine) (s : List ℕ) (workLength : ℕ) → Single (engineCheck e s workLength)
+engine-single (Table layout) s wl = short-single (workNeeded layout s) wl
+engine-single Exhaustive s wl = many-single Ordinary s
 
-pub dull-single : (s : List ℕ) (planLength : ℕ) → AllSingle (dullChecks s planLength)
-dull-single s pl =
-    single-next (dullReadyChecks s pl) (noneCheck (Fitting (problem s)))
-    (dull-ready-single s pl) (none-single (Fitting (problem s)))
+module _ (e : Engine) (s : List ℕ) (planLength workLength : ℕ) where
+  abbrev set : List Check
+  set = idleChecks (layoutOf e) s ▹ hyperCheck (layoutOf e) s
+
+  pub ready-single : AllSingle (readyChecks e s planLength workLength)
+  ready-single =
+      single-next (set ▹ engineCheck e s workLength) (roomCheck (taskCount (layoutOf e) s) planLength)
+      (single-next set (engineCheck e s workLength) (covered-single (layoutOf e) s) (engine-single e s workLength))
+      (short-single (taskCount (layoutOf e) s) planLength)
+
+  pub planner-single : AllSingle (plannerChecks e s planLength workLength)
+  planner-single =
+      single-next (readyChecks e s planLength workLength) (noneCheck (Fitting (problemOf (layoutOf e) s))) ready-single
+      (none-single (Fitting (problemOf (layoutOf e) s)))
 
 pub walk-single : (s P : List ℕ) → AllSingle (walkChecks s P)
 walk-single s P = single-next (wordChecks Ordinary s ▹ hyperCheck Ordinary s) (planCheck Ordinary s P) (set-single Ordinary s) lowest-single
@@ -166,72 +161,57 @@ copy-unique cs single ws d d₁ d₂ (NotCopied q) (NotCopied r) x y = record {
   list = x .1 ∙ sym (y .1);
 }
 
--- ---- the planner
-pub record SameGiven (a b : PlannerAnswer) (plan₁ work₁ plan₂ work₂ : List ℕ) : Type 0 where
-  pub answer : a ≡ b
-  pub plan : plan₁ ≡ plan₂
-  pub work : work₁ ≡ work₂
-
-pub selected-unique : (s P Q v w : List ℕ) → Selected s P v → Selected s Q w → (P ≡ Q) × (v ≡ w)
-selected-unique s P Q v w x y =
-    let same = planned-unique (Fitting (problem s)) (problem s) (λ R f. f .plan .size) (slack s) (x .exponent) (y .exponent) P Q (x .planned) (y .planned) in
+-- ---- a call that plans, where m is what is planned
+pub selected-unique : (m : Planning) (P Q v w : List ℕ) → Selected m P v → Selected m Q w → (P ≡ Q) × (v ≡ w)
+selected-unique m P Q v w x y =
+    let same =
+    planned-unique (Fitting (m .problem)) (m .problem) (λ R f. f .plan .size) (m .slack) (x .exponent) (y .exponent) P Q
+    (x .planned) (y .planned) in
     (same .1, x .values-are ∙ cc (same .0, same .1) ∙ sym (y .values-are))
 
 -- A plan is one, whatever the checks.
-pub planned-one : (cs ds : List Check) (s plan plan₁ plan₂ : List ℕ) (u l h e u′ l′ h′ e′ : ℕ)
-    → PlanGives cs s plan plan₁ (Planned u l h e) → PlanGives ds s plan plan₂ (Planned u′ l′ h′ e′)
+pub planned-one : (cs ds : List Check) (m : Planning) (plan plan₁ plan₂ : List ℕ) (u l h e u′ l′ h′ e′ : ℕ)
+    → PlanGives cs m plan plan₁ (Planned u l h e) → PlanGives ds m plan plan₂ (Planned u′ l′ h′ e′)
     → (Planned u l h e ≡ Planned u′ l′ h′ e′) × (plan₁ ≡ plan₂)
-planned-one cs ds s plan p₁ p₂ u l h e u′ l′ h′ e′ x y =
-    let n : ℕ = taskCount Ordinary s in
-    let same = selected-unique s (x .1 .0) (y .1 .0) _ _ (x .1 .1) (y .1 .1) in
+planned-one cs ds m plan p₁ p₂ u l h e u′ l′ h′ e′ x y =
+    let n : ℕ = m .problem .count in
+    let same = selected-unique m (x .1 .0) (y .1 .0) _ _ (x .1 .1) (y .1 .1) in
     let values = same .1 in
     let f = x .1 .2 in
     let g = y .1 .2 in
     (cc, sym (take-append-drop n p₁) ∙ cc (f .front, g .front, same .0, f .rest, g .rest) ∙ take-append-drop n p₂)
 
--- And so is the answer of a call that plans, after checks that each hold with one second number at most.
-module _ (cs : List Check) (single : AllSingle cs) (s plan : List ℕ) where
+-- And so is the answer, after checks that each hold with one second number at most.
+module _ (cs : List Check) (single : AllSingle cs) (m : Planning) (plan : List ℕ) where
   pub plan-unique : (plan₁ plan₂ : List ℕ) (a b : PlannerAnswer)
-      → PlanGives cs s plan plan₁ a → PlanGives cs s plan plan₂ b → (a ≡ b) × (plan₁ ≡ plan₂)
-  plan-unique p₁ p₂ (Planned u l h e) (Planned u′ l′ h′ e′) x y = planned-one cs cs s plan p₁ p₂ u l h e u′ l′ h′ e′ x y
+      → PlanGives cs m plan plan₁ a → PlanGives cs m plan plan₂ b → (a ≡ b) × (plan₁ ≡ plan₂)
+  plan-unique p₁ p₂ (Planned u l h e) (Planned u′ l′ h′ e′) x y = planned-one cs cs m plan p₁ p₂ u l h e u′ l′ h′ e′ x y
   plan-unique p₁ p₂ (Planned u l h e) (NotPlanned r) x y = absurd (not-both cs (number r) (second r) (x .0) (y .0))
   plan-unique p₁ p₂ (NotPlanned r) (Planned u l h e) x y = absurd (not-both cs (number r) (second r) (y .0) (x .0))
   plan-unique p₁ p₂ (NotPlanned q) (NotPlanned r) x y =
       (ap NotPlanned (refusal-unique cs single q r (x .0) (y .0)), x .1 ∙ sym (y .1))
 
-work-unique : (s work work₁ work₂ : List ℕ) (a : PlannerAnswer)
-    → WorkAfter s work work₁ a → WorkAfter s work work₂ a → work₁ ≡ work₂
-work-unique s work w₁ w₂ (Planned u l h e) x y = x ∙ sym y
-work-unique s work w₁ w₂ (NotPlanned r) x y = x ∙ sym y
-
-pub planner-unique : (s plan work plan₁ work₁ plan₂ work₂ : List ℕ) (a b : PlannerAnswer)
-    → PlannerGives s plan work plan₁ work₁ a → PlannerGives s plan work plan₂ work₂ b
-    → SameGiven a b plan₁ work₁ plan₂ work₂
-planner-unique s plan work p₁ w₁ p₂ w₂ a b x y =
-    let checks = plannerChecks s (length plan) (length work) in
-    let same = plan-unique checks (planner-single s (length plan) (length work)) s plan p₁ p₂ a b (x .0) (y .0) in
-    record {
-      answer = same .0;
-      plan = same .1;
-      work = work-unique s work w₁ w₂ a (x .1) (subst (WorkAfter s work w₂) (sym (same .0)) (y .1));
-    }
+work-unique : (w : ℕ) (work work₁ work₂ : List ℕ) (a : PlannerAnswer)
+    → WorkAfter w work work₁ a → WorkAfter w work work₂ a → work₁ ≡ work₂
+work-unique w work w₁ w₂ (Planned u l h e) x y = x ∙ sym y
+work-unique w work w₁ w₂ (NotPlanned r) x y = x ∙ sym y
 
 -- The plan that an answer gives, in the plan list given back: its first N words; with a refusal, none.
-abbrev pub planGiven : List ℕ → List ℕ → PlannerAnswer → List ℕ
-planGiven s plan′ (Planned unit load hyper energy) = take (taskCount Ordinary s) plan′
-planGiven s plan′ (NotPlanned r) = []
+abbrev pub planGiven : Planning → List ℕ → PlannerAnswer → List ℕ
+planGiven m plan′ (Planned unit load hyper energy) = take (m .problem .count) plan′
+planGiven m plan′ (NotPlanned r) = []
 
 -- What is given for a plan list is given for any other, if only the checks are the same: with the same plan, and the
 -- rest as it was.
-record GivenFor (cs : List Check) (s plan P : List ℕ) (a : PlannerAnswer) : Type 0 where
+record GivenFor (cs : List Check) (m : Planning) (plan P : List ℕ) (a : PlannerAnswer) : Type 0 where
   pub plan′ : List ℕ
-  pub gives : PlanGives cs s plan plan′ a
-  pub same : planGiven s plan′ a ≡ P
+  pub gives : PlanGives cs m plan plan′ a
+  pub same : planGiven m plan′ a ≡ P
 
-given-for : (cs : List Check) (s plan plan′ : List ℕ) (a : PlannerAnswer) → PlanGives cs s plan plan′ a
-    → (plan₂ : List ℕ) → GivenFor cs s plan₂ (planGiven s plan′ a) a
-given-for cs s plan plan′ (Planned unit load hyper energy) g plan₂ =
-    let n : ℕ = taskCount Ordinary s in
+given-for : (cs : List Check) (m : Planning) (plan plan′ : List ℕ) (a : PlannerAnswer) → PlanGives cs m plan plan′ a
+    → (plan₂ : List ℕ) → GivenFor cs m plan₂ (planGiven m plan′ a) a
+given-for cs m plan plan′ (Planned unit load hyper energy) g plan₂ =
+    let n : ℕ = m .problem .count in
     let P : List ℕ = g .1 .0 in
     let size : length P ≡ n = g .1 .1 .planned .chosen .ok .plan .size in
     let front = take-at P (drop n plan₂) n size in
@@ -240,26 +220,47 @@ given-for cs s plan plan′ (Planned unit load hyper energy) g plan₂ =
       gives = (g .0, (P, g .1 .1, record { front = front; rest = drop-at P (drop n plan₂) n size }));
       same = front ∙ sym (g .1 .2 .front);
     }
-given-for cs s plan plan′ (NotPlanned r) g plan₂ = record { plan′ = plan₂; gives = (g .0, refl); same = refl }
+given-for cs m plan plan′ (NotPlanned r) g plan₂ = record { plan′ = plan₂; gives = (g .0, refl); same = refl }
 
--- So the answer and the plan are known by the list and by what the checks look at besides: the lengths.
-pub record SamePlan (s : List ℕ) (a b : PlannerAnswer) (plan₁ plan₂ : List ℕ) : Type 0 where
+-- So the answer and the plan are known by what is planned and by what the checks look at.
+pub record SamePlan (m : Planning) (a b : PlannerAnswer) (plan₁ plan₂ : List ℕ) : Type 0 where
   pub answer : a ≡ b
-  pub plan : planGiven s plan₁ a ≡ planGiven s plan₂ b
+  pub plan : planGiven m plan₁ a ≡ planGiven m plan₂ b
 
-pub plan-by-checks : (cs : List Check) → AllSingle cs → (s plan₁ plan₁′ plan₂ plan₂′ : List ℕ) (a b : PlannerAnswer)
-    → PlanGives cs s plan₁ plan₁′ a → PlanGives cs s plan₂ plan₂′ b → SamePlan s a b plan₁′ plan₂′
-plan-by-checks cs single s plan₁ p₁ plan₂ p₂ a b x y =
-    let z = given-for cs s plan₁ p₁ a x plan₂ in
-    let one = plan-unique cs single s plan₂ (z .plan′) p₂ a b (z .gives) y in
+pub plan-by-checks : (cs : List Check) → AllSingle cs → (m : Planning) (plan₁ plan₁′ plan₂ plan₂′ : List ℕ) (a b : PlannerAnswer)
+    → PlanGives cs m plan₁ plan₁′ a → PlanGives cs m plan₂ plan₂′ b → SamePlan m a b plan₁′ plan₂′
+plan-by-checks cs single m plan₁ p₁ plan₂ p₂ a b x y =
+    let z = given-for cs m plan₁ p₁ a x plan₂ in
+    let one = plan-unique cs single m plan₂ (z .plan′) p₂ a b (z .gives) y in
     record { answer = one .0; plan = cc (one .1) }
 
-pub planner-by-lengths : (s plan₁ work₁ plan₁′ work₁′ plan₂ work₂ plan₂′ work₂′ : List ℕ) (a b : PlannerAnswer)
+-- ---- the planner, and the dull engine
+pub record SameGiven (a b : PlannerAnswer) (plan₁ work₁ plan₂ work₂ : List ℕ) : Type 0 where
+  pub answer : a ≡ b
+  pub plan : plan₁ ≡ plan₂
+  pub work : work₁ ≡ work₂
+
+pub planner-unique : (e : Engine) (s plan work plan₁ work₁ plan₂ work₂ : List ℕ) (a b : PlannerAnswer)
+    → PlannerGives e s plan work plan₁ work₁ a → PlannerGives e s plan work plan₂ work₂ b
+    → SameGiven a b plan₁ work₁ plan₂ work₂
+planner-unique e s plan work p₁ w₁ p₂ w₂ a b x y =
+    let checks = plannerChecks e s (length plan) (length work) in
+    let single = planner-single e s (length plan) (length work) in
+    let same = plan-unique checks single (planning (layoutOf e) s) plan p₁ p₂ a b (x .0) (y .0) in
+    record {
+      answer = same .0;
+      plan = same .1;
+      work = work-unique (workOf e s) work w₁ w₂ a (x .1) (subst (WorkAfter (workOf e s) work w₂) (sym (same .0)) (y .1));
+    }
+
+-- Of the lists lent besides, only the lengths count.
+pub planner-by-lengths : (e : Engine) (s plan₁ work₁ plan₁′ work₁′ plan₂ work₂ plan₂′ work₂′ : List ℕ) (a b : PlannerAnswer)
     → length plan₁ ≡ length plan₂ → length work₁ ≡ length work₂
-    → PlannerGives s plan₁ work₁ plan₁′ work₁′ a → PlannerGives s plan₂ work₂ plan₂′ work₂′ b → SamePlan s a b plan₁′ plan₂′
-planner-by-lengths s plan₁ work₁ p₁ w₁ plan₂ work₂ p₂ w₂ a b e f x y =
-    plan-by-checks (plannerChecks s (length plan₂) (length work₂)) (planner-single s (length plan₂) (length work₂))
-    s plan₁ p₁ plan₂ p₂ a b (rw (e, f) at (x .0)) (y .0)
+    → PlannerGives e s plan₁ work₁ plan₁′ work₁′ a → PlannerGives e s plan₂ work₂ plan₂′ work₂′ b
+    → SamePlan (planning (layoutOf e) s) a b plan₁′ plan₂′
+planner-by-lengths e s plan₁ work₁ p₁ w₁ plan₂ work₂ p₂ w₂ a b f g x y =
+    plan-by-checks (plannerChecks e s (length plan₂) (length work₂)) (planner-single e s (length plan₂) (length work₂))
+    (planning (layoutOf e) s) plan₁ p₁ plan₂ p₂ a b (rw (f, g) at (x .0)) (y .0)
 
 -- ---- the walk
 pub walk-unique : (s P : List ℕ) (a b : WalkAnswer) → WalkAnswers s P a → WalkAnswers s P b → a ≡ b

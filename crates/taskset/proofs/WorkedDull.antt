@@ -10,7 +10,8 @@ use lib.ListN.{length, replicate, length-replicate}
 use Rattle.layout.specs.Words.{headKinds, rateCount, taskCount}
 use Rattle.layout.specs.declared.Layout.the-variants.{Ordinary}
 use Rattle.taskset.specs.Refusals.{mostPlans}
-use Rattle.taskset.specs.Calls.{PlannerGives, DullGives}
+use Rattle.taskset.specs.Calls.{PlannerGives}
+use Rattle.taskset.specs.declared.Engine.the-variants.{Table, Exhaustive}
 use Rattle.taskset.specs.declared.Refusal.the-variants.{NoPlan}
 use Rattle.taskset.specs.declared.PlannerAnswer.{PlannerAnswer}
 use Rattle.taskset.specs.declared.PlannerAnswer.the-variants.{Planned, Refused as NotPlanned}
@@ -20,14 +21,15 @@ use Rattle.taskset.proofs.TwoEngines.{refusedWith, as-dull}
 
 -- An answer of the planner's that is not 5, with w working words lent, of a set of few plans.
 by-planner : (s plan plan′ work′ : List ℕ) (w : ℕ) (a : PlannerAnswer) → (refusedWith a ≡ 5 → ⊥)
-    → rateCount Ordinary s ^ taskCount Ordinary s ≤ mostPlans → PlannerGives s plan (replicate w 0) plan′ work′ a → DullGives s plan plan′ a
-by-planner s plan plan′ work′ w a not-5 small g = as-dull s plan (replicate w 0) plan′ work′ a g not-5 (few s small)
+    → rateCount Ordinary s ^ taskCount Ordinary s ≤ mostPlans → PlannerGives (Table Ordinary) s plan (replicate w 0) plan′ work′ a
+    → PlannerGives Exhaustive s plan [] plan′ [] a
+by-planner s plan plan′ work′ w a not-5 small g = as-dull s plan (replicate w 0) plan′ work′ a g not-5 (few s small) []
 
 pub record WorkedDull : Type 0 where
-  dull-100 : (plan : List ℕ) → length plan ≡ 2 → DullGives (S 100) plan (2 ∷ 1 ∷ []) (Planned 1 29 30 41)
-  dull-1000 : (plan : List ℕ) → length plan ≡ 2 → DullGives (S 1000) plan (1 ∷ 2 ∷ []) (Planned 8 28 30 42)
-  dull-tie : (plan : List ℕ) → length plan ≡ 2 → DullGives even-tasks plan (2 ∷ 1 ∷ []) (Planned 1 4 4 6)
-  dull-61 : (plan : List ℕ) → 1 ≤ length plan → DullGives (one-task 61) plan plan (NotPlanned NoPlan)
+  dull-100 : (plan : List ℕ) → length plan ≡ 2 → PlannerGives Exhaustive (S 100) plan [] (2 ∷ 1 ∷ []) [] (Planned 1 29 30 41)
+  dull-1000 : (plan : List ℕ) → length plan ≡ 2 → PlannerGives Exhaustive (S 1000) plan [] (1 ∷ 2 ∷ []) [] (Planned 8 28 30 42)
+  dull-tie : (plan : List ℕ) → length plan ≡ 2 → PlannerGives Exhaustive even-tasks plan [] (2 ∷ 1 ∷ []) [] (Planned 1 4 4 6)
+  dull-61 : (plan : List ℕ) → 1 ≤ length plan → PlannerGives Exhaustive (one-task 61) plan [] plan [] (NotPlanned NoPlan)
 
 pub worked-dull : WorkedDull
 unfolding S one-task even-tasks headKinds IsLe

@@ -5,12 +5,14 @@ use mathlib.Core.List.{List, [], _∷_, _++_}
 use lib.ListN.{length, getD, take, drop, replicate}
 use Rattle.schedule.specs.Counted.{Outcome, missed, kept, walk}
 use Rattle.selection.specs.Plan.{planLoad, IsPlanned}
-use Rattle.layout.specs.Words.{word, slack, rateCount, taskCount, kindAt}
+use Rattle.layout.specs.Words.{word, rateCount, taskCount, kindAt}
 use Rattle.layout.specs.declared.Kind.the-variants.{First}
 use Rattle.layout.specs.declared.Layout.{Layout}
 use Rattle.layout.specs.declared.Layout.the-variants.{Ordinary}
-use Rattle.taskset.specs.Quantities.{hyperPeriod, problem, walkTasks, lastTick, reportedEnergy, workNeeded}
-use Rattle.taskset.specs.Refusals.{number, second, Check, Accepts, Refuses, plannerChecks, dullChecks, walkChecks}
+use Rattle.taskset.specs.Quantities.{hyperPeriod, walkTasks, lastTick}
+use Rattle.taskset.specs.Planning.{Planning, planning, layoutOf, workOf}
+use Rattle.taskset.specs.Refusals.{number, second, Check, Accepts, Refuses, plannerChecks, walkChecks}
+use Rattle.taskset.specs.declared.Engine.{Engine}
 use Rattle.taskset.specs.declared.Refusal.{Refusal}
 use Rattle.taskset.specs.declared.Shape.{Shape}
 use Rattle.taskset.specs.declared.Shape.the-variants.{Whole, Refused as NotWhole}
@@ -65,12 +67,12 @@ SetAfter cs layout s (Good rates tasks hyper) =
     Accepts cs × (rates ≡ rateCount layout s) × (tasks ≡ taskCount layout s) × (hyper ≡ hyperPeriod layout s)
 SetAfter cs layout s (NotGood r) = Refuses cs (number r) (second r)
 
--- THE PLANNER. "The call returns unit, load, L and energy": P is the plan that document 01 selects, the values are its
--- own.
-pub record Selected (s P values : List ℕ) : Type 0 where
+-- A CALL THAT PLANS, where m is what is planned. "The call returns unit, load, L and energy": P is the plan that document
+-- 01 selects, the values are its own.
+pub record Selected (m : Planning) (P values : List ℕ) : Type 0 where
   pub exponent : ℕ
-  pub planned : IsPlanned (problem s) (slack s) exponent P
-  pub values-are : values ≡ 2 ^ exponent ∷ planLoad (problem s) P ∷ hyperPeriod Ordinary s ∷ reportedEnergy s P ∷ []
+  pub planned : IsPlanned (m .problem) (m .slack) exponent P
+  pub values-are : values ≡ 2 ^ exponent ∷ planLoad (m .problem) P ∷ m .hyper ∷ m .energy P ∷ []
 
 -- "On success the first N words of the plan list hold the plan, .. and every other word stays." plan is the list as
 -- lent, plan′ as given back: P stands in the first n words.
@@ -85,43 +87,40 @@ pub record RateNumber (m w : ℕ) : Type 0 where
   pub to-m : w ≤ m
   pub place : w - 1 < m
 
-abbrev pub RateNumbers : List ℕ → List ℕ → PlannerAnswer → Type 0
-RateNumbers s plan′ (Planned unit load hyper energy) =
-    (t : ℕ) → t < taskCount Ordinary s → RateNumber (rateCount Ordinary s) (getD plan′ t 0)
-RateNumbers s plan′ (NotPlanned r) = Unit {0}
+abbrev pub RateNumbers : Planning → List ℕ → PlannerAnswer → Type 0
+RateNumbers m plan′ (Planned unit load hyper energy) =
+    (t : ℕ) → t < m .problem .count → RateNumber (m .problem .rates) (getD plan′ t 0)
+RateNumbers m plan′ (NotPlanned r) = Unit {0}
 
--- What a call gives that plans a set, with its checks cs: a refusal, the first that holds, leaves the plan list as it
--- was.
-abbrev pub PlanGives : List Check → (s plan plan′ : List ℕ) → PlannerAnswer → Type 0
-PlanGives cs s plan plan′ (Planned unit load hyper energy) =
+-- What it gives, with its checks cs: a refusal, the first that holds, leaves the plan list as it was.
+abbrev pub PlanGives : List Check → Planning → (plan plan′ : List ℕ) → PlannerAnswer → Type 0
+PlanGives cs m plan plan′ (Planned unit load hyper energy) =
     Accepts cs ×
-    ((P : List ℕ) × Selected s P (plannerValues (Planned unit load hyper energy)) ×
-    HoldsPlan (taskCount Ordinary s) P plan plan′)
-PlanGives cs s plan plan′ (NotPlanned r) = Refuses cs (number r) (second r) × (plan′ ≡ plan)
+    ((P : List ℕ) × Selected m P (plannerValues (Planned unit load hyper energy)) ×
+    HoldsPlan (m .problem .count) P plan plan′)
+PlanGives cs m plan plan′ (NotPlanned r) = Refuses cs (number r) (second r) × (plan′ ≡ plan)
 
 -- "the first W working words hold 0, and every other word stays": w of the list work, which is work′ then.
 abbrev pub Cleared : ℕ → List ℕ → List ℕ → Type 0
 Cleared w work work′ = work′ ≡ replicate w 0 ++ drop w work
 
 -- On refusal 'all' is "As before the call".
-abbrev pub WorkAfter : (s work work′ : List ℕ) → PlannerAnswer → Type 0
-WorkAfter s work work′ (Planned unit load hyper energy) = Cleared (workNeeded s) work work′
-WorkAfter s work work′ (NotPlanned r) = work′ ≡ work
+abbrev pub WorkAfter : ℕ → (work work′ : List ℕ) → PlannerAnswer → Type 0
+WorkAfter w work work′ (Planned unit load hyper energy) = Cleared w work work′
+WorkAfter w work work′ (NotPlanned r) = work′ ≡ work
 
-abbrev pub PlannerGives : (s plan work plan′ work′ : List ℕ) → PlannerAnswer → Type 0
-PlannerGives s plan work plan′ work′ a =
-    PlanGives (plannerChecks s (length plan) (length work)) s plan plan′ a × WorkAfter s work work′ a
-
--- THE DULL ENGINE (document 02, note 7). It "applies document 01's choice directly at each unit. It needs no working
--- words." That its answer is the planner's "where both succeed" is a theorem (proofs/TwoEngines.antt).
-abbrev pub DullGives : (s plan plan′ : List ℕ) → PlannerAnswer → Type 0
-DullGives s plan plan′ = PlanGives (dullChecks s (length plan)) s plan plan′
+-- THE PLANNER, AND THE DULL ENGINE (document 02, note 7), which "applies document 01's choice directly at each unit. It
+-- needs no working words." That its answer is the planner's "where both succeed" is a theorem (proofs/TwoEngines.antt).
+abbrev pub PlannerGives : Engine → (s plan work plan′ work′ : List ℕ) → PlannerAnswer → Type 0
+PlannerGives e s plan work plan′ work′ a =
+    PlanGives (plannerChecks e s (length plan) (length work)) (planning (layoutOf e) s) plan plan′ a ×
+    WorkAfter (workOf e s) work work′ a
 
 -- "The planner still answers for a common release" (document 02, note 6): it looks at no first release. Two lists that
 -- differ in first releases alone have the same length, and the same word wherever that is not a first release.
-pub record DifferInFirsts (s s′ : List ℕ) : Type 0 where
+pub record DifferInFirsts (layout : Layout) (s s′ : List ℕ) : Type 0 where
   pub size : length s ≡ length s′
-  pub same : (q : ℕ) → (kindAt Ordinary s q ≡ First → ⊥) → word s q ≡ word s′ q
+  pub same : (q : ℕ) → (kindAt layout s q ≡ First → ⊥) → word s q ≡ word s′ q
 
 -- THE WALK. "The walk takes a set and a plan and goes tick by tick from 0 to L", or with first releases "to 2 × L".
 abbrev pub outcomeValues : Outcome → List ℕ

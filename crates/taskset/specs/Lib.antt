@@ -1,4 +1,5 @@
 pub mod Quantities
+pub mod Planning
 pub mod Refusals
 pub mod Calls
 pub mod DemandThree

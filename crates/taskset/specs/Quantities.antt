@@ -10,7 +10,6 @@ use Rattle.schedule.specs.Walk.{Task, periodic, offset, tasksFrom}
 use Rattle.selection.specs.Plan.{Problem, planLoad, workWords}
 use Rattle.layout.specs.Words.{slack, idle, rateCount, taskCount, rate, period, cycles, first, energy}
 use Rattle.layout.specs.declared.Layout.{Layout}
-use Rattle.layout.specs.declared.Layout.the-variants.{Ordinary}
 
 -- "Hyper-period L: .. at most 10,000,000."
 abbrev pub hyperLimit : ℕ
@@ -75,18 +74,15 @@ module _ (layout : Layout) (s : List ℕ) where
   abbrev pub lastTick : ℕ
   lastTick = cond (allZero (first layout s) (taskCount layout s)) hyperPeriod (2 * hyperPeriod)
 
--- The same of document 01's own list.
-abbrev pub problem : List ℕ → Problem
-problem = problemOf Ordinary
+  -- "the plan's task energies": the sum of them, as document 01 has a plan's energy.
+  abbrev pub jobsEnergy : List ℕ → ℕ
+  jobsEnergy P = total taskEnergy (taskCount layout s) P
 
--- "the plan's task energies": the sum of them, as document 01 has a plan's energy.
-abbrev pub jobsEnergy : List ℕ → List ℕ → ℕ
-jobsEnergy s P = total (taskEnergy Ordinary s) (taskCount Ordinary s) P
+  -- The energy of a plan that a call returns and demand 3 compares: "The reported energy is the plan's task energies plus
+  -- H × (L - load), and the 1000 + slack comparison is made between such totals."
+  abbrev pub reportedEnergy : List ℕ → ℕ
+  reportedEnergy P = jobsEnergy P + idle s * (hyperPeriod - planLoad problemOf P)
 
--- The energy of a plan that a call returns and demand 3 compares: "The reported energy is the plan's task energies plus
--- H × (L - load), and the 1000 + slack comparison is made between such totals."
-abbrev pub reportedEnergy : List ℕ → List ℕ → ℕ
-reportedEnergy s P = jobsEnergy s P + idle s * (hyperPeriod Ordinary s - planLoad (problem s) P)
-
-abbrev pub workNeeded : List ℕ → ℕ
-workNeeded s = workWords (taskCount Ordinary s) (slack s)
+  -- "Working words needed: W"
+  abbrev pub workNeeded : ℕ
+  workNeeded = workWords (taskCount layout s) (slack s)

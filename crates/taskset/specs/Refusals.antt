@@ -11,7 +11,10 @@ use Rattle.selection.specs.Plan.{Fitting}
 use Rattle.layout.specs.Words.{word, idle, rateCount, taskCount, ratePlace, periodPlace, energyPlace, period, energy, WordFault}
 use Rattle.layout.specs.declared.Layout.{Layout}
 use Rattle.layout.specs.declared.Layout.the-variants.{Ordinary}
-use Rattle.taskset.specs.Quantities.{hyperLimit, jobTime, problem, workNeeded}
+use Rattle.taskset.specs.Quantities.{hyperLimit, jobTime, problemOf, workNeeded}
+use Rattle.taskset.specs.Planning.{layoutOf}
+use Rattle.taskset.specs.declared.Engine.{Engine}
+use Rattle.taskset.specs.declared.Engine.the-variants.{Table, Exhaustive}
 use Rattle.taskset.specs.declared.Refusal.{Refusal}
 use Rattle.taskset.specs.declared.Refusal.the-variants.{TextDeparts, BadWord, NotAbove, TooLong, WorkShort}
 use Rattle.taskset.specs.declared.Refusal.the-variants.{TooShort, NoPlan, BadPlan}
@@ -172,21 +175,22 @@ wordChecks layout s = wordCheck layout s ∷ rateCheck layout s ∷ []
 abbrev pub idleChecks : Layout → List ℕ → List Check
 idleChecks layout s = wordChecks layout s ▹ idleCheck layout s
 
--- "Planner: 2, 3, 4, 5, 6, 7", and 10 after 3. The lengths are those of the plan list and the working list.
-abbrev pub readyChecks : List ℕ → ℕ → ℕ → List Check
-readyChecks s planLength workLength =
-    idleChecks Ordinary s ▹ hyperCheck Ordinary s ▹ workCheck (workNeeded s) workLength ▹ roomCheck (taskCount Ordinary s) planLength
+-- What an engine asks between 4 and 6: the planner's 5; and of the dull engine, whose "refusals are the planner's without
+-- 5", "11, .. after 4" (document 02, note 7). The length is that of the working list.
+abbrev pub engineCheck : Engine → List ℕ → ℕ → Check
+engineCheck (Table layout) s workLength = workCheck (workNeeded layout s) workLength
+engineCheck Exhaustive s workLength = manyCheck Ordinary s
 
-abbrev pub plannerChecks : List ℕ → ℕ → ℕ → List Check
-plannerChecks s planLength workLength = readyChecks s planLength workLength ▹ noneCheck (Fitting (problem s))
+-- "Planner: 2, 3, 4, 5, 6, 7", and 10 after 3; the dull engine alike. The lengths are those of the plan list and the
+-- working list.
+abbrev pub readyChecks : Engine → List ℕ → ℕ → ℕ → List Check
+readyChecks e s planLength workLength =
+    idleChecks (layoutOf e) s ▹ hyperCheck (layoutOf e) s ▹ engineCheck e s workLength ▹
+    roomCheck (taskCount (layoutOf e) s) planLength
 
--- The dull engine: "Its refusals are the planner's without 5 .. Errors: 11, .. after 4" (document 02, note 7).
-abbrev pub dullReadyChecks : List ℕ → ℕ → List Check
-dullReadyChecks s planLength =
-    idleChecks Ordinary s ▹ hyperCheck Ordinary s ▹ manyCheck Ordinary s ▹ roomCheck (taskCount Ordinary s) planLength
-
-abbrev pub dullChecks : List ℕ → ℕ → List Check
-dullChecks s planLength = dullReadyChecks s planLength ▹ noneCheck (Fitting (problem s))
+abbrev pub plannerChecks : Engine → List ℕ → ℕ → ℕ → List Check
+plannerChecks e s planLength workLength =
+    readyChecks e s planLength workLength ▹ noneCheck (Fitting (problemOf (layoutOf e) s))
 
 -- "Walk: 2, 3, 4, 8."
 abbrev pub walkChecks : List ℕ → List ℕ → List Check

@@ -2,6 +2,15 @@
 // 01 says of each, proofs/ has the theory. What stands where in a set's list is left to the crate layout, all code, the
 // checks among it, to the crates above.
 
+use layout::Layout;
+
+// What a call that plans goes by: the table of least loads, for a list of a layout; or all plans, one by one, for the
+// ordinary list (document 02, note 7).
+pub enum Engine {
+    Table(Layout),
+    Exhaustive,
+}
+
 // Why a call declines: a case for each row of document 01's table, numbers 1 to 8 in this order, and then for those of
 // document 02's notes, with what is returned beside the number.
 pub enum Refusal {
@@ -45,7 +54,7 @@ pub enum Checked {
     Refused(Refusal),
 }
 
-// What the planner answers.
+// What a call that plans answers.
 pub enum PlannerAnswer {
     Planned {
         unit: u64,

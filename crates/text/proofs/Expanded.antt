@@ -29,7 +29,7 @@ use Rattle.chips.proofs.Tables.{count-range, rates-length, rate-range, rates-ri
 use Rattle.taskset.specs.Refusals.{Passes, Accepts, wordChecks, idleCheck}
 use Rattle.taskset.specs.Sets.{Covered}
 use Rattle.taskset.proofs.Idle.{covered-passes}
-use Rattle.taskset.proofs.Sets.{words-pass}
+use Rattle.taskset.proofs.Sets.{job-time-at, words-pass}
 use Rattle.text.specs.Text.{TaskLine, chip, Script, energyCount, TaskLineOk, ScriptOk, IsTextOf}
 use Rattle.text.specs.Text.{idleOf, headWords, firstOf, extraWords, taskWords, words}
 use Rattle.text.specs.Calls.{HasOver, overCheck}
@@ -292,7 +292,7 @@ module _ (c : Chip) (g : ℕ) (ts : List TaskLine) (ok : ScriptOk (chipScript c 
   own-covered t r h a b =
       let task : t < length ts = omega (arith, tasks-is c g none ts ok) in
       let few : r ≤ length (chipRates c) = omega (arith, rates-is c g none ts ok) in
-      rw (idle-is, cycles-is c g none ts ok t task, rate-is c g none ts ok r a few, energy-is c g none ts ok t task r a few)
+      rw (job-time-at Ordinary own t r a, idle-is, cycles-is c g none ts ok t task, rate-is c g none ts ok r a few, energy-is c g none ts ok t task r a few)
       (energy-above-idle c (line c g none ts ok t .cycles) r a (omega (arith, rates-length c)))
 
   pub own-passes : Passes (idleCheck Ordinary own)

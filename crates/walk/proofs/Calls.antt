@@ -13,7 +13,7 @@ use Rattle.schedule.proofs.ByPlace.{same-tasks}
 use Rattle.selection.specs.Plan.{IsPlan}
 use Rattle.layout.specs.Words.{mostRates, word, rateCount, taskCount, taskSize, periodPlace, period, first}
 use Rattle.layout.specs.declared.Layout.the-variants.{Ordinary}
-use Rattle.taskset.specs.Quantities.{hyperLimit, allZero, jobTime, problem, walkTasks, lastTick}
+use Rattle.taskset.specs.Quantities.{hyperLimit, allZero, jobTime, problemOf, walkTasks, lastTick}
 use Rattle.taskset.specs.Refusals.{number, second, IsBadPlan, Check, _▹_, wordChecks, hyperCheck, planCheck, walkChecks}
 use Rattle.taskset.specs.Calls.{SetAfter, outcomeValues, walkOf, WalkAnswers}
 use Rattle.taskset.specs.declared.Refusal.{Refusal}
@@ -68,7 +68,7 @@ module _ (s P : List ℕ) (m n l : ℕ) (ready : SetAfter (walkChecks s P) Ordin
   pub hyper-fits : l ≤ hyperLimit
   hyper-fits = omega (arith, ready .3, set .hyper-range .1)
 
-  plan : IsPlan (problem s) P
+  plan : IsPlan (problemOf Ordinary s) P
   plan = plan-of s P (passed 8 (walkChecks s P) refl (ready .0))
 
   pub sound-plan : SoundPlan m n P

@@ -18,6 +18,7 @@ use Rattle.answer.specs.Steps.{PlannedSet}
 use Rattle.answer.proofs.Outputs.{tasks-few}
 use Rattle.answer.proofs.Calls.{set-refused, ready-refused, more-room, call-refused, call-planned}
 use Rattle.taskset.specs.Refusals.{number, second}
+use Rattle.taskset.specs.declared.Engine.the-variants.{Table}
 use Rattle.lines.proofs.Lengths.{refused-short}
 use borrow.Author.Needs.{needs}
 use Rattle.answer.proofs.answer_set.Statement.{statement}
@@ -38,17 +39,17 @@ planned-set p = set-of (checked p .before .before)
 
 -- What the checks before 7 gave.
 ready : (c : tie.After-rates) → let s = set-of (c .before .before) in
-    SetAfter (readyChecks s planLent workLent) Ordinary s
+    SetAfter (readyChecks (Table Ordinary) s planLent workLent) Ordinary s
     (Good (c .rates .given .0 .0) (c .rates .given .0 .1 .0) (c .rates .given .0 .1 .1 .0))
 ready c =
     let x = c .before .before in
     more-room (set-of x) _ _ planLent workLent _ _ _ (omega arith) (omega arith)
-    (subst (SetAfter (readyChecks (set-of x) _ _) Ordinary (set-of x)) (c .rates .given .1) (x .ready .ensures))
+    (subst (SetAfter (readyChecks (Table Ordinary) (set-of x) _ _) Ordinary (set-of x)) (c .rates .given .1) (x .ready .ensures))
 
 -- What the planner gave.
 abbrev Call : tie.After-plan-checked → PlannerAnswer → Type 0
 Call p =
-    PlannerCall (planned-set p) (replicate planLent 0) (replicate workLent 0) (p .plan-checked .last .1 .0) (p .plan-checked .last .1 .1 .0)
+    PlannerCall (Table Ordinary) (planned-set p) (replicate planLent 0) (replicate workLent 0) (p .plan-checked .last .1 .0) (p .plan-checked .last .1 .1 .0)
 
 plan-of : (c : tie.After-unit) → let p = called (c .before .before) in
     PlannedSet (planned-set p) (take (checked p .rates .given .0 .1 .0) (p .plan-checked .last .1 .0))
@@ -113,7 +114,7 @@ returns c =
     let s = set-of (r .before .before) in
     set-refused s _ _ _ (r .r .given .0 .0)
     (ready-refused s (r .r .given .0 .0)
-    (subst (SetAfter (readyChecks s planLent workLent) Ordinary s) (r .r .given .1) (r .before .before .ready .ensures)))
+    (subst (SetAfter (readyChecks (Table Ordinary) s planLent workLent) Ordinary s) (r .r .given .1) (r .before .before .ready .ensures)))
     (c .put-refused .ensures)
 
 returns-2 : tie.Need-returns-2

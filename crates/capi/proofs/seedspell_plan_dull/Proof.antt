@@ -1,125 +1,25 @@
--- The checks before 7, the result bytes, and then the dull engine's answer.
+-- The dull engine's entry: that of a list planned by it, without the working words.
 -- Assumes nothing.
-use mathlib.Core.Path.{refl, subst}
-use lib.ListN.{length}
-use Rattle.selection.specs.Plan.{Fitting}
-use Rattle.layout.specs.declared.Layout.the-variants.{Ordinary}
-use Rattle.taskset.specs.Quantities.{problem}
-use Rattle.taskset.specs.Refusals.{number, second, noneCheck, dullReadyChecks, dullChecks}
-use Rattle.taskset.specs.Calls.{SetAfter}
-use Rattle.taskset.specs.declared.Checked.{Checked}
-use Rattle.taskset.specs.declared.Checked.the-variants.{Good, Refused as NotGood}
-use Rattle.taskset.proofs.Checks.{refuses-before}
-use Rattle.taskset.proofs.Small.{dull-second-small}
-use Rattle.taskset.proofs.DemandThree.{dull-plans}
-use Rattle.entries.proofs.PlanEntries.{ready-refused, results-few, answered, answer-small, put-size}
+use Rattle.entries.proofs.PlanEntries.{without-work}
 use borrow.Author.Needs.{needs}
 use Rattle.capi.proofs.seedspell_plan_dull.Statement.{statement}
 use Rattle.capi.proofs.seedspell_plan_dull.Tie as tie
 
--- The ways back: to the start, to the checks, and to the engine.
-abbrev start : tie.After-ready → tie.Start
-start y = y .before .before .before .before
+slice-aggregate-plan-list : tie.Need-slice-aggregate-plan-list
+slice-aggregate-plan-list c = search needs
 
-abbrev checked : tie.After-plan-checked → tie.After-checked2
-checked q = q .before .before .before .before
-
-abbrev called : tie.After-slice-known3 → tie.After-plan-checked
-called v = v .before .before
-
--- What the checks gave.
-abbrev Ready : tie.After-ready → Checked → Type 0
-Ready y =
-    let a = start y .args in
-    SetAfter (dullReadyChecks (a .set .now) (length (a .plan .now))) Ordinary (a .set .now)
-
-refused : (k : tie.After-checked) → Ready (k .before .before) (NotGood (k .checked .given .0 .0))
-refused k = subst (Ready (k .before .before)) (k .checked .given .1) (k .before .before .ready .ensures)
-
-good : (k : tie.After-checked2)
-    → Ready (k .before .before)
-    (Good (k .checked2 .given .0 .0) (k .checked2 .given .0 .1 .0) (k .checked2 .given .0 .1 .1 .0))
-good k = subst (Ready (k .before .before)) (k .checked2 .given .1) (k .before .before .ready .ensures)
-
-ready-requires : tie.Need-ready-requires
-ready-requires c κs = search needs
-
-enum-known-checked : tie.Need-enum-known-checked
-enum-known-checked c = search needs
-
-code-of-requires : tie.Need-code-of-requires
-code-of-requires c κs =
-    let a = start (c .before .before .before) .args in
-    let r = c .before .checked .given .0 .0 in
-    dull-second-small (a .set .now) (length (a .plan .now)) (number r) (second r)
-    (refuses-before (dullReadyChecks (a .set .now) (length (a .plan .now)))
-    (noneCheck (Fitting (problem (a .set .now)))) (number r) (second r) (refused (c .before)))
-
-enum-known-checked-2 : tie.Need-enum-known-checked-2
-enum-known-checked-2 c = search needs
-
-code-of-requires-2 : tie.Need-code-of-requires-2
-code-of-requires-2 c κs = search needs
-
-returns : tie.Need-returns
-returns c =
-    results-few _ _ (dull-plans _ _) (dull-second-small _ _) _ _ _ _ refl _ (c .code-of2 .ensures)
-    (good (c .before .before .before) .0) (c .before .if1 .taken)
-
-plan-checked-requires : tie.Need-plan-checked-requires
-plan-checked-requires c κs = good (c .before .before .before)
-
-put-answer-requires : tie.Need-put-answer-requires
-put-answer-requires c κs =
-    let q = called (c .before) in
-    let a = start (checked q .before .before) .args in
-    let h = q .plan-checked .ensures in (
-      q .before .before .if1 .left,
-      answer-small (a .set .now) (dullChecks (a .set .now) (length (a .plan .now)))
-          (dull-second-small (a .set .now) (length (a .plan .now))) (a .plan .now)
-          (q .plan-checked .last .1 .0) (q .plan-checked .result) (h .gives),
-    )
-
-returns-2 : tie.Need-returns-2
-returns-2 c =
-    ready-refused _ _ (dull-plans _ _) (dull-second-small _ _) _ _ _ _ refl (c .before .before .checked .given .0 .0) _
-    (c .code-of .ensures) (refused (c .before .before))
+plan-list-requires : tie.Need-plan-list-requires
+plan-list-requires c κs = search needs
 
 same-length : tie.Need-same-length
 same-length c = search needs
 
 same-length-2 : tie.Need-same-length-2
-same-length-2 c =
-    let p = c .before .before in
-    let q = called (p .before .before) in
-    put-size (q .plan-checked .result) (start (checked q .before .before) .args .results .now) (p .put-answer .last .0)
-    (p .put-answer .result) (p .put-answer .ensures)
+same-length-2 c = search needs
 
-answer-left : tie.Need-returns-3
-answer-left c =
-    let p = c .before .before in
-    let q = called (p .before .before) in
-    let a = start (checked q .before .before) .args in
-    let h = q .plan-checked .ensures in
-    answered (a .set .now) (dullReadyChecks (a .set .now) (length (a .plan .now)))
-    (dull-plans (a .set .now) (length (a .plan .now))) (dull-second-small (a .set .now) (length (a .plan .now)))
-    (a .results .now) _ _ (good (checked q) .0) (q .before .before .if1 .left) (a .plan .now)
-    (q .plan-checked .last .1 .0) (p .put-answer .last .0) (p .put-answer .result) (q .plan-checked .result)
-    (h .gives) (h .gives) (λ r g. g .1) (h .numbers) (p .put-answer .ensures)
+returns : tie.Need-returns
+returns c = without-work (c .before .before .before .before .before .plan-list .ensures)
 
 pub seedspell-plan-dull-spec : {M : Type 1} → statement M
 seedspell-plan-dull-spec =
-    tie.close
-    (tie.spec
-    ready-requires
-    enum-known-checked
-    code-of-requires
-    enum-known-checked-2
-    code-of-requires-2
-    returns
-    plan-checked-requires
-    put-answer-requires
-    returns-2
-    same-length
-    same-length-2
-    answer-left)
+    tie.close (tie.spec slice-aggregate-plan-list plan-list-requires same-length same-length-2 returns)

@@ -13,7 +13,7 @@ put f = f .before .before
 abbrev start : tie.After-put-tasks → tie.Start
 start p = p .before .before .before .before
 
-given : (s : tie.Start) → SetGiven (s .args .set .now) (s .args .rates) (s .args .tasks) (s .args .hyper)
+given : (s : tie.Start) → SetGiven (s .args .layout) (s .args .set .now) (s .args .rates) (s .args .tasks) (s .args .hyper)
 given s = s .pre .0
 
 put-tasks-requires : tie.Need-put-tasks-requires

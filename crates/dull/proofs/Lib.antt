@@ -1,4 +1,0 @@
-pub mod Enough
-pub mod Calls
-pub mod Unique
-pub mod Firsts
