@@ -1,5 +1,5 @@
--- A chip's figures by which one is asked for. Not part of what a reader must believe: the contracts of those that others
--- call speak of Chips alone.
+-- A chip's figures by which one is asked for. Not part of what a reader must believe: what other crates call speaks of
+-- Chips alone.
 use Prim.Native.Nat.{ℕ}
 use mathlib.Core.List.{List}
 use Rattle.chips.specs.Chips.{chipRate, chipEnergy, chipRates, chipEnergies}

@@ -1,4 +1,4 @@
--- Check 10, where it is made: the first task with an energy that is too low, and of that task the first, decide. Else 4.
+-- Check 10, where it is made, by the first task with an energy that is too low, and the first such of it; then 4.
 -- Assumes nothing.
 use mathlib.Core.Path.{refl}
 use mathlib.Core.Logic.{inl, ⊎-elim}
