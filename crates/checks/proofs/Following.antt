@@ -15,7 +15,7 @@ use Rattle.numbers.proofs.Searches.{found-here, found-end, none-more}
 use Rattle.layout.specs.Words.{longestPeriod, word, taskSize, periodPlace, period}
 use Rattle.layout.specs.declared.Layout.{Layout}
 use Rattle.taskset.specs.Quantities.{hyperLimit}
-use Rattle.checks.specs.Steps.{HasTasks, Passed, Followed}
+use Rattle.checks.specs.Steps.{OfCounts, Passed, Followed}
 
 -- What holds at each turn: where the task in hand stands, the multiple, and that it passes the limit at no task before.
 pub record Turn (layout : Layout) (m n : ℕ) (s : List ℕ) (l t at : ℕ) : Type 0 where
@@ -30,9 +30,12 @@ pub record Turn (layout : Layout) (m n : ℕ) (s : List ℕ) (l t at : ℕ) : Ty
 pub all-followed : {layout : Layout} {m n : ℕ} {s : List ℕ} {l t at : ℕ} → Turn layout m n s l t at → n ≤ t → Followed layout n s t l
 all-followed q e = record { tasks = found-end (omega arith) (q .none) (omega arith); value = q .value; least = q .least; most = q .most }
 
-module _ {layout : Layout} {m n : ℕ} {s : List ℕ} (h : HasTasks layout m n s) {l t at : ℕ} (q : Turn layout m n s l t at) (i : t < n) where
+module _ {layout : Layout} {m n : ℕ} {s : List ℕ} (h : OfCounts layout m n s) {l t at : ℕ} (q : Turn layout m n s l t at) (i : t < n) where
+  enough : periodPlace layout m n ≤ length s
+  enough = rw (h .counted, h .numbered) (omega (arith, h .whole .size))
+
   pub task-in : at + taskSize layout m ≤ length s
-  task-in = omega (arith, h .words, mul-le-mul-right (taskSize layout m) i, mul-comm (suc t) (taskSize layout m), mul-suc (taskSize layout m) t, mul-comm (taskSize layout m) t)
+  task-in = omega (arith, enough, mul-le-mul-right (taskSize layout m) i, mul-comm (suc t) (taskSize layout m), mul-suc (taskSize layout m) t, mul-comm (taskSize layout m) t)
 
   next-place : at + taskSize layout m ≡ periodPlace layout m (t + 1)
   next-place = omega (arith, ap (λ (x : ℕ). x * taskSize layout m) (add-one t), mul-comm (suc t) (taskSize layout m), mul-suc (taskSize layout m) t, mul-comm (taskSize layout m) t)
@@ -43,7 +46,7 @@ module _ {layout : Layout} {m n : ℕ} {s : List ℕ} (h : HasTasks layout m n s
   -- The multiple and the period are small enough for the divisor's bound on its steps.
   pub divisor-asked : (0 < l) × (0 < word s at) × (l * word s at < 2 ^ 50)
   divisor-asked =
-      let p = h .periods t i in
+      let p = h .whole .period-range t (omega (arith, h .numbered)) in
       let e = period-is in
       (q .least, omega (arith, p .0), omega (arith, mul-le-mul {n₁ = l} {m₁ = word s at} {n₂ = hyperLimit} {m₂ = longestPeriod} (q .most) (omega (arith, p .1))))
 
@@ -68,7 +71,7 @@ module _ {layout : Layout} {m n : ℕ} {s : List ℕ} (h : HasTasks layout m n s
       within = omega arith;
       place = next-place;
       value = rw (add-one t) next-is;
-      least = omega (arith, next-is, running-positive (period layout s) n (λ t l. h .periods t l .0) (suc t) i);
+      least = omega (arith, next-is, running-positive (period layout s) n (λ t l. h .whole .period-range t (omega (arith, h .numbered)) .0) (suc t) i);
       most = o;
       none = none-more (omega arith) (q .none) (λ p. omega (arith, next-is));
     }

@@ -3,7 +3,7 @@
 use Prim.Native.Nat.{ℕ, _+_, _*_, _≤_, _<_}
 use mathlib.Core.Path.{_≡_, refl, sym, ap, _∙_, subst}
 use mathlib.Core.Bool.{true, false}
-use mathlib.Core.List.{List, [], _∷_}
+use mathlib.Core.List.{List, [], _∷_, _++_}
 use mathlib.Core.Logic.{inl, inr, ⊎-elim}
 use native.Mathlib.Omega.{arith}
 use lib.ListN.{length}
@@ -13,13 +13,12 @@ use Rattle.layout.specs.Words.{headSize, mostRates, mostTasks, word, idle, rate
 use Rattle.layout.specs.Words.{taskCountPlace, periodPlace, energyPlace, period, energy, kindAt, allows, OutOfRange}
 use Rattle.layout.specs.Words.{WordFault}
 use Rattle.taskset.specs.Refusals.{number, second, IsBadWord, RateFault, IsBelowIdle, IsTooLong, Check, Passes, Accepts}
-use Rattle.taskset.specs.Refusals.{_▹_, wordCheck, wordChecks, idleCheck, hyperCheck}
+use Rattle.taskset.specs.Refusals.{wordChecks, idleCheck, hyperCheck}
 use Rattle.taskset.specs.Calls.{CountsAfter, SetAfter}
 use Rattle.numbers.specs.Search.{Found}
 use Rattle.taskset.specs.Quantities.{jobTime}
-use Rattle.checks.specs.Steps.{Falls, HasTasks, Followed, OfTask, OfCounts, HasBelow}
-use Rattle.taskset.specs.declared.Refusal.the-variants.{BadWord, NotAbove, BelowIdle}
-use Rattle.taskset.specs.declared.Shape.{Shape}
+use Rattle.checks.specs.Steps.{Falls, Followed, OfCounts, HasBelow, taskChecks}
+use Rattle.taskset.specs.declared.Refusal.the-variants.{BadWord, NotAbove}
 use Rattle.taskset.specs.declared.Shape.the-variants.{Whole, Refused as NotWhole}
 use Rattle.taskset.specs.declared.Checked.{Checked}
 use Rattle.taskset.specs.declared.Checked.the-variants.{Good, Refused as NotGood}
@@ -92,9 +91,6 @@ module _ (layout : Layout) (s : List ℕ) (b : ℕ) (found : Found (OutOfRange l
 
 -- ---- check 10
 module _ {layout : Layout} {s : List ℕ} {m n : ℕ} (o : OfCounts layout m n s) {t : ℕ} (tasks : Found (HasBelow layout m s) 0 n t) where
-  pub of-task : t < n → OfTask layout m t s
-  of-task h = record { whole = o .whole; counted = o .counted; task = omega (arith, o .numbered) }
-
   -- The first task that has an energy that is too low, and the first such of it.
   module _ {r : ℕ} (rates : Found (Below layout s t) 1 (m + 1) r) (h : t < n) where
     low : r ≤ m
@@ -112,79 +108,55 @@ module _ {layout : Layout} {s : List ℕ} {m n : ℕ} (o : OfCounts layout m n s
       omega (arith, low, o .counted, o .whole .rates-range .1),
     )
 
-    pub below-idle : CountsAfter (idleCheck layout s ∷ []) layout s (NotWhole (BelowIdle (energyPlace layout m t r)))
+    pub below-idle : IsBelowIdle layout s (energyPlace layout m t r)
     below-idle =
         let first : IsBelowIdle layout s (energyPlace layout (rateCount layout s) t r) =
         first-below layout s t r (omega (arith, o .numbered)) (rates .from) (omega (arith, low, o .counted))
         (rates .hit (omega (arith, low)))
         (λ u l q a b x. tasks .none u (omega arith) l (q, a, omega (arith, o .counted), x))
         (λ q a l x. rates .none q a l x) in
-        inl (refl, subst (λ (x : ℕ). IsBelowIdle layout s (energyPlace layout x t r)) (sym (o .counted)) first)
+        subst (λ (x : ℕ). IsBelowIdle layout s (energyPlace layout x t r)) (sym (o .counted)) first
 
-  pub covered : n ≤ t → CountsAfter (idleCheck layout s ∷ []) layout s (Whole m n)
-  covered h = (
-    (
+  pub none-below : n ≤ t → Passes (idleCheck layout s)
+  none-below h =
       covered-passes layout s (λ u r l a b.
-          ⊎-elim
-          (λ (x : Below layout s u r). absurd (tasks .none u (omega arith) (omega (arith, o .numbered)) (r, a, omega (arith, o .counted), x)))
-          (λ (x : idle s * jobTime layout s u r ≤ energy layout s u r). x)
-          (lt-or-le (energy layout s u r) (idle s * jobTime layout s u r))),
-      tt,
-    ),
-    o .counted,
-    o .numbered,
-  )
-
--- What it asks, from check 2.
-pub of-counts : (layout : Layout) (s : List ℕ) (m n : ℕ) → Passes (wordCheck layout s) → m ≡ rateCount layout s
-    → n ≡ taskCount layout s
-    → OfCounts layout m n s
-of-counts layout s m n pass a b = record { whole = whole-of layout s (no-word-fault layout s pass); counted = a; numbered = b }
-
--- A check of the counts after others.
-pub after-counts : (cs : List Check) (c : Check) (layout : Layout) (s : List ℕ) → Accepts cs → (a : Shape)
-    → CountsAfter (c ∷ []) layout s a → CountsAfter (cs ▹ c) layout s a
-after-counts cs c layout s pass (Whole m n) h = (accepts-join cs (c ∷ []) pass (h .0), h .1, h .2)
-after-counts cs c layout s pass (NotWhole r) h = refuses-back cs (c ∷ []) (number r) (second r) pass h
+      ⊎-elim
+      (λ (x : Below layout s u r). absurd (tasks .none u (omega arith) (omega (arith, o .numbered)) (r, a, omega (arith, o .counted), x)))
+      (λ (x : idle s * jobTime layout s u r ≤ energy layout s u r). x)
+      (lt-or-le (energy layout s u r) (idle s * jobTime layout s u r)))
 
 -- ---- check 4
-module _ (layout : Layout) (s : List ℕ) (m n : ℕ) where
-  -- What it asks, from the check before it.
-  pub has-tasks : Passes (wordCheck layout s) → m ≡ rateCount layout s → n ≡ taskCount layout s → HasTasks layout m n s
-  has-tasks pass a b =
-      let whole = whole-of layout s (no-word-fault layout s pass) in
-      record {
-        rates = omega (arith, a, whole .rates-range .1);
-        counted = a;
-        tasks = omega (arith, b, whole .tasks-range .1);
-        numbered = b;
-        words = rw (a, b) (omega (arith, whole .size));
-        periods = λ t l. whole .period-range t (omega (arith, b));
-      }
+module _ (layout : Layout) (s : List ℕ) (m n : ℕ) (h : OfCounts layout m n s) (t v : ℕ) (followed : Followed layout n s t v) where
+  pub too-long : t < n → IsTooLong layout s (periodPlace layout m t)
+  too-long l = (
+    t,
+    record {
+      here = (omega (arith, h .numbered), followed .tasks .hit l);
+      before = λ j l p. followed .tasks .none j (omega arith) l (p .1);
+    },
+    ap (λ (x : ℕ). periodPlace layout x t) (h .counted),
+  )
 
-  module _ (h : HasTasks layout m n s) (t v : ℕ) (followed : Followed layout n s t v) where
-    pub too-long : t < n → IsTooLong layout s (periodPlace layout m t)
-    too-long l = (
-      t,
-      record {
-        here = (omega (arith, h .numbered), followed .tasks .hit l);
-        before = λ j l p. followed .tasks .none j (omega arith) l (p .1);
-      },
-      ap (λ (x : ℕ). periodPlace layout x t) (h .counted),
-    )
+  pub is-good : n ≤ t → SetAfter (hyperCheck layout s ∷ []) layout s (Good m n v)
+  is-good l =
+      let e : t ≡ taskCount layout s = omega (arith, h .numbered, followed .tasks .to) in (
+        ((λ q w. followed .tasks .none (w .0) (omega arith) (omega (arith, w .1 .here .0, h .numbered)) (w .1 .here .1)), tt),
+        h .counted,
+        h .numbered,
+        followed .value ∙ ap (running (period layout s)) e,
+      )
 
-    pub is-good : n ≤ t → SetAfter (hyperCheck layout s ∷ []) layout s (Good m n v)
-    is-good l =
-        let e : t ≡ taskCount layout s = omega (arith, h .numbered, followed .tasks .to) in (
-          ((λ q w. followed .tasks .none (w .0) (omega arith) (omega (arith, w .1 .here .0, h .numbered)) (w .1 .here .1)), tt),
-          h .counted,
-          h .numbered,
-          followed .value ∙ ap (running (period layout s)) e,
-        )
+-- ---- in their order
+module _ (layout : Layout) (s : List ℕ) where
+  -- What the checks of the tasks ask, from those before.
+  pub of-counts : {m n : ℕ} → CountsAfter (wordChecks layout s) layout s (Whole m n) → OfCounts layout m n s
+  of-counts h = record { whole = whole-of layout s (no-word-fault layout s (h .0 .0)); counted = h .1; numbered = h .2 }
 
--- ---- check 4 after others
-module _ (cs : List Check) (layout : Layout) (s : List ℕ) where
-  pub after : Accepts cs → (a : Checked) → SetAfter (hyperCheck layout s ∷ []) layout s a
-      → SetAfter (cs ▹ hyperCheck layout s) layout s a
-  after pass (Good m n v) h = (accepts-join cs (hyperCheck layout s ∷ []) pass (h .0), h .1, h .2, h .3)
-  after pass (NotGood r) h = refuses-back cs (hyperCheck layout s ∷ []) (number r) (second r) pass h
+  -- The checks ds after others.
+  pub after : (cs ds : List Check) → Accepts cs → (a : Checked) → SetAfter ds layout s a → SetAfter (cs ++ ds) layout s a
+  after cs ds pass (Good m n v) h = (accepts-join cs ds pass (h .0), h .1, h .2, h .3)
+  after cs ds pass (NotGood r) h = refuses-back cs ds (number r) (second r) pass h
+
+  pub after-idle : Passes (idleCheck layout s) → (a : Checked) → SetAfter (taskChecks false layout s) layout s a
+      → SetAfter (taskChecks true layout s) layout s a
+  after-idle pass = after (idleCheck layout s ∷ []) (taskChecks false layout s) (pass, tt)

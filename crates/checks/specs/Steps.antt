@@ -2,18 +2,19 @@
 -- contracts speak of Refusals and Calls alone.
 use Prim.Native.Nat.{ℕ, suc, _-_, _^_, _≤_, _<_}
 use mathlib.Core.Path.{_≡_}
-use mathlib.Core.Bool.{false, cond}
-use mathlib.Core.List.{List}
+use mathlib.Core.Bool.{Bool, true, false, cond}
+use mathlib.Core.List.{List, [], _∷_}
 use lib.Dec.{ltb}
 use lib.ListN.{length}
 use Rattle.numbers.specs.Numbers.{running}
 use Rattle.numbers.specs.Search.{Found}
-use Rattle.layout.specs.Words.{mostRates, mostTasks, longestPeriod, word, rateCount, taskCount, taskCountPlace, tasksPlace, periodPlace, period, kindAt, allows}
+use Rattle.layout.specs.Words.{word, rateCount, taskCount, taskCountPlace, tasksPlace, period, kindAt, allows}
 use Rattle.layout.specs.declared.Kind.{Kind}
 use Rattle.layout.specs.declared.Kind.the-variants.{LeftOver}
 use Rattle.layout.specs.declared.Layout.{Layout}
 use Rattle.taskset.specs.Quantities.{hyperLimit}
 use Rattle.layout.specs.Whole.{IsWhole}
+use Rattle.taskset.specs.Refusals.{Check, idleCheck, hyperCheck}
 use Rattle.taskset.specs.Sets.{Below}
 
 -- What the word at q stands for, up to the task count; 'left over' behind that, where nothing is allowed. So the front
@@ -38,15 +39,6 @@ Falls s q = word s q ≤ word s (q - 1)
 abbrev pub Passed : Layout → List ℕ → ℕ → Type 0
 Passed layout s t = hyperLimit < running (period layout s) (suc t)
 
--- A list that has the words of m rates and n tasks, its own.
-pub record HasTasks (layout : Layout) (m n : ℕ) (s : List ℕ) : Type 0 where
-  pub rates : m ≤ mostRates
-  pub counted : m ≡ rateCount layout s
-  pub tasks : n ≤ mostTasks
-  pub numbered : n ≡ taskCount layout s
-  pub words : periodPlace layout m n ≤ length s
-  pub periods : (t : ℕ) → t < n → (1 ≤ period layout s t) × (period layout s t ≤ longestPeriod)
-
 -- How far the running multiple of n tasks was followed, and its value there.
 pub record Followed (layout : Layout) (n : ℕ) (s : List ℕ) (t v : ℕ) : Type 0 where
   pub tasks : Found (Passed layout s) 0 n t
@@ -69,3 +61,8 @@ pub record OfCounts (layout : Layout) (m n : ℕ) (s : List ℕ) : Type 0 where
 -- The task at t has an energy, at one of m rates, that is below what idle ticks draw in the job's time.
 abbrev pub HasBelow : Layout → ℕ → List ℕ → ℕ → Type 0
 HasBelow layout m s t = (r : ℕ) × (1 ≤ r) × (r ≤ m) × Below layout s t r
+
+-- Behind checks 2 and 3, in the order of the code: 10, where a call goes by energies, and 4.
+abbrev pub taskChecks : Bool → Layout → List ℕ → List Check
+taskChecks true layout s = idleCheck layout s ∷ hyperCheck layout s ∷ []
+taskChecks false layout s = hyperCheck layout s ∷ []

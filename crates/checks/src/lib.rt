@@ -1,17 +1,17 @@
 // The checks of a task set in code, and the readers of its words and quantities. What each says is defined in
 // `taskset`; what stands where in a list, and what each word may be, is left to layout, and in code to places.
 ghost use mathlib.Core.Path.{_≡_};
-ghost use mathlib.Core.List.{[], _∷_};
+ghost use mathlib.Core.List.{[], _∷_, _++_};
 ghost use Prim.Native.Nat.{_+_, _*_, _<_, _≤_};
 ghost use lib.ListN.{length};
 ghost use Rattle.numbers.specs.Search.{Found};
 ghost use Rattle.layout.specs.Words.{ratePlace, taskCountPlace, tasksPlace, mostRates, idlePlace, slack, idle, rate};
 ghost use Rattle.layout.specs.Words.{period, cycles, first, energy, OutOfRange};
 ghost use Rattle.taskset.specs.Quantities.{jobTime};
-ghost use Rattle.taskset.specs.Refusals.{_▹_, wordChecks, idleCheck, idleChecks, hyperCheck};
+ghost use Rattle.taskset.specs.Refusals.{_▹_, wordChecks, idleChecks, hyperCheck};
 ghost use Rattle.taskset.specs.Calls.{CountsAfter, SetAfter};
 ghost use Rattle.taskset.specs.Sets.{Below};
-ghost use Rattle.checks.specs.Steps.{frontKind, EndsFront, FrontPassed, Falls, HasTasks, Followed, OfTask, OfCounts, HasBelow};
+ghost use Rattle.checks.specs.Steps.{frontKind, EndsFront, FrontPassed, Falls, Followed, OfTask, OfCounts, HasBelow, taskChecks};
 use layout::Kind;
 use layout::Layout;
 use taskset::Checked;
@@ -157,7 +157,7 @@ pub fn check_words(s: &[u32], layout: Layout) -> Shape
 
 // The running multiple of n periods, followed until it passes the limit.
 fn follow(s: &[u32], layout: Layout, m: usize, n: usize) -> Multiple
-    requires { ⌜ HasTasks layout m n (now s) ⌝ }
+    requires { ⌜ OfCounts layout m n (now s) ⌝ }
     ensures { λ r. ⌜ Followed layout n (now (s .entry)) (r .tasks) (r .value) ⌝ }
 {
     let mut l: u64 = 1;
@@ -211,33 +211,9 @@ fn below_task(s: &[u32], layout: Layout, m: usize, n: usize) -> usize
     task
 }
 
-// Check 10, of a list with m rates and n tasks that passes check 2.
-fn check_idle(s: &[u32], layout: Layout, m: usize, n: usize) -> Shape
-    requires { ⌜ OfCounts layout m n (now s) ⌝ }
-    ensures { λ r. ⌜ CountsAfter (idleCheck layout (now (s .entry)) ∷ []) layout (now (s .entry)) r ⌝ }
-{
-    let task = below_task(s, layout, m, n);
-    if task < n {
-        let r = below_rate(s, layout, m, task);
-        return Shape::Refused(Refusal::BelowIdle(places::energy_place(layout, m, task, r)));
-    }
-    Shape::Whole { rates: m, tasks: n }
-}
-
-// Checks 2, 3 and 10, in this order.
-fn check_energies(s: &[u32], layout: Layout) -> Shape
-    ensures { λ r. ⌜ CountsAfter (idleChecks layout (now (s .entry))) layout (now (s .entry)) r ⌝ }
-{
-    let shape = check_words(s, layout);
-    match shape {
-        Shape::Refused(r) => Shape::Refused(r),
-        Shape::Whole { rates, tasks } => check_idle(s, layout, rates, tasks),
-    }
-}
-
 // Check 4, of a list with m rates and n tasks that passes check 2.
 fn check_hyper(s: &[u32], layout: Layout, m: usize, n: usize) -> Checked
-    requires { ⌜ HasTasks layout m n (now s) ⌝ }
+    requires { ⌜ OfCounts layout m n (now s) ⌝ }
     ensures { λ r. ⌜ SetAfter (hyperCheck layout (now (s .entry)) ∷ []) layout (now (s .entry)) r ⌝ }
 {
     let h = follow(s, layout, m, n);
@@ -252,26 +228,45 @@ fn check_hyper(s: &[u32], layout: Layout, m: usize, n: usize) -> Checked
     }
 }
 
-// Checks 2, 3 and 4, in this order.
-pub fn check_set(s: &[u32], layout: Layout) -> Checked
-    ensures { λ r. ⌜ SetAfter (wordChecks layout (now (s .entry)) ▹ hyperCheck layout (now (s .entry))) layout (now (s .entry)) r ⌝ }
+// Check 10, where covered says that a call goes by energies, and then 4: of a list with m rates and n tasks that passes
+// check 2.
+fn check_tasks(s: &[u32], layout: Layout, m: usize, n: usize, covered: bool) -> Checked
+    requires { ⌜ OfCounts layout m n (now s) ⌝ }
+    ensures { λ r. ⌜ SetAfter (taskChecks covered layout (now (s .entry))) layout (now (s .entry)) r ⌝ }
+{
+    if covered {
+        let task = below_task(s, layout, m, n);
+        if task < n {
+            let r = below_rate(s, layout, m, task);
+            return Checked::Refused(Refusal::BelowIdle(places::energy_place(layout, m, task, r)));
+        }
+    }
+    check_hyper(s, layout, m, n)
+}
+
+// Checks 2 and 3, then those of the tasks.
+fn check_all(s: &[u32], layout: Layout, covered: bool) -> Checked
+    ensures { λ r. ⌜ SetAfter (wordChecks layout (now (s .entry)) ++ taskChecks covered layout (now (s .entry))) layout (now (s .entry)) r ⌝ }
 {
     let shape = check_words(s, layout);
     match shape {
         Shape::Refused(r) => Checked::Refused(r),
-        Shape::Whole { rates, tasks } => check_hyper(s, layout, rates, tasks),
+        Shape::Whole { rates, tasks } => check_tasks(s, layout, rates, tasks, covered),
     }
+}
+
+// Checks 2, 3 and 4, in this order.
+pub fn check_set(s: &[u32], layout: Layout) -> Checked
+    ensures { λ r. ⌜ SetAfter (wordChecks layout (now (s .entry)) ▹ hyperCheck layout (now (s .entry))) layout (now (s .entry)) r ⌝ }
+{
+    check_all(s, layout, false)
 }
 
 // Checks 2, 3, 10 and 4, in this order: for whoever goes by energies.
 pub fn check_covered(s: &[u32], layout: Layout) -> Checked
     ensures { λ r. ⌜ SetAfter (idleChecks layout (now (s .entry)) ▹ hyperCheck layout (now (s .entry))) layout (now (s .entry)) r ⌝ }
 {
-    let shape = check_energies(s, layout);
-    match shape {
-        Shape::Refused(r) => Checked::Refused(r),
-        Shape::Whole { rates, tasks } => check_hyper(s, layout, rates, tasks),
-    }
+    check_all(s, layout, true)
 }
 
 // The slack.

@@ -5,11 +5,18 @@ ghost use Prim.Native.Nat.{_+_, _≤_};
 ghost use lib.ListN.{length};
 ghost use Rattle.lists.specs.Writing.{written};
 ghost use Rattle.chips.specs.Chips.{chipCount, chipRate, chipPower, chipEnergy, chipRates, chipEnergies, idleEntry, chipIdle};
+ghost use Rattle.chips.specs.Steps.{chipFigure, chipFigures};
 
 // The chips that a text can name.
 pub enum Chip {
     Xscale,
     Ppc405lp,
+}
+
+// Which figure of a chip: its rate, or the energy of a job of so many cycles.
+enum Figure {
+    Rate,
+    Energy(u32),
 }
 
 // Rates in cycles per tick, which is a millisecond: MHz × 1,000. Powers in mW, at each rate.
@@ -82,17 +89,36 @@ pub fn idle(chip: Chip) -> u32
     IDLE[idle_entry(chip)]
 }
 
+// The figure at rate number r.
+fn figure_at(chip: Chip, which: Figure, r: usize) -> u32
+    requires { ⌜ (1 ≤ r) × (r ≤ chipCount chip) ⌝ }
+    ensures { λ x. ⌜ x ≡ chipFigure chip which r ⌝ }
+{
+    match which {
+        Figure::Rate => rate(chip, r),
+        Figure::Energy(cycles) => energy(chip, cycles, r),
+    }
+}
+
+// The figures, one per rate, to the list from a place on.
+fn put_figures(list: &mut [u32], at: usize, chip: Chip, which: Figure)
+    requires { ⌜ at + chipCount chip ≤ length (now list) ⌝ }
+    ensures { λ r. ⌜ now (list .exit) ≡ written at (chipFigures chip which) (now (list .entry)) ⌝ }
+{
+    let count = rate_count(chip);
+    let mut i: usize = 0;
+    while i < count {
+        list[at + i] = figure_at(chip, which, 1 + i);
+        i += 1;
+    }
+}
+
 // The chip's rates, to the list from a place on.
 pub fn put_rates(list: &mut [u32], at: usize, chip: Chip)
     requires { ⌜ at + chipCount chip ≤ length (now list) ⌝ }
     ensures { λ r. ⌜ now (list .exit) ≡ written at (chipRates chip) (now (list .entry)) ⌝ }
 {
-    let count = rate_count(chip);
-    let mut i: usize = 0;
-    while i < count {
-        list[at + i] = rate(chip, 1 + i);
-        i += 1;
-    }
+    put_figures(list, at, chip, Figure::Rate);
 }
 
 // The energies of a job of so many cycles, one per rate, to the list from a place on.
@@ -100,10 +126,5 @@ pub fn put_energies(list: &mut [u32], at: usize, chip: Chip, cycles: u32)
     requires { ⌜ at + chipCount chip ≤ length (now list) ⌝ }
     ensures { λ r. ⌜ now (list .exit) ≡ written at (chipEnergies chip cycles) (now (list .entry)) ⌝ }
 {
-    let count = rate_count(chip);
-    let mut i: usize = 0;
-    while i < count {
-        list[at + i] = energy(chip, cycles, 1 + i);
-        i += 1;
-    }
+    put_figures(list, at, chip, Figure::Energy(cycles));
 }

@@ -3,15 +3,14 @@
 // others.
 ghost use mathlib.Core.Path.{_≡_};
 ghost use Prim.Native.Nat.{_+_, _*_, _/_, _%_, _^_, _≤_};
-ghost use lib.ListN.{length, replicate};
-ghost use Rattle.numbers.specs.Numbers.{each};
+ghost use lib.ListN.{length};
 ghost use Rattle.layout.specs.Words.{mostTasks, tasksPlace, taskSize, periodPlace};
 ghost use Rattle.layout.specs.declared.Layout.the-variants.{Ordinary};
 ghost use Rattle.lists.specs.Writing.{placed, written};
 ghost use Rattle.draws.specs.Generated;
-ghost use Rattle.draws.specs.Generated.{stateAfter, drawnPeriod, rateOf, taskWords, tasksWords, frontWords, generated};
+ghost use Rattle.draws.specs.Generated.{stateAfter, drawnPeriod, taskWords, tasksWords, frontWords, generated};
 ghost use Rattle.draws.specs.Calls.{GeneratorCall};
-ghost use Rattle.generator.specs.Steps.{RoomAfter};
+ghost use Rattle.generator.specs.Steps.{RoomAfter, figureOf, figures};
 use layout::Layout;
 use taskset::CopyAnswer;
 use taskset::Refusal;
@@ -20,6 +19,15 @@ use taskset::Refusal;
 pub enum Room {
     Enough(usize),
     Refused(Refusal),
+}
+
+// Figures that are put one behind the other, and count from 1: zeros, for the words of a layout that the rule of the
+// draws does not name; rates; or the energies that a draw gives.
+enum Figure {
+    // In the head that is the idle energy; between a task's cycles and its energies its first release.
+    Zero,
+    Rate,
+    Energy(u32),
 }
 
 // The numbers of a step of the state.
@@ -63,41 +71,26 @@ fn period(x: u32) -> u32
     PERIODS[(x % 8) as usize]
 }
 
-// Zeros, count of them, to the list from a place on: for the words of a layout that the rule of the draws does not name.
-// In its head that is the idle energy; between a task's cycles and its energies its first release.
-fn put_zeros(list: &mut [u32], at: usize, count: usize)
-    requires { ⌜ at + count ≤ length (now list) ⌝ }
-    ensures { λ r. ⌜ now (list .exit) ≡ written at (replicate count 0) (now (list .entry)) ⌝ }
+// The figure with number j, at a rate its rate number: none of the first 8 is too large for a word.
+fn figure_at(which: Figure, j: u32) -> u32
+    requires { ⌜ j ≤ 8 ⌝ }
+    ensures { λ r. ⌜ r ≡ figureOf which j ⌝ }
+{
+    match which {
+        Figure::Zero => 0,
+        Figure::Rate => 100 * j,
+        Figure::Energy(x) => (2 + x % 9) * j * j,
+    }
+}
+
+// The first figures, count of them, to the list from a place on.
+fn put_figures(list: &mut [u32], at: usize, which: Figure, count: usize)
+    requires { ⌜ (at + count ≤ length (now list)) × (count ≤ 8) ⌝ }
+    ensures { λ r. ⌜ now (list .exit) ≡ written at (figures which count) (now (list .entry)) ⌝ }
 {
     let mut i: usize = 0;
     while i < count {
-        list[at + i] = 0;
-        i += 1;
-    }
-}
-
-// The five rates, to the list from a place on.
-fn put_rates(list: &mut [u32], at: usize)
-    requires { ⌜ at + 5 ≤ length (now list) ⌝ }
-    ensures { λ r. ⌜ now (list .exit) ≡ written at (each rateOf 1 5) (now (list .entry)) ⌝ }
-{
-    let mut i: usize = 0;
-    while i < RATES {
-        let j = 1 + i as u32;
-        list[at + i] = 100 * j;
-        i += 1;
-    }
-}
-
-// A task's five energies, with the factor that its draw gives, to the list from a place on.
-fn put_energies(list: &mut [u32], at: usize, factor: u32)
-    requires { ⌜ (at + 5 ≤ length (now list)) × (factor ≤ 10) ⌝ }
-    ensures { λ r. ⌜ now (list .exit) ≡ written at (each (λ j. factor * j * j) 1 5) (now (list .entry)) ⌝ }
-{
-    let mut i: usize = 0;
-    while i < RATES {
-        let j = 1 + i as u32;
-        list[at + i] = factor * j * j;
+        list[at + i] = figure_at(which, 1 + i as u32);
         i += 1;
     }
 }
@@ -113,16 +106,17 @@ fn put_task(list: &mut [u32], at: usize, state: u32) -> u32
     let third = next(second);
     let p = period(draw(first));
     let c = 1 + draw(second) % 1_000;
-    let factor = 2 + draw(third) % 9;
+    let x = draw(third);
     list[at] = p;
     list[at + places::CYCLES_IN_TASK] = c;
     let before = places::before_energies(Layout::Ordinary);
-    put_zeros(
+    put_figures(
         list,
         at + places::FIRST_IN_TASK,
+        Figure::Zero,
         before - places::FIRST_IN_TASK,
     );
-    put_energies(list, at + before, factor);
+    put_figures(list, at + before, Figure::Energy(x), RATES);
     third
 }
 
@@ -147,9 +141,14 @@ fn put_front(list: &mut [u32], n: u32)
 {
     let head = places::head_size(Layout::Ordinary);
     list[places::SLACK_PLACE] = 100;
-    put_zeros(list, places::IDLE_PLACE, head - places::IDLE_PLACE);
+    put_figures(
+        list,
+        places::IDLE_PLACE,
+        Figure::Zero,
+        head - places::IDLE_PLACE,
+    );
     list[head] = RATES as u32;
-    put_rates(list, head + 1);
+    put_figures(list, head + 1, Figure::Rate, RATES);
     list[places::task_count_place(Layout::Ordinary, RATES)] = n;
 }
 

@@ -11,7 +11,9 @@ follow-requires : tie.Need-follow-requires
 follow-requires c κs = c .before .pre
 
 period-place-requires : tie.Need-period-place-requires
-period-place-requires c κs = let h = c .before .before .before .pre in omega (arith, h .rates, h .tasks, c .before .follow .ensures .tasks .to)
+period-place-requires c κs =
+    let o = c .before .before .before .pre in
+    omega (arith, o .counted, o .whole .rates-range .1, o .numbered, o .whole .tasks-range .1, c .before .follow .ensures .tasks .to)
 
 returns : tie.Need-returns
 returns c =

@@ -24,7 +24,7 @@ abbrev turn-of : tie.After-common-divisor Inv-loop μ-loop → tie.At-loop Inv-l
 turn-of d = d .before .before .before
 
 tasks-place-requires : tie.Need-tasks-place-requires Inv-loop μ-loop
-tasks-place-requires c κs = omega (arith, c .before .pre .rates)
+tasks-place-requires c κs = let o = c .before .pre in omega (arith, o .counted, o .whole .rates-range .1)
 
 loop-holds : tie.Need-loop-holds Inv-loop μ-loop
 loop-holds c = record {
@@ -71,7 +71,7 @@ returns c =
     passed-here (start b .pre) (b .loop .inv) (omega arith) (d .common-divisor .ensures .0) (c .if1 .taken)
 
 task-size-requires : tie.Need-task-size-requires Inv-loop μ-loop
-task-size-requires c κs = omega (arith, start (turn-of (c .before .before)) .pre .rates)
+task-size-requires c κs = let o = start (turn-of (c .before .before)) .pre in omega (arith, o .counted, o .whole .rates-range .1)
 
 add-at : tie.Need-add-at Inv-loop μ-loop
 add-at c =

@@ -12,21 +12,21 @@ use Rattle.generator.proofs.put_front.Statement.{statement}
 use Rattle.generator.proofs.put_front.Tie as tie
 
 -- The ways back: to the head's size, and to the start.
-abbrev head : tie.After-put-zeros → tie.After-head-size
+abbrev head : tie.After-put-figures → tie.After-head-size
 head z = z .before .before
 
 abbrev start : tie.After-head-size → tie.Start
 start k = k .before .before
 
-abbrev zeros : tie.After-put-rates → tie.After-put-zeros
+abbrev zeros : tie.After-put-figures2 → tie.After-put-figures
 zeros r = r .before .before .before .before
 
 -- The list is as long as it was.
-same : (z : tie.After-put-zeros) → length (z .put-zeros .last .0) ≡ length (now (start (head z) .args .list))
-same z = z .put-zeros .kept .0 ∙ simp length-set
+same : (z : tie.After-put-figures) → length (z .put-figures .last .0) ≡ length (now (start (head z) .args .list))
+same z = z .put-figures .kept .0 ∙ simp length-set
 
-same-rates : (r : tie.After-put-rates) → length (r .put-rates .last .0) ≡ length (now (start (head (zeros r)) .args .list))
-same-rates r = r .put-rates .kept .0 ∙ simp length-set (same (zeros r))
+same-rates : (r : tie.After-put-figures2) → length (r .put-figures2 .last .0) ≡ length (now (start (head (zeros r)) .args .list))
+same-rates r = r .put-figures2 .kept .0 ∙ simp length-set (same (zeros r))
 
 head-size-requires : tie.Need-head-size-requires
 head-size-requires c κs = search needs
@@ -34,11 +34,12 @@ head-size-requires c κs = search needs
 slice-write-list : tie.Need-slice-write-list
 slice-write-list c = search needs
 
-sub-put-zeros : tie.Need-sub-put-zeros
-sub-put-zeros c = omega (arith, c .before .head-size .ensures, slack-in-head Ordinary)
+sub-put-figures : tie.Need-sub-put-figures
+sub-put-figures c = omega (arith, c .before .head-size .ensures, slack-in-head Ordinary)
 
-put-zeros-requires : tie.Need-put-zeros-requires
-put-zeros-requires c κs = simp length-set (omega (arith, start (c .before) .pre, c .before .head-size .ensures, slack-in-head Ordinary))
+put-figures-requires : tie.Need-put-figures-requires
+put-figures-requires c κs =
+    simp length-set (omega (arith, start (c .before) .pre, c .before .head-size .ensures, slack-in-head Ordinary, head-few Ordinary))
 
 cast-list : tie.Need-cast-list
 cast-list c = search needs
@@ -51,11 +52,11 @@ slice-write-list-2 c =
     let z = c .before .before in
     omega (arith, same z, start (head z) .pre, head z .head-size .ensures)
 
-add-put-rates : tie.Need-add-put-rates
-add-put-rates c = omega (arith, head (c .before .before .before) .head-size .ensures, head-few Ordinary)
+add-put-figures : tie.Need-add-put-figures
+add-put-figures c = omega (arith, head (c .before .before .before) .head-size .ensures, head-few Ordinary)
 
-put-rates-requires : tie.Need-put-rates-requires
-put-rates-requires c κs =
+put-figures-requires-2 : tie.Need-put-figures-requires-2
+put-figures-requires-2 c κs =
     let z = c .before .before .before in
     simp length-set (omega (arith, same z, start (head z) .pre, head z .head-size .ensures))
 
@@ -79,7 +80,7 @@ front-stored c =
     let z = zeros r in
     let s = start (head z) in
     front-written (s .args .n) _ _ (now (s .args .list)) _ _ (head z .head-size .ensures) (c .task-count-place .ensures) (s .pre)
-    (z .put-zeros .ensures) (r .put-rates .ensures)
+    (z .put-figures .ensures) (r .put-figures2 .ensures)
 
 pub put-front-spec : {M : Type 1} → statement M
 put-front-spec =
@@ -87,13 +88,13 @@ put-front-spec =
     (tie.spec
     head-size-requires
     slice-write-list
-    sub-put-zeros
-    put-zeros-requires
+    sub-put-figures
+    put-figures-requires
     cast-list
     mul-list
     slice-write-list-2
-    add-put-rates
-    put-rates-requires
+    add-put-figures
+    put-figures-requires-2
     task-count-place-requires
     mul-list-2
     slice-write-list-3

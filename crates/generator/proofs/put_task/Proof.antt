@@ -6,6 +6,8 @@ use mathlib.Core.List.{List}
 use native.Mathlib.Omega.{arith}
 use denote.Ref.{now}
 use lib.ListN.{length, length-set}
+use Rattle.layout.specs.declared.Layout.the-variants.{Ordinary}
+use Rattle.layout.proofs.Layouts.{extra-few}
 use Rattle.lists.specs.Writing.{written}
 use Rattle.generator.proofs.Parts.{state-behind, task-words, task-written}
 use borrow.Author.Needs.{needs}
@@ -19,7 +21,7 @@ steps k = k .before .before .before .before
 abbrev start : tie.After-draw3 → tie.Start
 start k = steps k .before .before .before .before
 
-abbrev drawn : tie.After-put-zeros → tie.After-draw3
+abbrev drawn : tie.After-put-figures → tie.After-draw3
 drawn z = z .before .before .before
 
 next-requires : tie.Need-next-requires
@@ -46,9 +48,6 @@ add-c c = search needs
 draw-requires-3 : tie.Need-draw-requires-3
 draw-requires-3 c κs = search needs
 
-add-factor : tie.Need-add-factor
-add-factor c = search needs
-
 mul-list : tie.Need-mul-list
 mul-list c = search needs
 
@@ -67,29 +66,30 @@ slice-write-list-2 c = simp length-set (omega (arith, start c .pre))
 before-energies-requires : tie.Need-before-energies-requires
 before-energies-requires c κs = search needs
 
-add-put-zeros : tie.Need-add-put-zeros
-add-put-zeros c = search needs
+add-put-figures : tie.Need-add-put-figures
+add-put-figures c = search needs
 
-sub-put-zeros : tie.Need-sub-put-zeros
-sub-put-zeros c = search needs
+sub-put-figures : tie.Need-sub-put-figures
+sub-put-figures c = search needs
 
-put-zeros-requires : tie.Need-put-zeros-requires
-put-zeros-requires c κs = simp length-set (omega (arith, start (c .before .before) .pre, c .before .before-energies .ensures))
+put-figures-requires : tie.Need-put-figures-requires
+put-figures-requires c κs =
+    simp length-set (omega (arith, start (c .before .before) .pre, c .before .before-energies .ensures, extra-few Ordinary))
 
 -- The list is as long as it was.
-same : (z : tie.After-put-zeros) → length (z .put-zeros .last .0) ≡ length (now (start (drawn z) .args .list))
-same z = z .put-zeros .kept .0 ∙ simp length-set
+same : (z : tie.After-put-figures) → length (z .put-figures .last .0) ≡ length (now (start (drawn z) .args .list))
+same z = z .put-figures .kept .0 ∙ simp length-set
 
-add-put-energies : tie.Need-add-put-energies
-add-put-energies c = search needs
+add-put-figures-2 : tie.Need-add-put-figures-2
+add-put-figures-2 c = search needs
 
-put-energies-requires : tie.Need-put-energies-requires
-put-energies-requires c κs =
+put-figures-requires-2 : tie.Need-put-figures-requires-2
+put-figures-requires-2 c κs =
     let z = c .before .before .before in
     (omega (arith, same z, start (drawn z) .pre, z .before .before .before-energies .ensures), omega arith)
 
 same-length : tie.Need-same-length
-same-length c = let x = c .before .before in x .put-energies .kept .0 ∙ same (x .before .before .before .before)
+same-length c = let x = c .before .before in x .put-figures2 .kept .0 ∙ same (x .before .before .before .before)
 
 task-stored : tie.Need-returns
 task-stored c =
@@ -103,7 +103,7 @@ task-stored c =
     let three = s .next3 .ensures in
     let front = z .before .before .before-energies .ensures in (
       state-behind (a .state) _ _ _ one two three,
-      task-written _ _ _ _ (now (a .list)) _ _ (a .at) front (omega (arith, start k .pre)) (z .put-zeros .ensures) (x .put-energies .ensures)
+      task-written _ _ _ _ (now (a .list)) _ _ (a .at) front (omega (arith, start k .pre)) (z .put-figures .ensures) (x .put-figures2 .ensures)
           ∙ ap (λ (ws : List ℕ). written (a .at) ws (now (a .list)))
           (task-words (a .state) _ _ _ one two three _ _ _ _ (k .before .before .before .draw .ensures) (k .before .draw2 .ensures)
           (k .draw3 .ensures) (k .before .before .period .ensures)),
@@ -121,17 +121,16 @@ put-task-spec =
     draw-requires-2
     add-c
     draw-requires-3
-    add-factor
     mul-list
     slice-write-list
     add-list
     mul-list-2
     slice-write-list-2
     before-energies-requires
-    add-put-zeros
-    sub-put-zeros
-    put-zeros-requires
-    add-put-energies
-    put-energies-requires
+    add-put-figures
+    sub-put-figures
+    put-figures-requires
+    add-put-figures-2
+    put-figures-requires-2
     same-length
     task-stored)
