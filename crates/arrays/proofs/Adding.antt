@@ -25,6 +25,11 @@ sum-low bound options plan t small few =
       small 0,
     )
 
+-- The first unit is not above 2 ^ 63, as no sum of energies is.
+pub energies-low : (energies plan : List ℕ) (t : ℕ) → Small energyBound energies → t ≤ 32
+    → total (optionAt energies) t plan ≤ 2 ^ 63
+energies-low energies plan t small few = omega (arith, sum-low energyBound energies plan t small few)
+
 -- Energies are small enough to be summed as loads are.
 pub as-loads : (options : List ℕ) → Small energyBound options → Small loadBound options
 as-loads options small k = omega (arith, small k)
