@@ -8,11 +8,11 @@ use mathlib.Core.Logic.{⊎-elim}
 use native.Mathlib.Omega.{arith}
 use lib.ListN.{length}
 use Rattle.numbers.proofs.Tests.{lt-or-le}
-use Rattle.selection.specs.Plan.{Fitting}
+use Rattle.selection.specs.Plan.{Fitting, mostPlans}
 use Rattle.layout.specs.Words.{idlePlace, idle, rateCount, taskCount}
 use Rattle.layout.specs.declared.Layout.the-variants.{Ordinary}
 use Rattle.taskset.specs.Quantities.{problem}
-use Rattle.taskset.specs.Refusals.{number, second, mostPlans, Check, Refuses, noneCheck, dullReadyChecks, dullChecks}
+use Rattle.taskset.specs.Refusals.{number, second, Check, Refuses, noneCheck, dullReadyChecks, dullChecks}
 use Rattle.taskset.specs.Calls.{SetAfter, RateNumbers, DullGives}
 use Rattle.taskset.specs.declared.Refusal.{Refusal}
 use Rattle.taskset.specs.declared.Refusal.the-variants.{NoPlan}

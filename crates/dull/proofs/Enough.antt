@@ -4,9 +4,10 @@ use Prim.Native.Nat.{ℕ, suc, _^_, _≤_, _<_, min}
 use mathlib.Core.Path.{_≡_, refl, ap₂}
 use mathlib.Core.List.{List}
 use native.Mathlib.Omega.{arith}
+use Rattle.selection.specs.Plan.{mostPlans}
 use Rattle.layout.specs.Words.{rateCount, taskCount}
 use Rattle.layout.specs.declared.Layout.the-variants.{Ordinary}
-use Rattle.taskset.specs.Refusals.{mostPlans, IsTooMany, Passes, manyCheck}
+use Rattle.taskset.specs.Refusals.{IsTooMany, Passes, manyCheck}
 use Rattle.options.proofs.Enough.{SetPassed, whole}
 
 module _ {s : List ℕ} {m n l : ℕ} (passed-set : SetPassed s m n l) where

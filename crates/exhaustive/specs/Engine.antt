@@ -6,17 +6,13 @@ use mathlib.Core.Logic.{_⊎_}
 use lib.ListN.{length, getD}
 use Rattle.numbers.specs.Numbers.{total}
 use Rattle.arithmetic.specs.declared.Power.{Power}
-use Rattle.selection.specs.Plan.{Problem, planLoad, planEnergy, rounded, Fitting, IsChosenOf, IsUsedOf}
+use Rattle.selection.specs.Plan.{Problem, planLoad, planEnergy, rounded, Fitting, IsChosenOf, IsUsedOf, mostPlans}
 use Rattle.arrays.specs.declared.Request.{Request}
 use Rattle.arrays.specs.Arrays.{optionAt, loadBound, energyBound, Small, arrays, Asked, EngineReady}
 use Rattle.exhaustive.specs.Order.{rank}
 use Rattle.exhaustive.specs.declared.Sums.{Sums}
 use Rattle.exhaustive.specs.declared.Best.{Best}
 use Rattle.exhaustive.specs.declared.Used.{Used}
-
--- How many plans the engine goes through at most.
-abbrev pub mostPlans : ℕ
-mostPlans = 1000000
 
 -- No plan costs as much: this cost stands for 'no plan yet'.
 abbrev pub noCost : ℕ

@@ -12,7 +12,7 @@ use Rattle.numbers.specs.Numbers.{running, total}
 use Rattle.numbers.proofs.Search.{lowest-same}
 use Rattle.numbers.proofs.Sums.{total-same}
 use Rattle.numbers.proofs.Multiples.{running-same}
-use Rattle.selection.specs.Plan.{IsPlan, Fitting, IsPlanned, workWords}
+use Rattle.selection.specs.Plan.{IsPlan, Fitting, IsPlanned, workWords, mostPlans}
 use Rattle.selection.specs.Same.{Same}
 use Rattle.selection.proofs.Same.{load-same, fitting-same, planned-same}
 use Rattle.layout.specs.Words.{extraSize, headSize, word, slack, slackPlace, idle, idlePlace, rateCount, taskCount}
@@ -26,7 +26,7 @@ use Rattle.layout.proofs.Whole.{whole-of}
 use Rattle.taskset.specs.Quantities.{jobTicks, jobTime, hyperPeriod, taskEnergy, problem}
 use Rattle.taskset.specs.Quantities.{reportedEnergy, workNeeded}
 use Rattle.taskset.specs.Refusals.{number, second, RateFault, IsNotAbove, EnergyFault, IsBelowIdle, PassesLimit, IsTooLong}
-use Rattle.taskset.specs.Refusals.{mostPlans, IsTooMany, IsShort, NoneOk, Check, Passes, _▹_, check, wordCheck}
+use Rattle.taskset.specs.Refusals.{IsTooMany, IsShort, NoneOk, Check, Passes, _▹_, check, wordCheck}
 use Rattle.taskset.specs.Refusals.{idleChecks, hyperCheck, roomCheck, noneCheck, plannerChecks, dullChecks}
 use Rattle.taskset.specs.Calls.{plannerValues, Selected, HoldsPlan, PlanGives}
 use Rattle.taskset.specs.Calls.{Cleared, WorkAfter, DifferInFirsts, PlannerGives, DullGives}

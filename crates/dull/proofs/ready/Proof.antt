@@ -3,8 +3,9 @@
 use Prim.Native.Nat.{_≤_}
 use mathlib.Core.Path.{refl, subst}
 use native.Mathlib.Omega.{arith}
+use Rattle.selection.specs.Plan.{mostPlans}
 use Rattle.layout.specs.declared.Layout.the-variants.{Ordinary}
-use Rattle.taskset.specs.Refusals.{mostPlans, Check, Passes, _▹_, idleChecks, hyperCheck, manyCheck}
+use Rattle.taskset.specs.Refusals.{Check, Passes, _▹_, idleChecks, hyperCheck, manyCheck}
 use Rattle.taskset.specs.Calls.{SetAfter}
 use Rattle.taskset.specs.declared.Refusal.the-variants.{TooManyPlans}
 use Rattle.options.proofs.Enough.{SetPassed, set-refused, own-refused, plan-short, is-ready}
