@@ -9,7 +9,7 @@ use lib.ListN.{length, getD, take, drop}
 use Rattle.selection.specs.Plan.{Fitting, planLoad}
 use Rattle.layout.specs.Words.{taskCount}
 use Rattle.layout.specs.declared.Layout.the-variants.{Ordinary}
-use Rattle.taskset.specs.Quantities.{hyperPeriod, problem, reportedEnergy}
+use Rattle.taskset.specs.Quantities.{energyBits, hyperPeriod, problem, reportedEnergy}
 use Rattle.taskset.specs.Refusals.{number, second, Check, Accepts, Refuses, _▹_, roomCheck, noneCheck}
 use Rattle.taskset.specs.Calls.{code, RateNumbers, PlanGives}
 use Rattle.taskset.specs.DemandThree.{PlanPromise}
@@ -121,7 +121,7 @@ module _ (s : List ℕ) (cs : List Check) (plans : Plans s cs)
         let load-read : resultAt d′ 1 ≡ load = read 1 (omega arith) (omega (arith, load-is, fits .fits, set .hyper-range .1)) in
         let hyper-read : resultAt d′ 2 ≡ hyper = read 2 (omega arith) (omega (arith, hyper-is, set .hyper-range .1)) in
         let free : ℕ = hyperPeriod Ordinary s - planLoad (problem s) P in
-        let energy-few : energy < 2 ^ 49
+        let energy-few : energy < 2 ^ energyBits
         = omega (arith, energy-is, energy-small Ordinary s set P (fits .plan) free (omega arith)) in
         let energy-read : resultAt d′ 3 ≡ energy = read 3 (omega arith) (omega (arith, energy-few)) in
         let promise : PlanPromise s (take (taskCount Ordinary s) plan′) unit energy

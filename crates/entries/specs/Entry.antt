@@ -8,7 +8,7 @@ use Rattle.schedule.specs.Walk.{KeepsForEver}
 use Rattle.selection.specs.Plan.{Fitting, planLoad}
 use Rattle.layout.specs.Words.{rateCount, taskCount}
 use Rattle.layout.specs.declared.Layout.the-variants.{Ordinary}
-use Rattle.taskset.specs.Quantities.{hyperPeriod, problem, walkTasks}
+use Rattle.taskset.specs.Quantities.{energyBits, marginBits, hyperPeriod, problem, walkTasks}
 use Rattle.taskset.specs.Refusals.{number, second, Check, Accepts, Refuses, _▹_, roomCheck}
 use Rattle.taskset.specs.Refusals.{noneCheck, readyChecks, dullReadyChecks, walkChecks}
 use Rattle.taskset.specs.Calls.{code, plannerValues, walkValues, RateNumber, PlannerGives, DullGives, WalkAnswers}
@@ -93,8 +93,8 @@ pub record PlansEntry (cs : List Check) (Gives : PlannerAnswer → Type 0) (Unch
   pub numbers : returned ≡ 0 → (t : ℕ) → t < taskCount Ordinary s → RateNumber (rateCount Ordinary s) (getD plan′ t 0)
   pub promise : returned ≡ 0
       → PlanPromise s (take (taskCount Ordinary s) plan′) (resultAt results′ 0) (resultAt results′ 3)
-  pub margin-fits : returned ≡ 0 → margin s (resultAt results′ 0) < 2 ^ 54
-  pub energy-fits : returned ≡ 0 → resultAt results′ 3 < 2 ^ 49
+  pub margin-fits : returned ≡ 0 → margin s (resultAt results′ 0) < 2 ^ marginBits
+  pub energy-fits : returned ≡ 0 → resultAt results′ 3 < 2 ^ energyBits
   pub load-is : returned ≡ 0 → resultAt results′ 1 ≡ planLoad (problem s) (take (taskCount Ordinary s) plan′)
   pub hyper-is : returned ≡ 0 → resultAt results′ 2 ≡ hyperPeriod Ordinary s
   pub seven-iff : (returned ≡ 7 * 2 ^ 32) ↔ (Accepts (beforeSeven cs (length results)) × NoneKeeps s)

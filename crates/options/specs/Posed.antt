@@ -10,7 +10,7 @@ use Rattle.layout.specs.declared.Layout.the-variants.{Ordinary}
 use Rattle.taskset.specs.Quantities.{hyperPeriod, problem}
 use Rattle.taskset.specs.Sets.{IsSet}
 use Rattle.taskset.specs.Sets.{Covered}
-use Rattle.arrays.specs.Arrays.{arrays, Asked, Small}
+use Rattle.arrays.specs.Arrays.{loadBound, energyBound, arrays, Asked, Small}
 use Rattle.arrays.specs.declared.Request.{Request}
 use Rattle.options.specs.Options.{LaidBoth}
 use Rattle.options.specs.declared.Posed.{Posed}
@@ -29,8 +29,8 @@ pub record Poses (s loads energies : List ℕ) (q : Request) : Type 0 where
   pub same : Same (arrays q loads energies) (problem s)
   pub slack-is : q .slack ≡ slack s
   pub asked : Asked q loads energies
-  pub loads-fit : Small loads
-  pub energies-fit : Small energies
+  pub loads-fit : Small loadBound loads
+  pub energies-fit : Small energyBound energies
 
 -- The request where a plan fits, or that none does.
 abbrev pub PosedFor : (s loads energies : List ℕ) → Posed → Type 0

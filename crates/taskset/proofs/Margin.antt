@@ -15,9 +15,9 @@ use Rattle.selection.proofs.Bounds.{margin-in-slack}
 use Rattle.selection.proofs.Fastest.{fastest-plan}
 use Rattle.layout.specs.Words.{slack, taskCount}
 use Rattle.layout.specs.declared.Layout.the-variants.{Ordinary}
-use Rattle.taskset.specs.Quantities.{hyperLimit, problem, taskNet, reportedEnergy}
+use Rattle.taskset.specs.Quantities.{energyBits, marginBits, problem, taskNet, reportedEnergy}
 use Rattle.taskset.specs.DemandThree.{Keeps, margin, IsLeast, PlanPromise}
-use Rattle.taskset.specs.Sets.{IsSet}
+use Rattle.taskset.specs.Sets.{IsSet, mostTaskEnergy}
 use Rattle.taskset.proofs.Sets.{task-net-small}
 use Rattle.taskset.specs.Sets.{Covered}
 use Rattle.taskset.proofs.Idle.{reported-is}
@@ -64,23 +64,23 @@ module _ (s P : List ℕ) (unit energy : ℕ) (promise : PlanPromise s P unit en
 
 -- Of the plan selected, with 2 ^ a the unit used.
 module _ (s : List ℕ) (set : IsSet Ordinary s) (P : List ℕ) (a : ℕ) (planned : IsPlanned (problem s) (slack s) a P) where
-  -- The first unit is at most 2 ^ 49, as no plan's energy is above that: so the margin is below 2 ^ 54.
-  pub unit-small : 2 ^ a ≤ 2 ^ 49
+  -- The first unit is at most 2 ^ energyBits, as no plan's energy is above that: so the margin is below 2 ^ marginBits.
+  pub unit-small : 2 ^ a ≤ 2 ^ energyBits
   unit-small =
       let fast = fastest-plan (problem s) (omega (arith, set .whole .rates-range .0)) in
-      let most : planEnergy (problem s) (fastest (problem s)) ≤ 2 ^ 49
+      let most : planEnergy (problem s) (fastest (problem s)) ≤ 2 ^ energyBits
       = omega (
         arith,
-        total-bound (taskNet Ordinary s) (hyperLimit * 1000000) (taskCount Ordinary s) (fastest (problem s))
+        total-bound (taskNet Ordinary s) mostTaskEnergy (taskCount Ordinary s) (fastest (problem s))
             (λ t l. task-net-small Ordinary s set t _ l (fast .above t l) (fast .below t l)),
         set .whole .tasks-range .1,
       ) in
-      let few : a ≤ 49 = omega (arith, planned .used .tried, planned .used .is-first .smallest 49 most) in
+      let few : a ≤ energyBits = omega (arith, planned .used .tried, planned .used .is-first .smallest energyBits most) in
       pow-le-pow-right {n = 2} (omega arith) few
 
-  pub margin-small : margin s (2 ^ a) < 2 ^ 54
+  pub margin-small : margin s (2 ^ a) < 2 ^ marginBits
   margin-small =
-      let few : 2 ^ a - 1 ≤ 2 ^ 49 - 1 = omega (arith, unit-small) in
+      let few : 2 ^ a - 1 ≤ 2 ^ energyBits - 1 = omega (arith, unit-small) in
       omega (arith, mul-le-mul (set .whole .tasks-range .1) few)
 
   -- With a slack of at most 500 the margin is never above the slack's allowance.
