@@ -3,7 +3,7 @@
 use Prim.Native.Nat.{ℕ, _+_, _-_, _*_, _/_, _^_, _≤_, _<_}
 use mathlib.Core.Path.{_≡_, refl, sym, ap, _∙_}
 use mathlib.Core.List.{List}
-use native.Mathlib.Nat.{pow-le-pow-right}
+use native.Mathlib.Nat.{mul-le-mul-right, pow-le-pow-right}
 use native.Mathlib.Numerals.{add-one}
 use native.Mathlib.Omega.{arith}
 use lib.ListN.{getD, replicate, length-replicate, getD-replicate}
@@ -11,12 +11,28 @@ use Rattle.numbers.specs.Numbers.{total}
 use Rattle.arithmetic.specs.declared.Power.{Power}
 use Rattle.numbers.proofs.Sums.{total-more, total-bound, total-same}
 use Rattle.numbers.proofs.Powers.{power-positive}
-use Rattle.arrays.specs.Arrays.{optionAt, Small, SumReady, costOf, RoundReady}
+use Rattle.arrays.specs.Arrays.{optionAt, loadBound, energyBound, Small, SumReady, costOf, RoundReady}
 
 -- ---- sums
-pub sum-low : (options plan : List ℕ) (t : ℕ) → Small options → t ≤ 32 → total (optionAt options) t plan ≤ 2 ^ 63
-sum-low options plan t small few =
-    omega (arith, total-bound (optionAt options) (2 ^ 58) t plan (λ i l. omega (arith, small (i * 16 + getD plan i 0))))
+-- Of at most 32 options below a bound.
+pub sum-low : (bound : ℕ) (options plan : List ℕ) (t : ℕ) → Small bound options → t ≤ 32
+    → total (optionAt options) t plan < 32 * bound
+sum-low bound options plan t small few =
+    omega (
+      arith,
+      total-bound (optionAt options) (bound - 1) t plan (λ i l. omega (arith, small (i * 16 + getD plan i 0))),
+      mul-le-mul-right (bound - 1) few,
+      small 0,
+    )
+
+-- The first unit is not above 2 ^ 63, as no sum of energies is.
+pub energies-low : (energies plan : List ℕ) (t : ℕ) → Small energyBound energies → t ≤ 32
+    → total (optionAt energies) t plan ≤ 2 ^ 63
+energies-low energies plan t small few = omega (arith, sum-low energyBound energies plan t small few)
+
+-- Energies are small enough to be summed as loads are.
+pub as-loads : (options : List ℕ) → Small energyBound options → Small loadBound options
+as-loads options small k = omega (arith, small k)
 
 pub sum-turn : (f : ℕ → ℕ → ℕ) (t : ℕ) (P : List ℕ) {s : ℕ} → s ≡ total f t P → s + f t (getD P t 0) ≡ total f (t + 1) P
 sum-turn f t P e = rw (add-one t) (ap (λ (x : ℕ). x + f t (getD P t 0)) e ∙ sym (total-more f t P))
@@ -31,7 +47,7 @@ module _ (tasks rates : ℕ) (few : tasks ≤ 32) where
       total-same f f tasks (replicate 32 rates) (replicate tasks rates)
       (λ t l. ap (f t) (every t l ∙ sym (getD-replicate tasks t rates 0 l)))
 
-  pub fastest-ready : (options : List ℕ) → rates ≤ 8 → Small options → SumReady tasks options (replicate 32 rates)
+  pub fastest-ready : (options : List ℕ) → rates ≤ 8 → Small loadBound options → SumReady tasks options (replicate 32 rates)
   fastest-ready options h small = record {
     few = few;
     room = omega (arith, length-replicate {A = ℕ} 32 rates);

@@ -10,7 +10,7 @@ use Rattle.numbers.specs.Numbers.{total}
 use Rattle.numbers.proofs.Sums.{total-same}
 use Rattle.selection.specs.Plan.{Problem, Fitting, IsUsedOf, IsChosenOf}
 use Rattle.arrays.specs.declared.Request.{Request}
-use Rattle.arrays.specs.Arrays.{optionAt, Small, SumReady, arrays, EngineReady, ChosenBy}
+use Rattle.arrays.specs.Arrays.{optionAt, loadBound, Small, SumReady, arrays, EngineReady, ChosenBy}
 use Rattle.arrays.proofs.Writing.{rest-same}
 
 module _ {q : Request} {loads energies plan₀ : List ℕ} (g : EngineReady q loads energies plan₀)
@@ -28,7 +28,7 @@ module _ {q : Request} {loads energies plan₀ : List ℕ} (g : EngineReady q lo
   this = arrays q loads energies
 
   module _ (exponent : ℕ) (chosen : IsChosenOf (Fitting this) this (2 ^ exponent) (take (q .tasks) plan)) where
-    pub sum-ready : (options : List ℕ) → Small options → SumReady (q .tasks) options plan
+    pub sum-ready : (options : List ℕ) → Small loadBound options → SumReady (q .tasks) options plan
     sum-ready options small = record {
       few = g .asked .tasks;
       room = omega (arith, g .plan-room);

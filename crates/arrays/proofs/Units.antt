@@ -17,9 +17,9 @@ use Rattle.numbers.proofs.Tests.{or-true, or-false}
 use Rattle.selection.specs.Plan.{Problem, Fitting, planEnergy, fastest, threshold, IsLeastOf, FallsShortOf, IsUsedOf}
 use Rattle.selection.proofs.Bounds.{last-small, tried-in-table}
 use Rattle.selection.proofs.Fastest.{fastest-fits}
-use Rattle.arrays.specs.Arrays.{optionAt, arrays, Small, Asked}
+use Rattle.arrays.specs.Arrays.{optionAt, arrays, energyBound, Small, Asked}
 use Rattle.arrays.specs.declared.Request.{Request}
-use Rattle.arrays.proofs.Adding.{sum-low}
+use Rattle.arrays.proofs.Adding.{energies-low}
 
 -- What holds before a unit is tried, where 2 ^ first is the first unit.
 pub record Tried (p : Problem) (G first : ℕ) (unit : Power) : Type 0 where
@@ -43,11 +43,11 @@ module _ (q : Request) (loads energies : List ℕ) {x : ℕ} {unit : Power}
       }
 
 -- No first unit is above 2 ^ 63.
-pub first-low : (q : Request) (loads energies : List ℕ) {first : ℕ} → Small energies → q .tasks ≤ 32
+pub first-low : (q : Request) (loads energies : List ℕ) {first : ℕ} → Small energyBound energies → q .tasks ≤ 32
     → LeastPower (planEnergy (arrays q loads energies) (fastest (arrays q loads energies))) first → first ≤ 63
 unfolding fastest
 first-low q loads energies small few is =
-    is .smallest 63 (sum-low energies (replicate (q .tasks) (q .rates)) (q .tasks) small few)
+    is .smallest 63 (energies-low energies (replicate (q .tasks) (q .rates)) (q .tasks) small few)
 
 -- A power of two above 1 is twice the one before it.
 pub doubled : {a : ℕ} → 0 < a → 2 ^ a ≡ 2 * 2 ^ (a - 1)

@@ -21,16 +21,25 @@ pub record Written (g : ℕ → ℕ) (lo hi : ℕ) (d₀ d : List ℕ) : Type 0 
   pub below : (p : ℕ) → p < lo → getD d p 0 ≡ getD d₀ p 0
   pub above : (p : ℕ) → hi ≤ p → getD d p 0 ≡ getD d₀ p 0
 
--- Sums of 32 options fit.
-abbrev pub Small : List ℕ → Type 0
-Small options = (k : ℕ) → getD options k 0 < 2 ^ 58
+-- How large options may be: what every load, and every energy and its cost by a unit, is below. Sums of 32 loads fit 64
+-- bits, with nothing to spare; those of 32 energies are far below, as the unit rule wants them: the first unit is a
+-- power of two not below such a sum.
+abbrev pub loadBound : ℕ
+loadBound = 2 ^ 59
 
--- What the sum over a plan's first tasks asks.
+abbrev pub energyBound : ℕ
+energyBound = 2 ^ 47
+
+-- Every option is below a bound.
+abbrev pub Small : ℕ → List ℕ → Type 0
+Small bound options = (k : ℕ) → getD options k 0 < bound
+
+-- What the sum over a plan's first tasks asks, of loads or of energies.
 pub record SumReady (tasks : ℕ) (options plan : List ℕ) : Type 0 where
   pub few : tasks ≤ 32
   pub room : tasks ≤ length plan
   pub numbers : (t : ℕ) → t < tasks → getD plan t 0 ≤ 8
-  pub small : Small options
+  pub small : Small loadBound options
 
 -- An energy by the unit 2 ^ exponent; and what costs by a unit ask.
 abbrev pub costOf : List ℕ → ℕ → ℕ → ℕ
@@ -40,7 +49,7 @@ pub record RoundReady (tasks : ℕ) (unit : Power) (energies cost : List ℕ) : 
   pub few : tasks ≤ 32
   pub power : unit .value ≡ 2 ^ (unit .exponent)
   pub low : unit .exponent ≤ 63
-  pub small : Small energies
+  pub small : Small energyBound energies
   pub size : length cost ≡ 512
 
 -- The problem that the arrays give.
@@ -64,8 +73,8 @@ pub record Asked (q : Request) (loads energies : List ℕ) : Type 0 where
 -- What every engine asks besides: sums that fit, and room for the plan.
 pub record EngineReady (q : Request) (loads energies plan : List ℕ) : Type 0 where
   pub asked : Asked q loads energies
-  pub loads-fit : Small loads
-  pub energies-fit : Small energies
+  pub loads-fit : Small loadBound loads
+  pub energies-fit : Small energyBound energies
   pub plan-room : q .tasks ≤ length plan
 
 -- What every engine gives: the plan selected in the first words of the plan list, its unit, load and energy; every

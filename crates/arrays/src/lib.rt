@@ -7,7 +7,7 @@ ghost use Prim.Native.Nat.{_-_, _*_, _/_, _^_, _≤_, _<_};
 ghost use lib.Dec.{eqb, leb};
 ghost use lib.ListN.{replicate};
 ghost use Rattle.numbers.specs.Numbers.{total};
-ghost use Rattle.arrays.specs.Arrays.{optionAt, Written, costOf, Small, RoundReady, SumReady};
+ghost use Rattle.arrays.specs.Arrays.{optionAt, Written, costOf, loadBound, Small, RoundReady, SumReady};
 use arithmetic::Power;
 
 // What a plan is chosen for: so many tasks and rates, the limit of the plan's load, and the slack.
@@ -57,7 +57,7 @@ pub fn sum(options: &[u64; 512], tasks: usize, plan: &[u32]) -> u64
 
 // What so many tasks come to with every task at the highest rate.
 pub fn fastest_sum(options: &[u64; 512], tasks: usize, rates: usize) -> u64
-    requires { ⌜ (tasks ≤ 32) × (rates ≤ 8) × Small (now options) ⌝ }
+    requires { ⌜ (tasks ≤ 32) × (rates ≤ 8) × Small loadBound (now options) ⌝ }
     ensures { λ r. ⌜ r ≡ total (optionAt (now (options .entry))) tasks (replicate tasks rates) ⌝ }
 {
     let plan = [rates as u32; 32];

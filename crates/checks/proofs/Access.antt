@@ -6,7 +6,7 @@ use mathlib.Core.List.{List}
 use native.Mathlib.Omega.{arith}
 use lib.ListN.{length}
 use Rattle.layout.specs.Words.{mostRates, mostTasks, extraSize, word, ratePlace, periodPlace, cyclesPlace, firstPlace}
-use Rattle.layout.specs.Words.{energyPlace, rate, period, cycles, first, energy}
+use Rattle.layout.specs.Words.{longestJob, energyPlace, rate, period, cycles, first, energy}
 use Rattle.layout.specs.declared.Layout.{Layout}
 use Rattle.checks.specs.Steps.{OfTask}
 use Rattle.layout.proofs.Layouts.{first-in-extra}
@@ -24,7 +24,7 @@ pub record Located (layout : Layout) (m t : ℕ) (s : List ℕ) : Type 0 where
   pub cycles-is : word s (cyclesPlace layout m t) ≡ cycles layout s t
   pub first-is : word s (firstPlace layout m t) ≡ first layout s t
   pub energy-is : (r : ℕ) → word s (energyPlace layout m t r) ≡ energy layout s t r
-  pub cycles-range : (1 ≤ cycles layout s t) × (cycles layout s t ≤ 4000000000)
+  pub cycles-range : (1 ≤ cycles layout s t) × (cycles layout s t ≤ longestJob)
   pub rate-range : (r : ℕ) → 1 ≤ r → r ≤ m → (1 ≤ rate layout s r) × (rate layout s r ≤ 1000000)
 
 pub located : {layout : Layout} {m t : ℕ} {s : List ℕ} → OfTask layout m t s → Located layout m t s

@@ -14,7 +14,7 @@ use Rattle.selection.specs.Plan.{Fitting, IsChosenOf, lastColumn, workWords}
 use Rattle.selection.proofs.Bounds.{last-small}
 use Rattle.selection.proofs.Agree.{way-places}
 use Rattle.arrays.specs.declared.Request.{Request}
-use Rattle.arrays.specs.Arrays.{optionAt, Written, Small, SumReady, arrays}
+use Rattle.arrays.specs.Arrays.{optionAt, Written, loadBound, Small, SumReady, arrays}
 use Rattle.arrays.proofs.Writing.{zeros-at}
 use Rattle.arrays.proofs.Chosen.{front-size, front-at, sum-ready, chosen-by}
 use Rattle.choice.specs.declared.Used.{Used}
@@ -86,7 +86,7 @@ module _ {q : Request} {loads energies plan₀ work₀ : List ℕ} (g : ChoiceRe
           (way-places (optionAt cost) (optionAt load) (q .rates) (q .limit + 1) (q .tasks) (o .least) plan (take (q .tasks) plan)
           (λ t l. sym (front-at (g .engine) plan (w .same) t l)) (w .way))
 
-      pub plan-ready : (options : List ℕ) → Small options → SumReady (q .tasks) options plan
+      pub plan-ready : (options : List ℕ) → Small loadBound options → SumReady (q .tasks) options plan
       plan-ready = sum-ready (g .engine) plan (w .same) (u .exponent) chosen
 
       pub chose : {work′ : List ℕ} {l e f : ℕ} → l ≡ total (optionAt loads) (q .tasks) plan → e ≡ total (optionAt energies) (q .tasks) plan

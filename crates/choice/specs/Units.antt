@@ -8,7 +8,7 @@ use Rattle.arithmetic.specs.declared.Power.{Power}
 use Rattle.selection.specs.Plan.{Fitting, IsUsedOf, lastColumn, workWords}
 use Rattle.selection.proofs.Cells.{Way}
 use Rattle.arrays.specs.declared.Request.{Request}
-use Rattle.arrays.specs.Arrays.{optionAt, costOf, Small, RoundReady, arrays, Asked}
+use Rattle.arrays.specs.Arrays.{optionAt, costOf, energyBound, Small, RoundReady, arrays, Asked}
 use Rattle.table.specs.Rows.{entryOf, Framed, RowAt}
 use Rattle.table.specs.declared.Frame.{Frame}
 use Rattle.choice.specs.declared.Used.{Used}
@@ -63,7 +63,7 @@ pub record UnitTabled (f : Frame) (exponent : ℕ) (energies load cost₀ work�
 -- What the search for the unit asks.
 pub record SearchReady (q : Request) (loads energies load cost work : List ℕ) : Type 0 where
   pub asked : Asked q loads energies
-  pub energies-fit : Small energies
+  pub energies-fit : Small energyBound energies
   pub load-size : length load ≡ 512
   pub load-none : (k : ℕ) → getD load k 0 ≡ 0
   pub cost-size : length cost ≡ 512

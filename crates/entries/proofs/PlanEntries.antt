@@ -7,7 +7,7 @@ use mathlib.Core.Logic.{inl, inr, ⊎-elim}
 use native.Mathlib.Omega.{arith}
 use lib.ListN.{length, getD, take, drop}
 use Rattle.selection.specs.Plan.{Fitting, planLoad}
-use Rattle.taskset.specs.Quantities.{problemOf}
+use Rattle.taskset.specs.Quantities.{energyBits, problemOf}
 use Rattle.taskset.specs.Planning.{Planning, planning, layoutOf}
 use Rattle.taskset.specs.Refusals.{number, second, Check, Accepts, Refuses, _▹_, roomCheck, noneCheck}
 use Rattle.taskset.specs.Refusals.{readyChecks, plannerChecks}
@@ -125,7 +125,7 @@ module _ (m : Planning) (cs : List Check) (plans : Plans m cs) (bits : Accepts c
         = read 0 (omega arith) (omega (arith, unit-is, inside .units P (g .1 .1 .exponent) (g .1 .1 .planned))) in
         let load-read : resultAt d′ 1 ≡ load = read 1 (omega arith) (omega (arith, load-is, fits .fits, inside .limit)) in
         let hyper-read : resultAt d′ 2 ≡ hyper = read 2 (omega arith) (omega (arith, hyper-is, inside .hyper)) in
-        let energy-few : energy < 2 ^ 49 = omega (arith, energy-is, inside .energies P fits) in
+        let energy-few : energy < 2 ^ energyBits = omega (arith, energy-is, inside .energies P fits) in
         let energy-read : resultAt d′ 3 ≡ energy = read 3 (omega arith) (omega (arith, energy-few)) in
         let promise : PlanPromise m (take (m .problem .count) plan′) unit energy
         = answer-owes m cs plans plan plan′ (Planned unit load hyper energy) g in

@@ -7,7 +7,7 @@ use lib.ListN.{length, getD, take, drop}
 use Rattle.schedule.specs.Walk.{KeepsForEver}
 use Rattle.selection.specs.Plan.{Fitting, planLoad}
 use Rattle.layout.specs.declared.Layout.the-variants.{Ordinary}
-use Rattle.taskset.specs.Quantities.{walkTasks}
+use Rattle.taskset.specs.Quantities.{energyBits, marginBits, walkTasks}
 use Rattle.taskset.specs.Planning.{Planning, Keeps, planning, layoutOf}
 use Rattle.taskset.specs.Refusals.{number, second, Check, Accepts, Refuses, _▹_, roomCheck}
 use Rattle.taskset.specs.Refusals.{noneCheck, readyChecks, walkChecks}
@@ -96,8 +96,8 @@ pub record PlansEntry (cs : List Check) (Gives : PlannerAnswer → Type 0) (Unch
   pub numbers : returned ≡ 0 → (t : ℕ) → t < m .problem .count → RateNumber (m .problem .rates) (getD plan′ t 0)
   pub promise : returned ≡ 0
       → PlanPromise m (take (m .problem .count) plan′) (resultAt results′ 0) (resultAt results′ 3)
-  pub margin-fits : returned ≡ 0 → margin m (resultAt results′ 0) < 2 ^ 54
-  pub energy-fits : returned ≡ 0 → resultAt results′ 3 < 2 ^ 49
+  pub margin-fits : returned ≡ 0 → margin m (resultAt results′ 0) < 2 ^ marginBits
+  pub energy-fits : returned ≡ 0 → resultAt results′ 3 < 2 ^ energyBits
   pub load-is : returned ≡ 0 → resultAt results′ 1 ≡ planLoad (m .problem) (take (m .problem .count) plan′)
   pub hyper-is : returned ≡ 0 → resultAt results′ 2 ≡ m .hyper
   pub seven-iff : (returned ≡ 7 * 2 ^ 32) ↔ (Accepts (beforeSeven cs (length results)) × NoneKeeps m)

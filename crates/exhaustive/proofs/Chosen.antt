@@ -17,7 +17,8 @@ use Rattle.selection.specs.Plan.{Problem, IsPlan, Fitting, roundedTask, rounded
 use Rattle.selection.specs.Plan.{IsLeastOf, IsChosenOf}
 use Rattle.selection.proofs.Fastest.{fastest-fits}
 use Rattle.arrays.specs.declared.Request.{Request}
-use Rattle.arrays.specs.Arrays.{optionAt, Written, Small, costOf, arrays, ChosenBy, SumReady}
+use Rattle.arrays.specs.Arrays.{optionAt, Written, loadBound, energyBound, Small, costOf, arrays, ChosenBy}
+use Rattle.arrays.specs.Arrays.{SumReady}
 use Rattle.arrays.proofs.Writing.{zeros-at}
 use Rattle.arrays.proofs.Adding.{sum-low}
 use Rattle.arrays.proofs.Chosen.{front-size, front-at, sum-ready, chosen-by}
@@ -33,7 +34,7 @@ use Rattle.exhaustive.proofs.Seeing.{plan-numbered, seen-kept}
 -- The arrays with the costs of any unit 2 ^ a keep to what the engine asks of them.
 module _ {q : Request} {loads energies : List ℕ} {plans : ℕ} (g : AllReady q loads energies plans) (a : ℕ)
     {cost : List ℕ} (w : Written (costOf energies a) 0 (q .tasks * 16) (replicate 512 0) cost) where
-  costs-small : Small cost
+  costs-small : Small energyBound cost
   costs-small k =
       ⊎-elim
       (λ (l : k < q .tasks * 16).
@@ -90,7 +91,7 @@ module _ {q : Request} {loads energies : List ℕ} {plans : ℕ} (g : AllReady q
     kept : Kept by-cost (q .rates ^ q .tasks) b
     kept =
         seen-kept seen (fastest p) (to fast)
-        (omega (arith, sum-low cost (fastest p) (q .tasks) costs-small (g .asked .tasks))) (ranked fast)
+        (omega (arith, sum-low energyBound cost (fastest p) (q .tasks) costs-small (g .asked .tasks))) (ranked fast)
 
     kept-cost : rounded p (2 ^ a) (kept .plan) ≡ b .cost
     kept-cost = sym (costs (kept .plan) (back (kept .fit) .plan)) ∙ kept .cost-is
@@ -159,7 +160,7 @@ module _ {q : Request} {loads energies plan₀ : List ℕ} (g : ExhaustiveReady 
       chosen : IsChosenOf (Fitting own) own (2 ^ u .exponent) (take (q .tasks) plan)
       chosen = rw (← front) (u .best .chosen)
 
-      pub plan-ready : (options : List ℕ) → Small options → SumReady (q .tasks) options plan
+      pub plan-ready : (options : List ℕ) → Small loadBound options → SumReady (q .tasks) options plan
       plan-ready = sum-ready (g .engine) plan (w .same) (u .exponent) chosen
 
       pub engine-chosen : {e : ℕ} → e ≡ total (optionAt energies) (q .tasks) plan

@@ -13,7 +13,7 @@ use lib.Seq.{getD-set-same, getD-set-other}
 use Rattle.numbers.specs.Numbers.{total}
 use Rattle.numbers.proofs.Sums.{total-at, total-bound, total-set}
 use Rattle.arrays.specs.declared.Request.{Request}
-use Rattle.arrays.specs.Arrays.{optionAt, Small, arrays}
+use Rattle.arrays.specs.Arrays.{optionAt, loadBound, energyBound, Small, arrays}
 use Rattle.arrays.proofs.Adding.{sum-low, sum-turn}
 use Rattle.exhaustive.specs.declared.Sums.{Sums}
 use Rattle.exhaustive.specs.declared.Best.{Best}
@@ -57,11 +57,22 @@ module _ {q : Request} {loads cost P : List ℕ} {s : Sums} (g : ArraysReady q l
             omega (arith, total-at (optionAt loads) (q .tasks) P t task, h .load-is),
             omega (arith, total-at (optionAt cost) (q .tasks) P t task, h .cost-is),
           );
-      low = (
-        omega (arith, sum-low loads P (q .tasks) (g .loads-fit) (g .tasks .1), h .load-is),
-        omega (arith, sum-low cost P (q .tasks) (g .costs-fit) (g .tasks .1), h .cost-is),
-      );
-      small = (g .loads-fit to, g .costs-fit to);
+      load-fits =
+          rw (from-is, to-is)
+          (omega (
+            arith,
+            h .load-is,
+            total-set (optionAt loads) (q .tasks) P t r task long,
+            sum-low loadBound loads (set P t r) (q .tasks) (g .loads-fit) (g .tasks .1),
+          ));
+      cost-fits =
+          rw (from-is, to-is)
+          (omega (
+            arith,
+            h .cost-is,
+            total-set (optionAt cost) (q .tasks) P t r task long,
+            sum-low energyBound cost (set P t r) (q .tasks) (g .costs-fit) (g .tasks .1),
+          ));
     }
 
     module _ {s′ : Sums} (c : Changed loads cost s from to s′) where
@@ -117,7 +128,10 @@ module _ {q : Request} {loads cost : List ℕ} {s : Sums} {i : ℕ} {b : Best} (
       ))
       (set-load (g .posed) (g .hand) 0 r (g .posed .tasks .0) above below one that c)
       sum
-      (omega (arith, sum-low cost (set (g .plan) 0 r) (q .tasks) (g .posed .costs-fit) (g .posed .tasks .1)))
+      (omega (
+        arith,
+        sum-low energyBound cost (set (g .plan) 0 r) (q .tasks) (g .posed .costs-fit) (g .posed .tasks .1),
+      ))
       looked
 
 -- ---- the carry
@@ -200,14 +214,15 @@ ones-at : (t : ℕ) → t < 32 → getD (replicate {A = ℕ} 32 1) t 0 ≡ 1
 ones-at t l = getD-replicate 32 t 1 0 l
 
 module _ (options : List ℕ) (t : ℕ) where
-  pub ones-low : Small options → t < 32
-      → total (optionAt options) t (replicate 32 1) + getD options (t * 16 + 1) 0 ≤ 2 ^ 63 + 2 ^ 58
-  ones-low small few = omega (arith, sum-low options (replicate 32 1) t small (omega arith), small (t * 16 + 1))
-
   pub ones-turn : {s : ℕ} → t < 32 → s ≡ total (optionAt options) t (replicate 32 1)
       → s + getD options (t * 16 + 1) 0 ≡ total (optionAt options) (t + 1) (replicate 32 1)
   ones-turn {s} few e =
       ap (λ (r : ℕ). s + optionAt options t r) (sym (ones-at t few)) ∙ sum-turn (optionAt options) t (replicate 32 1) e
+
+  pub ones-low : (bound : ℕ) → Small bound options → t < 32 → {s : ℕ} → s ≡ total (optionAt options) t (replicate 32 1)
+      → s + getD options (t * 16 + 1) 0 < 32 * bound
+  ones-low bound small few e =
+      omega (arith, ones-turn few e, sum-low bound options (replicate 32 1) (t + 1) small (omega arith))
 
 module _ (q : Request) where
   ones-rank : q .tasks ≤ 32 → rank (q .rates) (q .tasks) (replicate 32 1) ≡ 0

@@ -6,17 +6,13 @@ use mathlib.Core.Logic.{_⊎_}
 use lib.ListN.{length, getD}
 use Rattle.numbers.specs.Numbers.{total}
 use Rattle.arithmetic.specs.declared.Power.{Power}
-use Rattle.selection.specs.Plan.{Problem, planLoad, planEnergy, rounded, Fitting, IsChosenOf, IsUsedOf}
+use Rattle.selection.specs.Plan.{Problem, planLoad, planEnergy, rounded, Fitting, IsChosenOf, IsUsedOf, mostPlans}
 use Rattle.arrays.specs.declared.Request.{Request}
-use Rattle.arrays.specs.Arrays.{optionAt, Small, arrays, Asked, EngineReady}
+use Rattle.arrays.specs.Arrays.{optionAt, loadBound, energyBound, Small, arrays, Asked, EngineReady}
 use Rattle.exhaustive.specs.Order.{rank}
 use Rattle.exhaustive.specs.declared.Sums.{Sums}
 use Rattle.exhaustive.specs.declared.Best.{Best}
 use Rattle.exhaustive.specs.declared.Used.{Used}
-
--- How many plans the engine goes through at most.
-abbrev pub mostPlans : ℕ
-mostPlans = 1000000
 
 -- No plan costs as much: this cost stands for 'no plan yet'.
 abbrev pub noCost : ℕ
@@ -67,8 +63,8 @@ pub record ArraysReady (q : Request) (loads cost : List ℕ) : Type 0 where
   pub tasks : (1 ≤ q .tasks) × (q .tasks ≤ 32)
   pub rates : (1 ≤ q .rates) × (q .rates ≤ 8)
   pub few : q .rates ^ q .tasks ≤ mostPlans
-  pub loads-fit : Small loads
-  pub costs-fit : Small cost
+  pub loads-fit : Small loadBound loads
+  pub costs-fit : Small energyBound cost
 
 -- The first numbers of P are a plan with task 1 at rate 1, and s are its sums.
 pub record InHand (q : Request) (loads cost P : List ℕ) (s : Sums) : Type 0 where
@@ -78,12 +74,13 @@ pub record InHand (q : Request) (loads cost P : List ℕ) (s : Sums) : Type 0 wh
   pub load-is : s .load ≡ total (optionAt loads) (q .tasks) P
   pub cost-is : s .cost ≡ total (optionAt cost) (q .tasks) P
 
--- Sums in which the option at one place is replaced by the one at another: what is asked, and what is given.
+-- Sums in which the option at one place is replaced by the one at another: what is asked, and what is given. A sum of
+-- loads may leave no room for one load more, so that the one is taken away before the other is added.
 pub record ChangeReady (loads cost : List ℕ) (s : Sums) (from to : ℕ) : Type 0 where
   pub places : (from < 512) × (to < 512)
   pub within : (getD loads from 0 ≤ s .load) × (getD cost from 0 ≤ s .cost)
-  pub low : (s .load ≤ 2 ^ 63) × (s .cost ≤ 2 ^ 63)
-  pub small : (getD loads to 0 < 2 ^ 58) × (getD cost to 0 < 2 ^ 58)
+  pub load-fits : s .load + getD loads to 0 < 2 ^ 64 + getD loads from 0
+  pub cost-fits : s .cost + getD cost to 0 < 2 ^ 64 + getD cost from 0
 
 pub record Changed (loads cost : List ℕ) (s : Sums) (from to : ℕ) (r : Sums) : Type 0 where
   pub loads-are : r .load + getD loads from 0 ≡ s .load + getD loads to 0
@@ -114,8 +111,8 @@ pub record AllReady (q : Request) (loads energies : List ℕ) (plans : ℕ) : Ty
   pub asked : Asked q loads energies
   pub some : 1 ≤ q .tasks
   pub few : q .rates ^ q .tasks ≤ mostPlans
-  pub loads-fit : Small loads
-  pub energies-fit : Small energies
+  pub loads-fit : Small loadBound loads
+  pub energies-fit : Small energyBound energies
   pub plans-are : plans ≡ q .rates ^ q .tasks
 
 -- What one unit asks besides.

@@ -5,8 +5,9 @@
 ghost use mathlib.Core.Path.{_≡_};
 ghost use Prim.Native.Nat.{suc, _+_, _^_, _≤_, min};
 ghost use lib.ListN.{replicate};
+ghost use Rattle.selection.specs.Plan.{mostPlans};
 ghost use Rattle.arrays.specs.Arrays.{arrays, ChosenBy};
-ghost use Rattle.exhaustive.specs.Engine.{mostPlans, Looked, Seen, ArraysReady, InHand, ChangeReady, Changed};
+ghost use Rattle.exhaustive.specs.Engine.{Looked, Seen, ArraysReady, InHand, ChangeReady, Changed};
 ghost use Rattle.exhaustive.specs.Engine.{BlockReady, AdvanceReady, Advanced, AllReady, UnitReady, ChosenAt};
 ghost use Rattle.exhaustive.specs.Engine.{UnitUsed, PutReady, PlanPut, ExhaustiveReady};
 use arithmetic::Power;

@@ -15,7 +15,7 @@ use Rattle.layout.specs.Words.{headSize, extraKinds, extraSize, mostRate
 use Rattle.layout.specs.Words.{slack, slackPlace, idle, idlePlace, rateCount, taskCount, ratePlace}
 use Rattle.layout.specs.Words.{taskCountPlace, tasksPlace, periodPlace, cyclesPlace, energyPlace, taskSize}
 use Rattle.layout.specs.Words.{wordCount, rate, period, cycles, first, firstPlace, energy, kindIn, headKind, taskKind, kindAt}
-use Rattle.layout.specs.Words.{allows, WordFault}
+use Rattle.layout.specs.Words.{longestJob, mostEnergy, allows, WordFault}
 use Rattle.layout.specs.Whole.{IsWhole}
 use Rattle.layout.specs.declared.Layout.{Layout}
 use Rattle.layout.specs.declared.Kind.{Kind}
@@ -67,11 +67,11 @@ module _ (layout : Layout) (s : List ℕ) where
       unfolding allows
       period-in t h = between-true _ _ _ (word-in t 0 h (omega arith) (periodPlace layout (rateCount layout s) t) Period (omega arith) (kind-period layout))
 
-      cycles-in : (t : ℕ) → t < taskCount layout s → (1 ≤ cycles layout s t) × (cycles layout s t ≤ 4000000000)
+      cycles-in : (t : ℕ) → t < taskCount layout s → (1 ≤ cycles layout s t) × (cycles layout s t ≤ longestJob)
       unfolding allows
       cycles-in t h = between-true _ _ _ (word-in t 1 h (omega arith) (cyclesPlace layout (rateCount layout s) t) Cycles refl (kind-cycles layout))
 
-      energy-in : (t r : ℕ) → t < taskCount layout s → 1 ≤ r → r ≤ rateCount layout s → (1 ≤ energy layout s t r) × (energy layout s t r ≤ 1000000)
+      energy-in : (t r : ℕ) → t < taskCount layout s → 1 ≤ r → r ≤ rateCount layout s → (1 ≤ energy layout s t r) × (energy layout s t r ≤ mostEnergy)
       unfolding allows
       energy-in t r h a b =
           between-true _ _ _ (word-in t (1 + extraSize layout + r) h (omega arith) (energyPlace layout (rateCount layout s) t r) Energy refl (kind-energy layout r a))
@@ -140,7 +140,7 @@ module _ (layout : Layout) (s : List ℕ) where
         ⊎-elim
         (λ (b : k < 2).
         let z : k ≡ 1 = omega arith in
-        rw (z, kind-cycles layout) (true-between 1 4000000000 (cycles layout s t) (w .cycles-range t h .0) (w .cycles-range t h .1)))
+        rw (z, kind-cycles layout) (true-between 1 longestJob (cycles layout s t) (w .cycles-range t h .0) (w .cycles-range t h .1)))
         (λ (b : 2 ≤ k).
         ⊎-elim
         (λ (c : k - 2 < extraSize layout).
@@ -152,7 +152,7 @@ module _ (layout : Layout) (s : List ℕ) where
         let e = w .energy-range t (k - (1 + extraSize layout)) h (omega arith) (omega arith) in
         in-range {k = Energy} (omega arith)
         (sym (subst (λ (j : ℕ). taskKind layout j ≡ Energy) (sym z) (kind-energy layout (k - (1 + extraSize layout)) (omega arith))))
-        (true-between 1 1000000 (energy layout s t (k - (1 + extraSize layout))) (e .0) (e .1)))
+        (true-between 1 mostEnergy (energy layout s t (k - (1 + extraSize layout))) (e .0) (e .1)))
         (lt-or-le (k - 2) (extraSize layout)))
         (lt-or-le k 2))
         (lt-or-le k 1)

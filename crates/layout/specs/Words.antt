@@ -33,8 +33,8 @@ headSize layout = length (headKinds layout)
 abbrev pub extraSize : Layout → ℕ
 extraSize layout = length (extraKinds layout)
 
--- The most rates, tasks and words of the ordinary list, the largest idle energy of a tick, the longest period and the
--- largest energy of a job.
+-- The most rates, tasks and words of the ordinary list, the largest idle energy of a tick, the longest period, the
+-- longest job in cycles and the largest energy of a job.
 abbrev pub mostRates : ℕ
 mostRates = 8
 
@@ -49,6 +49,9 @@ mostIdle = 1000
 
 abbrev pub longestPeriod : ℕ
 longestPeriod = 10000000
+
+abbrev pub longestJob : ℕ
+longestJob = 4000000000
 
 abbrev pub mostEnergy : ℕ
 mostEnergy = 1000000
@@ -169,7 +172,7 @@ allows s q RateCount = between 2 mostRates (word s q)
 allows s q Rate = between 1 1000000 (word s q)
 allows s q TaskCount = between 1 mostTasks (word s q)
 allows s q Period = between 1 longestPeriod (word s q)
-allows s q Cycles = between 1 4000000000 (word s q)
+allows s q Cycles = between 1 longestJob (word s q)
 allows s q First = ltb (word s q) (word s (q - 2))
 allows s q Energy = between 1 mostEnergy (word s q)
 allows s q LeftOver = false

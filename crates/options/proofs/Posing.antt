@@ -18,7 +18,7 @@ use Rattle.layout.proofs.Whole.{slack-in}
 use Rattle.taskset.specs.Quantities.{hyperLimit, hyperPeriod, problemOf}
 use Rattle.taskset.specs.Planning.{planning}
 use Rattle.taskset.proofs.Sets.{falling}
-use Rattle.arrays.specs.Arrays.{optionAt, Small, arrays}
+use Rattle.arrays.specs.Arrays.{optionAt, loadBound, Small, arrays}
 use Rattle.arrays.specs.declared.Request.{Request}
 use Rattle.options.specs.Options.{LaidBoth, TasksGiven}
 use Rattle.options.specs.Posed.{SetGiven, Poses}
@@ -68,7 +68,7 @@ module _ {layout : Layout} {s : List ℕ} {m n l : ℕ} (given : SetGiven layout
       energies = put .energies .before;
     }
 
-    pub sum-given : (n ≤ 32) × (m ≤ 8) × Small loads
+    pub sum-given : (n ≤ 32) × (m ≤ 8) × Small loadBound loads
     sum-given = (few, rates-range .1, put .loads .small)
 
     -- the load of the fastest plan, as it was summed

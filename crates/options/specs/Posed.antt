@@ -11,7 +11,7 @@ use Rattle.taskset.specs.Quantities.{hyperPeriod}
 use Rattle.taskset.specs.Planning.{Planning, planning}
 use Rattle.taskset.specs.Sets.{IsSet}
 use Rattle.taskset.specs.Sets.{Covered}
-use Rattle.arrays.specs.Arrays.{arrays, Asked, Small}
+use Rattle.arrays.specs.Arrays.{loadBound, energyBound, arrays, Asked, Small}
 use Rattle.arrays.specs.declared.Request.{Request}
 use Rattle.options.specs.Options.{LaidBoth}
 use Rattle.options.specs.declared.Posed.{Posed}
@@ -30,8 +30,8 @@ pub record Poses (m : Planning) (loads energies : List ℕ) (q : Request) : Type
   pub same : Same (arrays q loads energies) (m .problem)
   pub slack-is : q .slack ≡ m .slack
   pub asked : Asked q loads energies
-  pub loads-fit : Small loads
-  pub energies-fit : Small energies
+  pub loads-fit : Small loadBound loads
+  pub energies-fit : Small energyBound energies
 
 -- The request where a plan fits, or that none does.
 abbrev pub PosedFor : Planning → (loads energies : List ℕ) → Posed → Type 0

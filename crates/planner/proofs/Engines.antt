@@ -7,7 +7,7 @@ use mathlib.Core.Logic.{⊎-elim}
 use native.Mathlib.Omega.{arith}
 use lib.ListN.{length}
 use Rattle.numbers.proofs.Tests.{lt-or-le}
-use Rattle.selection.specs.Plan.{workWords}
+use Rattle.selection.specs.Plan.{workWords, mostPlans}
 use Rattle.arrays.specs.Arrays.{ChosenBy}
 use Rattle.arrays.specs.declared.Request.{Request}
 use Rattle.arrays.specs.declared.Choice.{Choice}
@@ -20,7 +20,7 @@ use Rattle.layout.specs.Whole.{IsWhole}
 use Rattle.layout.proofs.Whole.{slack-in}
 use Rattle.taskset.specs.Quantities.{workNeeded}
 use Rattle.taskset.specs.Planning.{planning, layoutOf, workOf}
-use Rattle.taskset.specs.Refusals.{mostPlans, Accepts, readyChecks}
+use Rattle.taskset.specs.Refusals.{Accepts, readyChecks}
 use Rattle.taskset.specs.Calls.{Cleared}
 use Rattle.taskset.specs.declared.Refusal.the-variants.{WorkShort, TooManyPlans}
 use Rattle.taskset.specs.declared.Engine.{Engine}

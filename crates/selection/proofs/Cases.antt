@@ -1,7 +1,7 @@
 -- Document 01's marked selections, over the loads and energies of their tasks: the set S at two slacks, 60 and 61
 -- cycles, and the task energy of 33 that shows rounding.
 -- Assumes nothing.
-use Prim.Native.Nat.{ℕ, zero, suc, _^_, _≤_}
+use Prim.Native.Nat.{ℕ, zero, suc, _^_, _≤_, _<_}
 use mathlib.Core.Path.{_≡_, refl}
 use mathlib.Core.List.{List, [], _∷_}
 use native.Mathlib.Omega.{arith}
@@ -10,7 +10,7 @@ use lib.ListN.{getD}
 use Rattle.numbers.specs.Numbers.{total}
 use Rattle.numbers.proofs.Powers.{exponent}
 use Rattle.numbers.proofs.Search.{seek}
-use Rattle.selection.specs.Plan.{Problem, planLoad, planEnergy, Fitting, fastest, IsPlanned, workWords}
+use Rattle.selection.specs.Plan.{Problem, planLoad, planEnergy, Fitting, fastest, IsPlanned, workWords, mostPlans}
 use Rattle.selection.proofs.Fastest.{Falling, fastest-fits, fastest-least}
 use Rattle.selection.proofs.Table.{leastOf, firstOf, via, best}
 use Rattle.selection.proofs.Choose.{spend, cell}
@@ -95,3 +95,9 @@ cases = record {
   cycles-61 = none-fits;
   energy-33 = computed _ 1000 (2 ∷ []) 5 32 5 33 (le-by-compare _ _ tt) (le-by-compare _ _ tt) refl refl refl refl refl;
 }
+
+-- Of the powers that numbers of rates and tasks make, 7^7 = 823,543 is the greatest that is not over 1,000,000, and
+-- 2^20 = 1,048,576 the least that is.
+pub power-edges : (7 ^ 7 ≤ mostPlans) × (mostPlans < 2 ^ 20)
+unfolding IsLe
+power-edges = (le-by-compare _ _ tt, le-by-compare _ _ tt)

@@ -104,3 +104,7 @@ lastColumn n g = 4000 * n / g
 
 abbrev pub workWords : ℕ → ℕ → ℕ
 workWords n g = (n + 1) * (lastColumn n g + 1)
+
+-- "M to the power N is over 1,000,000" (document 02, note 7): so many plans the dull engine goes through at most.
+abbrev pub mostPlans : ℕ
+mostPlans = 1000000

@@ -9,9 +9,10 @@ use native.Mathlib.Omega.{arith}
 use lib.ListN.{length, replicate}
 use Rattle.numbers.specs.Numbers.{each, gcdIn, gcd, lcm, running}
 use Rattle.numbers.proofs.Search.{seek}
+use Rattle.selection.specs.Plan.{mostPlans}
 use Rattle.layout.specs.Words.{headKinds, extraKinds, kindIn, kindAt, headKind, taskKind, allows, rateCount, taskCount}
 use Rattle.layout.specs.declared.Layout.the-variants.{Ordinary}
-use Rattle.taskset.specs.Refusals.{number, second, mostPlans, Check, Passes, _▹_, idleChecks, hyperCheck}
+use Rattle.taskset.specs.Refusals.{number, second, Check, Passes, _▹_, idleChecks, hyperCheck}
 use Rattle.taskset.specs.Refusals.{manyCheck, plannerChecks}
 use Rattle.taskset.specs.Calls.{SetAfter, PlannerGives}
 use Rattle.taskset.specs.declared.Engine.the-variants.{Exhaustive}

@@ -12,7 +12,7 @@ use Rattle.numbers.specs.Numbers.{running, total}
 use Rattle.numbers.proofs.Search.{lowest-same}
 use Rattle.numbers.proofs.Sums.{total-same}
 use Rattle.numbers.proofs.Multiples.{running-same}
-use Rattle.selection.specs.Plan.{IsPlan, Fitting, workWords}
+use Rattle.selection.specs.Plan.{IsPlan, Fitting, workWords, mostPlans}
 use Rattle.selection.specs.Same.{Same}
 use Rattle.selection.proofs.Same.{load-same, fitting-same}
 use Rattle.layout.specs.Words.{extraSize, headSize, word, slack, slackPlace, idle, idlePlace, rateCount, taskCount}
@@ -27,7 +27,7 @@ use Rattle.layout.proofs.Whole.{whole-of}
 use Rattle.taskset.specs.Quantities.{jobTicks, jobTime, jobEnergy, hyperPeriod, taskEnergy, problemOf}
 use Rattle.taskset.specs.Quantities.{reportedEnergy, workNeeded}
 use Rattle.taskset.specs.Refusals.{RateFault, IsNotAbove, EnergyFault, IsBelowIdle, PassesLimit, IsTooLong}
-use Rattle.taskset.specs.Refusals.{mostPlans, IsTooMany, IsShort, NoneOk, Passes, check, wordCheck}
+use Rattle.taskset.specs.Refusals.{IsTooMany, IsShort, NoneOk, Passes, check, wordCheck}
 use Rattle.taskset.specs.Refusals.{engineCheck, plannerChecks}
 use Rattle.taskset.specs.Planning.{planning, layoutOf, workOf}
 use Rattle.taskset.specs.Calls.{DifferInFirsts, PlannerGives}

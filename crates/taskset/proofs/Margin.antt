@@ -15,10 +15,10 @@ use Rattle.selection.proofs.Bounds.{margin-in-slack}
 use Rattle.selection.proofs.Fastest.{fastest-plan}
 use Rattle.layout.specs.Words.{slack, taskCount}
 use Rattle.layout.specs.declared.Layout.{Layout}
-use Rattle.taskset.specs.Quantities.{hyperLimit, hyperPeriod, problemOf, taskNet}
+use Rattle.taskset.specs.Quantities.{energyBits, marginBits, hyperPeriod, problemOf, taskNet}
 use Rattle.taskset.specs.Planning.{Planning, planning}
 use Rattle.taskset.specs.DemandThree.{margin, IsLeast, PlanPromise}
-use Rattle.taskset.specs.Sets.{IsSet}
+use Rattle.taskset.specs.Sets.{IsSet, mostTaskEnergy}
 use Rattle.taskset.proofs.Sets.{task-net-small, energy-small}
 use Rattle.taskset.proofs.DemandThree.{Sound}
 
@@ -79,30 +79,30 @@ margin-is-smaller m sound P a planned small =
 -- The unit, the energy and the load of a plan that is given, and the hyper-period; and so the margin.
 pub record InBits (m : Planning) : Type 0 where
   pub few : m .problem .count ≤ 32
-  pub units : (P : List ℕ) (a : ℕ) → IsPlanned (m .problem) (m .slack) a P → 2 ^ a ≤ 2 ^ 49
-  pub energies : (P : List ℕ) → Fitting (m .problem) P → m .energy P < 2 ^ 49
+  pub units : (P : List ℕ) (a : ℕ) → IsPlanned (m .problem) (m .slack) a P → 2 ^ a ≤ 2 ^ energyBits
+  pub energies : (P : List ℕ) → Fitting (m .problem) P → m .energy P < 2 ^ energyBits
   pub limit : m .problem .limit < 2 ^ 64
   pub hyper : m .hyper < 2 ^ 64
 
 pub margin-small : (m : Planning) → InBits m → (P : List ℕ) (a : ℕ) → IsPlanned (m .problem) (m .slack) a P
-    → margin m (2 ^ a) < 2 ^ 54
+    → margin m (2 ^ a) < 2 ^ marginBits
 margin-small m bits P a planned =
-    let less : 2 ^ a - 1 ≤ 2 ^ 49 - 1 = omega (arith, bits .units P a planned) in
+    let less : 2 ^ a - 1 ≤ 2 ^ energyBits - 1 = omega (arith, bits .units P a planned) in
     omega (arith, mul-le-mul (bits .few) less)
 
--- A list's: no plan's energy is above 2 ^ 49, and so neither is the first unit.
+-- A list's: no plan's energy is above 2 ^ energyBits, and so neither is the first unit.
 module _ (layout : Layout) (s : List ℕ) (set : IsSet layout s) where
-  unit-small : (P : List ℕ) (a : ℕ) → IsPlanned (problemOf layout s) (slack s) a P → 2 ^ a ≤ 2 ^ 49
+  unit-small : (P : List ℕ) (a : ℕ) → IsPlanned (problemOf layout s) (slack s) a P → 2 ^ a ≤ 2 ^ energyBits
   unit-small P a planned =
       let fast = fastest-plan (problemOf layout s) (omega (arith, set .whole .rates-range .0)) in
-      let most : planEnergy (problemOf layout s) (fastest (problemOf layout s)) ≤ 2 ^ 49
+      let most : planEnergy (problemOf layout s) (fastest (problemOf layout s)) ≤ 2 ^ energyBits
       = omega (
         arith,
-        total-bound (taskNet layout s) (hyperLimit * 1000000) (taskCount layout s) (fastest (problemOf layout s))
+        total-bound (taskNet layout s) mostTaskEnergy (taskCount layout s) (fastest (problemOf layout s))
             (λ t l. task-net-small layout s set t _ l (fast .above t l) (fast .below t l)),
         set .whole .tasks-range .1,
       ) in
-      let few : a ≤ 49 = omega (arith, planned .used .tried, planned .used .is-first .smallest 49 most) in
+      let few : a ≤ energyBits = omega (arith, planned .used .tried, planned .used .is-first .smallest energyBits most) in
       pow-le-pow-right {n = 2} (omega arith) few
 
   pub list-in-bits : InBits (planning layout s)

@@ -10,7 +10,7 @@ use native.Mathlib.Omega.{arith}
 use lib.ListN.{getD}
 use Rattle.numbers.specs.Numbers.{All, total, running}
 use Rattle.numbers.proofs.Tests.{lt-or-le}
-use Rattle.numbers.proofs.Rounding.{ceil-falls, ceil-positive}
+use Rattle.numbers.proofs.Rounding.{ceil-falls, ceil-positive, ceil-small}
 use Rattle.numbers.proofs.Sums.{sum, total-bound, total-over}
 use Rattle.numbers.proofs.Multiples.{running-positive, running-divides, running-least}
 use Rattle.schedule.specs.Walk.{KeepsForEver, periodic}
@@ -19,10 +19,10 @@ use Rattle.schedule.proofs.ByPlace.{sum-places}
 use Rattle.schedule.proofs.Periodic.{Regular, keeps-iff-fits, tasks-regular}
 use Rattle.selection.specs.Plan.{IsPlan, planLoad}
 use Rattle.selection.proofs.Fastest.{Falling}
-use Rattle.layout.specs.Words.{mostTasks, mostIdle, headSize, word, idle, rateCount, taskCount, ratePlace, rate, period, cycles, energy}
+use Rattle.layout.specs.Words.{mostIdle, longestJob, headSize, word, idle, rateCount, taskCount, ratePlace, rate, period, cycles, energy}
 use Rattle.taskset.specs.Quantities.{hyperLimit, jobTicks, jobTime, jobEnergy, hyperPeriod, taskLoad, taskEnergy, netEnergy, taskNet}
 use Rattle.taskset.specs.Quantities.{problemOf, endlessTasks}
-use Rattle.taskset.specs.Sets.{IsSet}
+use Rattle.taskset.specs.Sets.{IsSet, mostTaskLoad, mostTaskEnergy, mostReported}
 use Rattle.taskset.specs.Refusals.{RateFault, PassesLimit, Passes, Accepts, _▹_, wordCheck, rateCheck, wordChecks, hyperCheck}
 use Rattle.taskset.proofs.Checks.{accepts-next, no-word-fault, no-rate-fault, none-passes}
 use Rattle.layout.specs.Whole.{IsWhole}
@@ -119,27 +119,40 @@ module _ (layout : Layout) (s : List ℕ) where
     job-time-positive t r l a b =
         rw (job-time-at layout s t r a) (ceil-positive _ _ (set .whole .cycles-range t l .0) (set .whole .rate-range r a b .0))
 
-    -- Energies: at most as many jobs as the hyper-period has ticks, of at most 1,000,000 microjoules, for each of at
-    -- most 32 tasks.
-    pub task-energy-small : (t r : ℕ) → t < taskCount layout s → 1 ≤ r → r ≤ rateCount layout s → taskEnergy layout s t r ≤ hyperLimit * 1000000
+    -- What a task's loads and energies come to at most.
+    jobs-few : (t : ℕ) → hyperPeriod layout s / period layout s t ≤ hyperLimit
+    jobs-few t = omega (arith, div-le-self (hyperPeriod layout s) (period layout s t), set .hyper-range .1)
+
+    pub task-load-small : (t r : ℕ) → t < taskCount layout s → 1 ≤ r → r ≤ rateCount layout s
+        → taskLoad layout s t r ≤ mostTaskLoad
+    task-load-small t r l a b =
+        let time : jobTime layout s t r ≤ longestJob
+        = omega (
+          arith,
+          job-time-at layout s t r a,
+          ceil-small (cycles layout s t) (rate layout s r) (set .whole .rate-range r a b .0),
+          set .whole .cycles-range t l .1,
+        ) in
+        omega (arith, mul-le-mul (jobs-few t) time)
+
+    pub task-energy-small : (t r : ℕ) → t < taskCount layout s → 1 ≤ r → r ≤ rateCount layout s → taskEnergy layout s t r ≤ mostTaskEnergy
     task-energy-small t r l a b =
-        let jobs : hyperPeriod layout s / period layout s t ≤ hyperLimit = omega (arith, div-le-self (hyperPeriod layout s) (period layout s t), set .hyper-range .1) in
-        rw (job-energy-at layout s t r a) (omega (arith, mul-le-mul jobs (set .whole .energy-range t r l a b .1)))
+        rw (job-energy-at layout s t r a) (omega (arith, mul-le-mul (jobs-few t) (set .whole .energy-range t r l a b .1)))
 
     pub task-net-small : (t r : ℕ) → t < taskCount layout s → 1 ≤ r → r ≤ rateCount layout s
-        → taskNet layout s t r ≤ hyperLimit * 1000000
+        → taskNet layout s t r ≤ mostTaskEnergy
     task-net-small t r l a b =
         let less : netEnergy layout s t r ≤ jobEnergy layout s t r = omega arith in
         omega (arith, task-energy-small t r l a b, mul-le-mul-left (hyperPeriod layout s / period layout s t) less)
 
-    -- With at most 1,000 microjoules for each idle tick.
+    -- What is reported of a plan, with the energy of so many idle ticks.
     pub energy-small : (P : List ℕ) → IsPlan (problemOf layout s) P → (free : ℕ) → free ≤ hyperPeriod layout s
         → total (taskEnergy layout s) (taskCount layout s) P + idle s * free
-        ≤ mostTasks * (hyperLimit * 1000000) + mostIdle * hyperLimit
+        ≤ mostReported
     energy-small P p free few =
         omega (
           arith,
-          total-bound (taskEnergy layout s) (hyperLimit * 1000000) (taskCount layout s) P (λ t l. task-energy-small t (getD P t 0) l (p .above t l) (p .below t l)),
+          total-bound (taskEnergy layout s) mostTaskEnergy (taskCount layout s) P (λ t l. task-energy-small t (getD P t 0) l (p .above t l) (p .below t l)),
           set .whole .tasks-range .1,
           mul-le-mul {n₁ = idle s} {m₁ = free} {n₂ = mostIdle} {m₂ = hyperLimit} (idle-in layout s (set .whole))
               (omega (arith, set .hyper-range .1)),

@@ -7,9 +7,9 @@ use mathlib.Core.Path.{_≡_}
 use mathlib.Core.List.{List, [], _∷_}
 use native.Mathlib.Omega.{arith}
 use lib.ListN.{length, replicate, length-replicate}
+use Rattle.selection.specs.Plan.{mostPlans}
 use Rattle.layout.specs.Words.{headKinds, rateCount, taskCount}
 use Rattle.layout.specs.declared.Layout.the-variants.{Ordinary}
-use Rattle.taskset.specs.Refusals.{mostPlans}
 use Rattle.taskset.specs.Calls.{PlannerGives}
 use Rattle.taskset.specs.declared.Engine.the-variants.{Table, Exhaustive}
 use Rattle.taskset.specs.declared.Refusal.the-variants.{NoPlan}

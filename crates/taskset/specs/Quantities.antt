@@ -15,6 +15,14 @@ use Rattle.layout.specs.declared.Layout.{Layout}
 abbrev pub hyperLimit : ℕ
 hyperLimit = 10000000
 
+-- What follows for a host that works with a plan's numbers: no reported energy reaches 2 ^ energyBits, no unit is above
+-- it, and no margin (document 02, note 5), less than a unit for each of at most 32 tasks, reaches 2 ^ marginBits.
+abbrev pub energyBits : ℕ
+energyBits = 49
+
+abbrev pub marginBits : ℕ
+marginBits = energyBits + 5
+
 -- "Job time at rate f: c / f rounded up to whole ticks": of a job of so many cycles.
 abbrev pub jobTicks : ℕ → ℕ → ℕ
 jobTicks c f = ceil c f

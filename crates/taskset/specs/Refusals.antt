@@ -7,7 +7,7 @@ use mathlib.Core.List.{List, [], _∷_, _++_}
 use mathlib.Core.Logic.{_⊎_}
 use lib.ListN.{length, getD}
 use Rattle.numbers.specs.Numbers.{between, running, Lowest}
-use Rattle.selection.specs.Plan.{Fitting}
+use Rattle.selection.specs.Plan.{Fitting, mostPlans}
 use Rattle.layout.specs.Words.{word, idle, rateCount, taskCount, ratePlace, periodPlace, energyPlace, period, energy, WordFault}
 use Rattle.layout.specs.declared.Layout.{Layout}
 use Rattle.layout.specs.declared.Layout.the-variants.{Ordinary}
@@ -50,10 +50,6 @@ second (BelowIdle q) = q
 second TooManyPlans = 0
 
 -- CAUSES. Each says when it holds with a second number k.
-
--- "over 1,000,000": so many plans the dull engine goes through at most.
-abbrev pub mostPlans : ℕ
-mostPlans = 1000000
 
 module _ (layout : Layout) (s : List ℕ) where
   -- 2: "Set word out of its range, missing or left over"; "place of the first such word; the list's length if missing".

@@ -16,7 +16,7 @@ use Rattle.numbers.proofs.Lists.{each-at, all-at, joined-at}
 use Rattle.numbers.proofs.Search.{no-lowest}
 use Rattle.numbers.proofs.Tests.{lt-or-le, true-between}
 use Rattle.layout.specs.Words.{headKinds, extraKinds, headSize, extraSize, headKind, kindIn, allows, longestPeriod}
-use Rattle.layout.specs.Words.{mostIdle, mostEnergy, word, idle, rateCount, taskCount}
+use Rattle.layout.specs.Words.{mostIdle, longestJob, mostEnergy, word, idle, rateCount, taskCount}
 use Rattle.layout.specs.Words.{taskSize, periodPlace, rate, period, cycles, first, energy}
 use Rattle.layout.specs.declared.Layout.the-variants.{Ordinary}
 use Rattle.layout.specs.Whole.{IsWhole}
@@ -43,7 +43,7 @@ FirstIn period (some a) = a < period
 
 pub record LineIn (l : TaskLine) : Type 0 where
   pub period : (1 ≤ l .period) × (l .period ≤ longestPeriod)
-  pub cycles : (1 ≤ l .cycles) × (l .cycles ≤ 4000000000)
+  pub cycles : (1 ≤ l .cycles) × (l .cycles ≤ longestJob)
   pub first : FirstIn (l .period) (l .first)
 
 abbrev pub IdleIn : Option ℕ → Type 0
@@ -219,7 +219,7 @@ module _ (c : Chip) (g : ℕ) (o : Option ℕ) (ts : List TaskLine) (ok : Script
   few r b = omega (arith, rates-is c g o ts ok)
 
   energy-in : (t r : ℕ) → t < taskCount Ordinary list → 1 ≤ r → r ≤ rateCount Ordinary list
-      → (1 ≤ energy Ordinary list t r) × (energy Ordinary list t r ≤ 1000000)
+      → (1 ≤ energy Ordinary list t r) × (energy Ordinary list t r ≤ mostEnergy)
   energy-in t r h a b =
       let l = line-in t (task t h) in
       let e = energy-is c g o ts ok t (task t h) r a (few r b) in (

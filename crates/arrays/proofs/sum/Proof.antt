@@ -5,7 +5,7 @@ use Rattle.arrays.proofs.Adding.{sum-low, sum-turn}
 use native.Mathlib.Omega.{arith}
 use Rattle.numbers.specs.Numbers.{total}
 use Rattle.numbers.proofs.Sums.{total-none}
-use Rattle.arrays.specs.Arrays.{optionAt}
+use Rattle.arrays.specs.Arrays.{optionAt, loadBound}
 use borrow.Author.Needs.{needs}
 use Rattle.arrays.proofs.sum.Statement.{statement}
 use Rattle.arrays.proofs.sum.Tie as tie
@@ -49,12 +49,12 @@ add-s-2 : tie.Need-add-s-2 Inv-loop μ-loop
 add-s-2 c =
     let i = c .before .before .before in
     let g = i .before .pre in
+    let s = i .before .args .options .now in
+    let P = i .before .args .plan .now in
     omega (
       arith,
-      i .loop .inv .1,
-      sum-low (i .before .args .options .now) (i .before .args .plan .now) (i .loop .t)
-          (g .small) (omega (arith, g .few, i .loop .inv .0)),
-      g .small (i .loop .t * 16 + getD (i .before .args .plan .now) (i .loop .t) 0),
+      sum-turn (optionAt s) (i .loop .t) P (i .loop .inv .1),
+      sum-low loadBound s P (i .loop .t + 1) (g .small) (omega (arith, g .few)),
     )
 
 add-t : tie.Need-add-t Inv-loop μ-loop

@@ -4,7 +4,8 @@ use Prim.Native.Nat.{ℕ, _+_, _*_}
 use mathlib.Core.Path.{ap}
 use mathlib.Core.List.{List}
 use native.Mathlib.Omega.{arith}
-use Rattle.arrays.specs.Arrays.{Small, SumReady}
+use Rattle.arrays.specs.Arrays.{loadBound, Small, SumReady}
+use Rattle.arrays.proofs.Adding.{as-loads}
 use Rattle.choice.proofs.Choosing.{search-ready, last-low, way-ready, own-words, plan-ready, chose}
 use borrow.Author.Needs.{needs}
 use Rattle.choice.proofs.choose.Statement.{statement}
@@ -20,7 +21,7 @@ to-last f = f .before .before .before .before
 abbrev start : tie.After-find-unit → tie.Start
 start f = to-last f .before .before .before
 
-summed : (w : tie.After-way-back) (options : List ℕ) → Small options
+summed : (w : tie.After-way-back) (options : List ℕ) → Small loadBound options
     → SumReady (start (found w) .args .q .tasks) options (w .way-back .last .0)
 summed w = plan-ready (start (found w) .pre) (found w .find-unit .ensures) (w .way-back .ensures)
 
@@ -49,7 +50,8 @@ sum-requires c κs =
 sum-requires-2 : tie.Need-sum-requires-2
 sum-requires-2 c κs =
     let w = c .before .before .before .before .before in
-    summed w (start (found w) .args .energies .now) (start (found w) .pre .engine .energies-fit)
+    let s = start (found w) in
+    summed w (s .args .energies .now) (as-loads (s .args .energies .now) (s .pre .engine .energies-fit))
 
 clear-requires : tie.Need-clear-requires
 clear-requires c κs =

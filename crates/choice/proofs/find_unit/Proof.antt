@@ -3,7 +3,7 @@
 use Prim.Native.Nat.{_*_, _<_}
 use mathlib.Core.Path.{_∙_}
 use native.Mathlib.Omega.{arith}
-use Rattle.arrays.proofs.Adding.{sum-low}
+use Rattle.arrays.proofs.Adding.{energies-low, as-loads}
 use Rattle.arrays.proofs.Units.{stops-true, stops-false}
 use Rattle.choice.proofs.Trying.{Trying, trying-start, unit-ready, least-small, product-small, unit-used, trying-turn}
 use borrow.Author.Needs.{needs}
@@ -44,12 +44,14 @@ cut-requires : tie.Need-cut-requires Inv-loop μ-loop
 cut-requires c κs = search needs
 
 fastest-sum-requires : tie.Need-fastest-sum-requires Inv-loop μ-loop
-fastest-sum-requires c κs = search needs
+fastest-sum-requires c κs =
+    let s = c .before .before .before .before in
+    (s .pre .asked .tasks, s .pre .asked .rates .1, as-loads (s .args .energies .now) (s .pre .energies-fit))
 
 least-power-requires : tie.Need-least-power-requires Inv-loop μ-loop
 least-power-requires c κs =
     let s = c .before .before .before .before .before in
-    rw (c .fastest-sum .ensures) (sum-low (s .args .energies .now) _ _ (s .pre .energies-fit) (s .pre .asked .tasks))
+    rw (c .fastest-sum .ensures) (energies-low (s .args .energies .now) _ _ (s .pre .energies-fit) (s .pre .asked .tasks))
 
 add-columns : tie.Need-add-columns Inv-loop μ-loop
 add-columns c = search needs

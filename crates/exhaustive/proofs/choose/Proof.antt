@@ -1,5 +1,6 @@
 -- The unit used, then the plan of the rank found, and its energy.
 -- Assumes nothing.
+use Rattle.arrays.proofs.Adding.{as-loads}
 use Rattle.exhaustive.proofs.Chosen.{put-ready, plan-ready, engine-chosen}
 use borrow.Author.Needs.{needs}
 use Rattle.exhaustive.proofs.choose.Statement.{statement}
@@ -28,7 +29,7 @@ sum-requires c κs =
     let w = c .before .before .before in
     let f = found w in
     plan-ready (start f .pre) (f .find-unit .ensures) (w .put-plan .ensures) (start f .args .energies .now)
-    (start f .pre .engine .energies-fit)
+    (as-loads (start f .args .energies .now) (start f .pre .engine .energies-fit))
 
 same-length : tie.Need-same-length
 same-length c = search needs

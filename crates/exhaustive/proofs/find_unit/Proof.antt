@@ -5,7 +5,7 @@ use native.Mathlib.Nat.{mul-le-mul-right}
 use native.Mathlib.Omega.{arith}
 use Rattle.arithmetic.specs.declared.Power.{Power}
 use Rattle.arrays.specs.Arrays.{arrays}
-use Rattle.arrays.proofs.Adding.{sum-low}
+use Rattle.arrays.proofs.Adding.{energies-low, as-loads}
 use Rattle.arrays.proofs.Units.{Tried, tried-start, first-low, tried-turn, tried-used, tried-low}
 use Rattle.arrays.proofs.Units.{stops-true, stops-false}
 use Rattle.exhaustive.specs.Engine.{UnitReady, ChosenAt}
@@ -67,12 +67,13 @@ halved-next c =
     tried-turn (l .loop .inv .0) (best-least (l .loop .inv .1)) (on .0) (on .1) (c .halved .ensures)
 
 fastest-sum-requires : tie.Need-fastest-sum-requires Inv-loop μ-loop
-fastest-sum-requires c κs = search needs
+fastest-sum-requires c κs =
+    (c .pre .asked .tasks, c .pre .asked .rates .1, as-loads (c .args .energies .now) (c .pre .energies-fit))
 
 least-power-requires : tie.Need-least-power-requires Inv-loop μ-loop
 least-power-requires c κs =
     let s = c .before in
-    rw (c .fastest-sum .ensures) (sum-low (s .args .energies .now) _ _ (s .pre .energies-fit) (s .pre .asked .tasks))
+    rw (c .fastest-sum .ensures) (energies-low (s .args .energies .now) _ _ (s .pre .energies-fit) (s .pre .asked .tasks))
 
 best-at-requires : tie.Need-best-at-requires Inv-loop μ-loop
 best-at-requires c κs = ready c (c .least-power .result) (tried-first c)

@@ -6,7 +6,7 @@ use native.Mathlib.Omega.{arith}
 use lib.ListN.{replicate}
 use Rattle.numbers.specs.Numbers.{total}
 use Rattle.numbers.proofs.Sums.{total-none}
-use Rattle.arrays.specs.Arrays.{optionAt}
+use Rattle.arrays.specs.Arrays.{optionAt, loadBound, energyBound}
 use Rattle.exhaustive.proofs.Hands.{ones-low, ones-turn, ones-hand}
 use borrow.Author.Needs.{needs}
 use Rattle.exhaustive.proofs.first_sums.Statement.{statement}
@@ -39,8 +39,11 @@ add-load-2 : tie.Need-add-load-2 Inv-loop μ-loop
 add-load-2 c =
     let l = c .before .before .before in
     let g = l .before .pre in
-    let low = ones-low (l .before .args .loads .now) (l .loop .t) (g .loads-fit) (omega (arith, g .tasks .1)) in
-    omega (arith, l .loop .inv .1)
+    let few : l .loop .t < 32 = omega (arith, g .tasks .1) in
+    omega (
+      arith,
+      ones-low (l .before .args .loads .now) (l .loop .t) loadBound (g .loads-fit) few (l .loop .inv .1),
+    )
 
 mul-whole : tie.Need-mul-whole Inv-loop μ-loop
 mul-whole c = omega (arith, c .before .before .before .before .pre .tasks .1)
@@ -58,8 +61,11 @@ add-whole-2 : tie.Need-add-whole-2 Inv-loop μ-loop
 add-whole-2 c =
     let l = c .before .before .before .before in
     let g = l .before .pre in
-    let low = ones-low (l .before .args .cost .now) (l .loop .t) (g .costs-fit) (omega (arith, g .tasks .1)) in
-    omega (arith, l .loop .inv .2)
+    let few : l .loop .t < 32 = omega (arith, g .tasks .1) in
+    omega (
+      arith,
+      ones-low (l .before .args .cost .now) (l .loop .t) energyBound (g .costs-fit) few (l .loop .inv .2),
+    )
 
 add-t : tie.Need-add-t Inv-loop μ-loop
 add-t c = search needs

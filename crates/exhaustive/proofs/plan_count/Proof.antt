@@ -4,7 +4,7 @@ use Prim.Native.Nat.{ℕ, suc, _-_, _^_, _≤_, min}
 use mathlib.Core.Path.{_≡_, ap, _∙_}
 use native.Mathlib.Nat.{mul-le-mul-left, pow-zero}
 use native.Mathlib.Omega.{arith}
-use Rattle.exhaustive.specs.Engine.{mostPlans}
+use Rattle.selection.specs.Plan.{mostPlans}
 use Rattle.exhaustive.proofs.Counting.{count-turn}
 use borrow.Author.Needs.{needs}
 use Rattle.exhaustive.proofs.plan_count.Statement.{statement}
