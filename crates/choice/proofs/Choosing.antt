@@ -13,10 +13,10 @@ use Rattle.numbers.proofs.Tests.{lt-or-le}
 use Rattle.selection.specs.Plan.{Fitting, IsChosenOf, lastColumn, workWords}
 use Rattle.selection.proofs.Bounds.{last-small}
 use Rattle.selection.proofs.Agree.{way-places}
-use Rattle.arrays.specs.declared.Request.{Request}
-use Rattle.arrays.specs.Arrays.{optionAt, Written, loadBound, Small, SumReady, arrays}
-use Rattle.arrays.proofs.Writing.{zeros-at}
-use Rattle.arrays.proofs.Chosen.{front-size, front-at, sum-ready, chosen-by}
+use Rattle.engine.specs.declared.Request.{Request}
+use Rattle.engine.specs.Arrays.{optionAt, Written, loadBound, Small, SumReady, arrays}
+use Rattle.engine.proofs.Writing.{zeros-at}
+use Rattle.engine.proofs.Chosen.{front-size, front-at, sum-ready, chosen-by}
 use Rattle.choice.specs.declared.Used.{Used}
 use Rattle.choice.specs.Choice.{ChoiceReady, Chose}
 use Rattle.choice.specs.Units.{frameOf, WayReady, WayTaken, SearchReady, UnitUsed}

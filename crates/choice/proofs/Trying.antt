@@ -21,9 +21,9 @@ use Rattle.selection.proofs.Choose.{cell, cell-le, way-back-chosen}
 use Rattle.selection.proofs.Cells.{Way, cell-entry, way-back-way}
 use Rattle.selection.proofs.Agree.{entry-agrees, way-agrees}
 use Rattle.selection.proofs.Compute.{column-least}
-use Rattle.arrays.specs.declared.Request.{Request}
-use Rattle.arrays.specs.Arrays.{optionAt, Written, costOf, arrays}
-use Rattle.arrays.proofs.Units.{Tried, tried-start, first-low, doubled, tried-turn, tried-used}
+use Rattle.engine.specs.declared.Request.{Request}
+use Rattle.engine.specs.Arrays.{optionAt, Written, costOf, arrays}
+use Rattle.engine.proofs.Units.{Tried, tried-start, first-low, doubled, tried-turn, tried-used}
 use Rattle.table.specs.declared.Frame.{Frame}
 use Rattle.table.specs.Rows.{entryOf, Tabled, Defined}
 use Rattle.choice.specs.Units.{frameOf, cutOf, UnitReady, UnitTabled, SearchReady, UnitUsed}

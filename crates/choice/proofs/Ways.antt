@@ -8,7 +8,7 @@ use native.Mathlib.Omega.{arith}
 use lib.ListN.{length, getD, set, length-set}
 use lib.Seq.{getD-set-same, getD-set-other}
 use Rattle.selection.proofs.Cells.{Way, way-step, way-end, Sound, rate-sound}
-use Rattle.arrays.specs.Arrays.{optionAt}
+use Rattle.engine.specs.Arrays.{optionAt}
 use Rattle.table.specs.declared.Frame.{Frame}
 use Rattle.table.specs.Rows.{entryOf, rateOf, RateReady}
 use Rattle.table.proofs.Rows.{next-row}

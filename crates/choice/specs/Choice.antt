@@ -5,9 +5,9 @@ use mathlib.Core.Path.{_≡_}
 use mathlib.Core.List.{List, _++_}
 use lib.ListN.{length, drop, replicate}
 use Rattle.selection.specs.Plan.{workWords}
-use Rattle.arrays.specs.declared.Request.{Request}
-use Rattle.arrays.specs.declared.Choice.{Choice}
-use Rattle.arrays.specs.Arrays.{EngineReady, ChosenBy}
+use Rattle.engine.specs.declared.Request.{Request}
+use Rattle.engine.specs.declared.Choice.{Choice}
+use Rattle.engine.specs.Arrays.{EngineReady, ChosenBy}
 
 -- What the choice asks: what every engine does, and the working words needed.
 pub record ChoiceReady (q : Request) (loads energies plan work : List ℕ) : Type 0 where

@@ -7,8 +7,8 @@ use Rattle.numbers.specs.Search.{Found}
 use Rattle.arithmetic.specs.declared.Power.{Power}
 use Rattle.selection.specs.Plan.{Fitting, IsUsedOf, lastColumn, workWords}
 use Rattle.selection.proofs.Cells.{Way}
-use Rattle.arrays.specs.declared.Request.{Request}
-use Rattle.arrays.specs.Arrays.{optionAt, costOf, energyBound, Small, RoundReady, arrays, Asked}
+use Rattle.engine.specs.declared.Request.{Request}
+use Rattle.engine.specs.Arrays.{optionAt, costOf, energyBound, Small, RoundReady, arrays, Asked}
 use Rattle.table.specs.Rows.{entryOf, Framed, RowAt}
 use Rattle.table.specs.declared.Frame.{Frame}
 use Rattle.choice.specs.declared.Used.{Used}

@@ -4,14 +4,14 @@
 ghost use mathlib.Core.Path.{_≡_};
 ghost use Prim.Native.Nat.{_+_, _*_, _≤_, min};
 ghost use lib.ListN.{length};
-ghost use Rattle.arrays.specs.Arrays.{Written};
+ghost use Rattle.engine.specs.Arrays.{Written};
 ghost use Rattle.selection.specs.Plan.{lastColumn};
 ghost use Rattle.choice.specs.Choice.{ChoiceReady, Chose};
 ghost use Rattle.choice.specs.Units.{WayReady, WayTaken, cutOf, ClearReady, UnitReady, UnitTabled};
 ghost use Rattle.choice.specs.Units.{SearchReady, UnitUsed};
 use arithmetic::Power;
-use arrays::Choice;
-use arrays::Request;
+use engine::Choice;
+use engine::Request;
 use table::Frame;
 
 // The unit used, the columns of its table, and the least rounded energy of a plan that fits.
@@ -98,7 +98,7 @@ fn least_energy(
 {
     let tasks = f.tasks;
     let columns = f.columns;
-    arrays::round_up(energies, tasks, unit, cost);
+    engine::round_up(energies, tasks, unit, cost);
     table::table(work, f, cost, load);
     table::least_column(work, tasks * columns, columns, f.cap)
 }
@@ -121,7 +121,7 @@ fn find_unit(
     let tasks = q.tasks;
     let cap = q.limit + 1;
     cut(loads, tasks, cap, load);
-    let mut unit = arithmetic::least_power(arrays::fastest_sum(energies, tasks, q.rates));
+    let mut unit = arithmetic::least_power(engine::fastest_sum(energies, tasks, q.rates));
     let mut columns = tasks + 1;
     loop {
         let f = Frame {
@@ -131,14 +131,14 @@ fn find_unit(
             cap,
         };
         let k = least_energy(energies, f, unit, load, cost, work);
-        if arrays::stops(unit, tasks, q.slack, k) {
+        if engine::stops(unit, tasks, q.slack, k) {
             return Used {
                 unit: unit.value,
                 columns,
                 least: k,
             };
         }
-        unit = arrays::halved(unit);
+        unit = engine::halved(unit);
         columns = 2 * k + 1;
     }
 }
@@ -169,8 +169,8 @@ pub fn choose(
         cap: none,
     };
     way_back(plan, work, f, used.least, &cost, &load);
-    let l = arrays::sum(loads, tasks, plan);
-    let e = arrays::sum(energies, tasks, plan);
+    let l = engine::sum(loads, tasks, plan);
+    let e = engine::sum(energies, tasks, plan);
     clear(work, tasks, columns);
     Choice {
         unit: used.unit,

@@ -16,12 +16,12 @@ use Rattle.numbers.proofs.Sums.{total-same}
 use Rattle.selection.specs.Plan.{Problem, IsPlan, Fitting, roundedTask, rounded, planEnergy, fastest}
 use Rattle.selection.specs.Plan.{IsLeastOf, IsChosenOf}
 use Rattle.selection.proofs.Fastest.{fastest-fits}
-use Rattle.arrays.specs.declared.Request.{Request}
-use Rattle.arrays.specs.Arrays.{optionAt, Written, loadBound, energyBound, Small, costOf, arrays, ChosenBy}
-use Rattle.arrays.specs.Arrays.{SumReady}
-use Rattle.arrays.proofs.Writing.{zeros-at}
-use Rattle.arrays.proofs.Adding.{sum-low}
-use Rattle.arrays.proofs.Chosen.{front-size, front-at, sum-ready, chosen-by}
+use Rattle.engine.specs.declared.Request.{Request}
+use Rattle.engine.specs.Arrays.{optionAt, Written, loadBound, energyBound, Small, costOf, arrays, ChosenBy}
+use Rattle.engine.specs.Arrays.{SumReady}
+use Rattle.engine.proofs.Writing.{zeros-at}
+use Rattle.engine.proofs.Adding.{sum-low}
+use Rattle.engine.proofs.Chosen.{front-size, front-at, sum-ready, chosen-by}
 use Rattle.exhaustive.specs.declared.Best.{Best}
 use Rattle.exhaustive.specs.declared.Used.{Used}
 use Rattle.exhaustive.specs.Order.{rank}

@@ -12,9 +12,9 @@ use lib.ListN.{length, getD, set, replicate, length-set, length-replicate, getD-
 use lib.Seq.{getD-set-same, getD-set-other}
 use Rattle.numbers.specs.Numbers.{total}
 use Rattle.numbers.proofs.Sums.{total-at, total-bound, total-set}
-use Rattle.arrays.specs.declared.Request.{Request}
-use Rattle.arrays.specs.Arrays.{optionAt, loadBound, energyBound, Small, arrays}
-use Rattle.arrays.proofs.Adding.{sum-low, sum-turn}
+use Rattle.engine.specs.declared.Request.{Request}
+use Rattle.engine.specs.Arrays.{optionAt, loadBound, energyBound, Small, arrays}
+use Rattle.engine.proofs.Adding.{sum-low, sum-turn}
 use Rattle.exhaustive.specs.declared.Sums.{Sums}
 use Rattle.exhaustive.specs.declared.Best.{Best}
 use Rattle.exhaustive.specs.Order.{rank}

@@ -7,8 +7,8 @@ use lib.ListN.{length, getD}
 use Rattle.numbers.specs.Numbers.{total}
 use Rattle.arithmetic.specs.declared.Power.{Power}
 use Rattle.selection.specs.Plan.{Problem, planLoad, planEnergy, rounded, Fitting, IsChosenOf, IsUsedOf, mostPlans}
-use Rattle.arrays.specs.declared.Request.{Request}
-use Rattle.arrays.specs.Arrays.{optionAt, loadBound, energyBound, Small, arrays, Asked, EngineReady}
+use Rattle.engine.specs.declared.Request.{Request}
+use Rattle.engine.specs.Arrays.{optionAt, loadBound, energyBound, Small, arrays, Asked, EngineReady}
 use Rattle.exhaustive.specs.Order.{rank}
 use Rattle.exhaustive.specs.declared.Sums.{Sums}
 use Rattle.exhaustive.specs.declared.Best.{Best}

@@ -6,13 +6,13 @@ ghost use mathlib.Core.Path.{_≡_};
 ghost use Prim.Native.Nat.{suc, _+_, _^_, _≤_, min};
 ghost use lib.ListN.{replicate};
 ghost use Rattle.selection.specs.Plan.{mostPlans};
-ghost use Rattle.arrays.specs.Arrays.{arrays, ChosenBy};
+ghost use Rattle.engine.specs.Arrays.{arrays, ChosenBy};
 ghost use Rattle.exhaustive.specs.Engine.{Looked, Seen, ArraysReady, InHand, ChangeReady, Changed};
 ghost use Rattle.exhaustive.specs.Engine.{BlockReady, AdvanceReady, Advanced, AllReady, UnitReady, ChosenAt};
 ghost use Rattle.exhaustive.specs.Engine.{UnitUsed, PutReady, PlanPut, ExhaustiveReady};
 use arithmetic::Power;
-use arrays::Choice;
-use arrays::Request;
+use engine::Choice;
+use engine::Request;
 
 // How many plans the engine goes through at most.
 pub const MOST_PLANS: usize = 1_000_000;
@@ -187,7 +187,7 @@ fn best_at(loads: &[u64; 512], energies: &[u64; 512], q: Request, unit: Power, p
     ensures { λ r. ⌜ ChosenAt (arrays q (now (loads .entry)) (now (energies .entry))) (2 ^ unit .exponent) r ⌝ }
 {
     let mut cost: [usize; 512] = [0; 512];
-    arrays::round_up(energies, q.tasks, unit, &mut cost);
+    engine::round_up(energies, q.tasks, unit, &mut cost);
     best_plan(loads, &cost, q, plans)
 }
 
@@ -197,16 +197,16 @@ fn find_unit(loads: &[u64; 512], energies: &[u64; 512], q: Request, plans: usize
     requires { ⌜ AllReady q (now loads) (now energies) plans ⌝ }
     ensures { λ r. ⌜ UnitUsed q (now (loads .entry)) (now (energies .entry)) r ⌝ }
 {
-    let mut unit = arithmetic::least_power(arrays::fastest_sum(energies, q.tasks, q.rates));
+    let mut unit = arithmetic::least_power(engine::fastest_sum(energies, q.tasks, q.rates));
     let mut best = best_at(loads, energies, q, unit, plans);
     loop {
-        if arrays::stops(unit, q.tasks, q.slack, best.cost) {
+        if engine::stops(unit, q.tasks, q.slack, best.cost) {
             return Used {
                 unit: unit.value,
                 best,
             };
         }
-        unit = arrays::halved(unit);
+        unit = engine::halved(unit);
         best = best_at(loads, energies, q, unit, plans);
     }
 }
@@ -235,7 +235,7 @@ pub fn choose(loads: &[u64; 512], energies: &[u64; 512], q: Request, plan: &mut 
     let used = find_unit(loads, energies, q, plans);
     let best = used.best;
     put_plan(plan, best.rank, q.rates, tasks);
-    let energy = arrays::sum(energies, tasks, plan);
+    let energy = engine::sum(energies, tasks, plan);
     Choice {
         unit: used.unit,
         load: best.load,

@@ -9,8 +9,8 @@ use native.Mathlib.Nat.{eq-or-lt-of-le}
 use native.Mathlib.Omega.{arith}
 use lib.ListN.{getD, set, length-set, replicate, length-replicate}
 use lib.Seq.{getD-set-same, getD-set-other}
-use Rattle.arrays.specs.Arrays.{loadBound, energyBound}
-use Rattle.arrays.proofs.Writing.{zeros-at}
+use Rattle.engine.specs.Arrays.{loadBound, energyBound}
+use Rattle.engine.proofs.Writing.{zeros-at}
 use Rattle.layout.specs.Words.{mostRates, mostTasks, idle, rateCount, period, energy}
 use Rattle.layout.specs.declared.Layout.{Layout}
 use Rattle.taskset.specs.Quantities.{jobTime, taskLoad, taskNet}

@@ -24,9 +24,9 @@ use Rattle.taskset.proofs.Checks.{accepts-next, refuses-next}
 use Rattle.taskset.proofs.DemandThree.{PlansList}
 use Rattle.taskset.proofs.Idle.{reported-is}
 use Rattle.taskset.proofs.Margin.{list-in-bits}
-use Rattle.arrays.specs.Arrays.{arrays, EngineReady, ChosenBy}
-use Rattle.arrays.specs.declared.Request.{Request}
-use Rattle.arrays.specs.declared.Choice.{Choice}
+use Rattle.engine.specs.Arrays.{arrays, EngineReady, ChosenBy}
+use Rattle.engine.specs.declared.Request.{Request}
+use Rattle.engine.specs.declared.Choice.{Choice}
 use Rattle.options.specs.Posed.{SetGiven, Poses}
 
 -- Where a list is not too short, it is long enough.

@@ -18,8 +18,8 @@ use Rattle.layout.proofs.Whole.{slack-in}
 use Rattle.taskset.specs.Quantities.{hyperLimit, hyperPeriod, problemOf}
 use Rattle.taskset.specs.Planning.{planning}
 use Rattle.taskset.proofs.Sets.{falling}
-use Rattle.arrays.specs.Arrays.{optionAt, loadBound, Small, arrays}
-use Rattle.arrays.specs.declared.Request.{Request}
+use Rattle.engine.specs.Arrays.{optionAt, loadBound, Small, arrays}
+use Rattle.engine.specs.declared.Request.{Request}
 use Rattle.options.specs.Options.{LaidBoth, TasksGiven}
 use Rattle.options.specs.Posed.{SetGiven, Poses}
 

@@ -4,7 +4,7 @@ use Prim.Native.Nat.{ℕ, _+_, _*_, _≤_, _<_}
 use mathlib.Core.Path.{_≡_}
 use mathlib.Core.List.{List}
 use lib.ListN.{length, getD}
-use Rattle.arrays.specs.Arrays.{optionAt, loadBound, energyBound, Small}
+use Rattle.engine.specs.Arrays.{optionAt, loadBound, energyBound, Small}
 use Rattle.layout.specs.declared.Layout.{Layout}
 use Rattle.taskset.specs.Quantities.{hyperPeriod, taskLoad, taskNet}
 use Rattle.taskset.specs.Sets.{IsSet}

@@ -11,8 +11,8 @@ use Rattle.taskset.specs.Quantities.{hyperPeriod}
 use Rattle.taskset.specs.Planning.{Planning, planning}
 use Rattle.taskset.specs.Sets.{IsSet}
 use Rattle.taskset.specs.Sets.{Covered}
-use Rattle.arrays.specs.Arrays.{loadBound, energyBound, arrays, Asked, Small}
-use Rattle.arrays.specs.declared.Request.{Request}
+use Rattle.engine.specs.Arrays.{loadBound, energyBound, arrays, Asked, Small}
+use Rattle.engine.specs.declared.Request.{Request}
 use Rattle.options.specs.Options.{LaidBoth}
 use Rattle.options.specs.declared.Posed.{Posed}
 use Rattle.options.specs.declared.Posed.the-variants.{NoneFits, For}

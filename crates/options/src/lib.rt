@@ -8,8 +8,8 @@ ghost use Rattle.layout.specs.Words.{idlePlace, idle};
 ghost use Rattle.taskset.specs.declared.PlannerAnswer.the-variants.{Planned};
 ghost use Rattle.options.specs.Options.{LaidBoth, TaskGiven, TasksGiven};
 ghost use Rattle.options.specs.Posed.{SetGiven, SetPosed};
-use arrays::Choice;
-use arrays::Request;
+use engine::Choice;
+use engine::Request;
 use layout::Layout;
 use taskset::PlannerAnswer;
 
@@ -83,7 +83,7 @@ pub fn pose(
     ensures { λ r. ⌜ SetPosed layout (now (set .entry)) rates tasks (now (loads .exit)) (now (energies .exit)) r ⌝ }
 {
     put_tasks(loads, energies, set, layout, rates, tasks, hyper);
-    let fastest = arrays::fastest_sum(loads, tasks, rates);
+    let fastest = engine::fastest_sum(loads, tasks, rates);
     if hyper < fastest {
         return Posed::NoneFits;
     }

@@ -20,8 +20,8 @@ use Rattle.taskset.specs.declared.PlannerAnswer.{PlannerAnswer}
 use Rattle.taskset.specs.declared.PlannerAnswer.the-variants.{Planned, Refused as NotPlanned}
 use Rattle.taskset.proofs.Checks.{refuses-before}
 use Rattle.taskset.proofs.DemandThree.{PlansList, engine-plans, list-plans, answer-owes}
-use Rattle.arrays.specs.declared.Request.{Request}
-use Rattle.arrays.specs.declared.Choice.{Choice}
+use Rattle.engine.specs.declared.Request.{Request}
+use Rattle.engine.specs.declared.Choice.{Choice}
 use Rattle.options.specs.Posed.{SetGiven, Poses}
 use Rattle.options.proofs.Planning.{set-given, none-given, energy-is, energy-fits, plan-given, numbers}
 use Rattle.planner.specs.Answers.{PlannerCall}

@@ -8,9 +8,9 @@ use native.Mathlib.Omega.{arith}
 use lib.ListN.{length}
 use Rattle.numbers.proofs.Tests.{lt-or-le}
 use Rattle.selection.specs.Plan.{workWords, mostPlans}
-use Rattle.arrays.specs.Arrays.{ChosenBy}
-use Rattle.arrays.specs.declared.Request.{Request}
-use Rattle.arrays.specs.declared.Choice.{Choice}
+use Rattle.engine.specs.Arrays.{ChosenBy}
+use Rattle.engine.specs.declared.Request.{Request}
+use Rattle.engine.specs.declared.Choice.{Choice}
 use Rattle.choice.specs.Choice.{ChoiceReady, Chose}
 use Rattle.exhaustive.specs.Engine.{ExhaustiveReady}
 use Rattle.layout.specs.Words.{mostTasks, slackPlace, slack, rateCount, taskCount}

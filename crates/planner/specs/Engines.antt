@@ -5,9 +5,9 @@ use mathlib.Core.Path.{_≡_}
 use mathlib.Core.List.{List}
 use lib.ListN.{length}
 use Rattle.selection.specs.Plan.{workWords, mostPlans}
-use Rattle.arrays.specs.Arrays.{EngineReady, ChosenBy}
-use Rattle.arrays.specs.declared.Request.{Request}
-use Rattle.arrays.specs.declared.Choice.{Choice}
+use Rattle.engine.specs.Arrays.{EngineReady, ChosenBy}
+use Rattle.engine.specs.declared.Request.{Request}
+use Rattle.engine.specs.declared.Choice.{Choice}
 use Rattle.taskset.specs.Planning.{layoutOf}
 use Rattle.taskset.specs.Refusals.{number, second, Passes, _▹_, idleChecks, hyperCheck, engineCheck}
 use Rattle.taskset.specs.Calls.{SetAfter, Cleared}

@@ -8,7 +8,7 @@ use native.Mathlib.Nat.{eq-or-lt-of-le}
 use native.Mathlib.Omega.{arith}
 use lib.ListN.{getD}
 use Rattle.selection.proofs.Cells.{entry-cap, Sound, rate-sound, rate-lowest}
-use Rattle.arrays.specs.Arrays.{optionAt}
+use Rattle.engine.specs.Arrays.{optionAt}
 use Rattle.table.specs.declared.Frame.{Frame}
 use Rattle.table.specs.Rows.{entryOf, rateOf, RateReady}
 

@@ -10,7 +10,7 @@ use native.Mathlib.Omega.{arith}
 use lib.ListN.{length, getD}
 use Rattle.numbers.proofs.Tests.{lt-or-le}
 use Rattle.selection.proofs.Cells.{entry-first, entry-row, entry-cap, leastTo, least-none, least-skip, least-step}
-use Rattle.arrays.specs.Arrays.{optionAt, Written}
+use Rattle.engine.specs.Arrays.{optionAt, Written}
 use Rattle.table.specs.declared.Frame.{Frame}
 use Rattle.table.specs.Rows.{entryOf, relaxed, Relaxable, RowAt, RowReady, RowWritten, TableReady, Tabled}
 

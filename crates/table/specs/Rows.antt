@@ -4,7 +4,7 @@ use mathlib.Core.Path.{_≡_}
 use mathlib.Core.List.{List}
 use lib.ListN.{length, getD}
 use Rattle.selection.proofs.Cells.{entry, rateTo}
-use Rattle.arrays.specs.Arrays.{optionAt, Written}
+use Rattle.engine.specs.Arrays.{optionAt, Written}
 use Rattle.table.specs.declared.Frame.{Frame}
 
 -- The table's entry in row i, the one after i tasks, column e.

@@ -6,7 +6,7 @@ ghost use mathlib.Core.Path.{_≡_};
 ghost use Prim.Native.Nat.{_+_, _≤_};
 ghost use lib.ListN.{length};
 ghost use Rattle.numbers.specs.Search.{Found};
-ghost use Rattle.arrays.specs.Arrays.{Written};
+ghost use Rattle.engine.specs.Arrays.{Written};
 ghost use Rattle.table.specs.Rows.{Relaxable, relaxed, RowReady, RowWritten, TableReady, Tabled};
 ghost use Rattle.table.specs.Rows.{Defined, RateReady, rateOf};
 

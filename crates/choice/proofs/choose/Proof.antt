@@ -4,8 +4,8 @@ use Prim.Native.Nat.{ℕ, _+_, _*_}
 use mathlib.Core.Path.{ap}
 use mathlib.Core.List.{List}
 use native.Mathlib.Omega.{arith}
-use Rattle.arrays.specs.Arrays.{loadBound, Small, SumReady}
-use Rattle.arrays.proofs.Adding.{as-loads}
+use Rattle.engine.specs.Arrays.{loadBound, Small, SumReady}
+use Rattle.engine.proofs.Adding.{as-loads}
 use Rattle.choice.proofs.Choosing.{search-ready, last-low, way-ready, own-words, plan-ready, chose}
 use borrow.Author.Needs.{needs}
 use Rattle.choice.proofs.choose.Statement.{statement}

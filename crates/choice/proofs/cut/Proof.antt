@@ -1,7 +1,7 @@
 use Prim.Native.Nat.{_≤_, _-_, _*_}
 use native.Mathlib.Omega.{arith}
-use Rattle.arrays.specs.Arrays.{Written}
-use Rattle.arrays.proofs.Writing.{written-none, written-more, written-to}
+use Rattle.engine.specs.Arrays.{Written}
+use Rattle.engine.proofs.Writing.{written-none, written-more, written-to}
 use Rattle.choice.specs.Units.{cutOf}
 use borrow.Author.Needs.{needs}
 use Rattle.choice.proofs.cut.Statement.{statement}

@@ -3,8 +3,8 @@
 use Prim.Native.Nat.{_*_, _<_}
 use mathlib.Core.Path.{_∙_}
 use native.Mathlib.Omega.{arith}
-use Rattle.arrays.proofs.Adding.{energies-low, as-loads}
-use Rattle.arrays.proofs.Units.{stops-true, stops-false}
+use Rattle.engine.proofs.Adding.{energies-low, as-loads}
+use Rattle.engine.proofs.Units.{stops-true, stops-false}
 use Rattle.choice.proofs.Trying.{Trying, trying-start, unit-ready, least-small, product-small, unit-used, trying-turn}
 use borrow.Author.Needs.{needs}
 use Rattle.choice.proofs.find_unit.Statement.{statement}

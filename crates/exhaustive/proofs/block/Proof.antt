@@ -3,7 +3,7 @@
 use Prim.Native.Nat.{_+_, _-_, _≤_}
 use mathlib.Core.Path.{_≡_}
 use native.Mathlib.Omega.{arith}
-use Rattle.arrays.specs.Arrays.{arrays}
+use Rattle.engine.specs.Arrays.{arrays}
 use Rattle.exhaustive.specs.Engine.{Seen}
 use Rattle.exhaustive.proofs.Order.{rank-below}
 use Rattle.exhaustive.proofs.Hands.{block-change, block-turn}

@@ -1,6 +1,6 @@
 -- The unit used, then the plan of the rank found, and its energy.
 -- Assumes nothing.
-use Rattle.arrays.proofs.Adding.{as-loads}
+use Rattle.engine.proofs.Adding.{as-loads}
 use Rattle.exhaustive.proofs.Chosen.{put-ready, plan-ready, engine-chosen}
 use borrow.Author.Needs.{needs}
 use Rattle.exhaustive.proofs.choose.Statement.{statement}

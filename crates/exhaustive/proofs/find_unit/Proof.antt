@@ -4,10 +4,10 @@ use Prim.Native.Nat.{_*_, _^_, _<_}
 use native.Mathlib.Nat.{mul-le-mul-right}
 use native.Mathlib.Omega.{arith}
 use Rattle.arithmetic.specs.declared.Power.{Power}
-use Rattle.arrays.specs.Arrays.{arrays}
-use Rattle.arrays.proofs.Adding.{energies-low, as-loads}
-use Rattle.arrays.proofs.Units.{Tried, tried-start, first-low, tried-turn, tried-used, tried-low}
-use Rattle.arrays.proofs.Units.{stops-true, stops-false}
+use Rattle.engine.specs.Arrays.{arrays}
+use Rattle.engine.proofs.Adding.{energies-low, as-loads}
+use Rattle.engine.proofs.Units.{Tried, tried-start, first-low, tried-turn, tried-used, tried-low}
+use Rattle.engine.proofs.Units.{stops-true, stops-false}
 use Rattle.exhaustive.specs.Engine.{UnitReady, ChosenAt}
 use Rattle.exhaustive.proofs.Chosen.{best-least}
 use borrow.Author.Needs.{needs}

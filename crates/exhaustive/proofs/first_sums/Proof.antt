@@ -6,7 +6,7 @@ use native.Mathlib.Omega.{arith}
 use lib.ListN.{replicate}
 use Rattle.numbers.specs.Numbers.{total}
 use Rattle.numbers.proofs.Sums.{total-none}
-use Rattle.arrays.specs.Arrays.{optionAt, loadBound, energyBound}
+use Rattle.engine.specs.Arrays.{optionAt, loadBound, energyBound}
 use Rattle.exhaustive.proofs.Hands.{ones-low, ones-turn, ones-hand}
 use borrow.Author.Needs.{needs}
 use Rattle.exhaustive.proofs.first_sums.Statement.{statement}

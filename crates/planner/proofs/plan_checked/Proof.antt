@@ -2,7 +2,7 @@
 -- Assumes nothing.
 use mathlib.Core.Path.{sym, subst}
 use Rattle.layout.specs.declared.Layout.{Layout}
-use Rattle.arrays.specs.declared.Request.{Request}
+use Rattle.engine.specs.declared.Request.{Request}
 use Rattle.taskset.specs.Planning.{planning, layoutOf}
 use Rattle.options.specs.Posed.{SetGiven, Poses, PosedFor}
 use Rattle.options.specs.declared.Posed.{Posed}

@@ -9,7 +9,7 @@ use native.Mathlib.Nat.{eq-or-lt-of-le}
 use native.Mathlib.Omega.{arith}
 use lib.ListN.{length, getD, set, drop, replicate, length-set, length-drop}
 use lib.Seq.{ext-getD, getD-drop, getD-set-same, getD-set-other}
-use Rattle.arrays.specs.Arrays.{Written}
+use Rattle.engine.specs.Arrays.{Written}
 
 pub written-none : (f : ℕ → ℕ) (lo : ℕ) (d : List ℕ) → Written f lo lo d d
 written-none f lo d = record { same = refl; here = λ p a b. absurd (omega arith); below = λ p a. refl; above = λ p a. refl }

@@ -7,7 +7,7 @@ ghost use Prim.Native.Nat.{_-_, _*_, _/_, _^_, _≤_, _<_};
 ghost use lib.Dec.{eqb, leb};
 ghost use lib.ListN.{replicate};
 ghost use Rattle.numbers.specs.Numbers.{total};
-ghost use Rattle.arrays.specs.Arrays.{optionAt, Written, costOf, loadBound, Small, RoundReady, SumReady};
+ghost use Rattle.engine.specs.Arrays.{optionAt, Written, costOf, loadBound, Small, RoundReady, SumReady};
 use arithmetic::Power;
 
 // What a plan is chosen for: so many tasks and rates, the limit of the plan's load, and the slack.

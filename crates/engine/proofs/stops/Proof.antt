@@ -1,7 +1,7 @@
 use borrow.Author.Needs.{needs}
 use borrow.Author.Tests.{eq-eqb, ne-eqb}
-use Rattle.arrays.proofs.stops.Statement.{statement}
-use Rattle.arrays.proofs.stops.Tie as tie
+use Rattle.engine.proofs.stops.Statement.{statement}
+use Rattle.engine.proofs.stops.Tie as tie
 
 mul-result : tie.Need-mul-result
 mul-result c = search needs

@@ -11,7 +11,7 @@ use Rattle.numbers.specs.Numbers.{total}
 use Rattle.arithmetic.specs.declared.Power.{Power}
 use Rattle.numbers.proofs.Sums.{total-more, total-bound, total-same}
 use Rattle.numbers.proofs.Powers.{power-positive}
-use Rattle.arrays.specs.Arrays.{optionAt, loadBound, energyBound, Small, SumReady, costOf, RoundReady}
+use Rattle.engine.specs.Arrays.{optionAt, loadBound, energyBound, Small, SumReady, costOf, RoundReady}
 
 -- ---- sums
 -- Of at most 32 options below a bound.

@@ -7,8 +7,8 @@ use lib.ListN.{length, getD, take, drop}
 use Rattle.numbers.specs.Numbers.{ceil}
 use Rattle.arithmetic.specs.declared.Power.{Power}
 use Rattle.selection.specs.Plan.{Problem, planLoad, planEnergy, fastest, IsPlanned}
-use Rattle.arrays.specs.declared.Request.{Request}
-use Rattle.arrays.specs.declared.Choice.{Choice}
+use Rattle.engine.specs.declared.Request.{Request}
+use Rattle.engine.specs.declared.Choice.{Choice}
 
 -- What stands for rate number r of the task at place t.
 abbrev pub optionAt : List ℕ → ℕ → ℕ → ℕ

@@ -1,14 +1,14 @@
 use Prim.Native.Nat.{ℕ, _+_, _≤_, _-_, _*_}
 use mathlib.Core.Path.{_≡_, sym, ap, _∙_}
 use lib.ListN.{getD}
-use Rattle.arrays.proofs.Adding.{sum-low, sum-turn}
+use Rattle.engine.proofs.Adding.{sum-low, sum-turn}
 use native.Mathlib.Omega.{arith}
 use Rattle.numbers.specs.Numbers.{total}
 use Rattle.numbers.proofs.Sums.{total-none}
-use Rattle.arrays.specs.Arrays.{optionAt, loadBound}
+use Rattle.engine.specs.Arrays.{optionAt, loadBound}
 use borrow.Author.Needs.{needs}
-use Rattle.arrays.proofs.sum.Statement.{statement}
-use Rattle.arrays.proofs.sum.Tie as tie
+use Rattle.engine.proofs.sum.Statement.{statement}
+use Rattle.engine.proofs.sum.Tie as tie
 
 abbrev Inv-loop : tie.InvT-loop
 Inv-loop options tasks plan s₀ t₀ s t = (t ≤ tasks) × (s ≡ total (optionAt options) t plan)

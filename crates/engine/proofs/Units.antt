@@ -17,9 +17,9 @@ use Rattle.numbers.proofs.Tests.{or-true, or-false}
 use Rattle.selection.specs.Plan.{Problem, Fitting, planEnergy, fastest, threshold, IsLeastOf, FallsShortOf, IsUsedOf}
 use Rattle.selection.proofs.Bounds.{last-small, tried-in-table}
 use Rattle.selection.proofs.Fastest.{fastest-fits}
-use Rattle.arrays.specs.Arrays.{optionAt, arrays, energyBound, Small, Asked}
-use Rattle.arrays.specs.declared.Request.{Request}
-use Rattle.arrays.proofs.Adding.{energies-low}
+use Rattle.engine.specs.Arrays.{optionAt, arrays, energyBound, Small, Asked}
+use Rattle.engine.specs.declared.Request.{Request}
+use Rattle.engine.proofs.Adding.{energies-low}
 
 -- What holds before a unit is tried, where 2 ^ first is the first unit.
 pub record Tried (p : Problem) (G first : ℕ) (unit : Power) : Type 0 where

@@ -9,9 +9,9 @@ use lib.Seq.{getD-take}
 use Rattle.numbers.specs.Numbers.{total}
 use Rattle.numbers.proofs.Sums.{total-same}
 use Rattle.selection.specs.Plan.{Problem, Fitting, IsUsedOf, IsChosenOf}
-use Rattle.arrays.specs.declared.Request.{Request}
-use Rattle.arrays.specs.Arrays.{optionAt, loadBound, Small, SumReady, arrays, EngineReady, ChosenBy}
-use Rattle.arrays.proofs.Writing.{rest-same}
+use Rattle.engine.specs.declared.Request.{Request}
+use Rattle.engine.specs.Arrays.{optionAt, loadBound, Small, SumReady, arrays, EngineReady, ChosenBy}
+use Rattle.engine.proofs.Writing.{rest-same}
 
 module _ {q : Request} {loads energies plan₀ : List ℕ} (g : EngineReady q loads energies plan₀)
     (plan : List ℕ) (same : length plan ≡ length plan₀) where

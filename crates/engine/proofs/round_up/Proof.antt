@@ -2,12 +2,12 @@
 -- Assumes nothing.
 use Prim.Native.Nat.{_≤_, _-_, _*_}
 use native.Mathlib.Omega.{arith}
-use Rattle.arrays.specs.Arrays.{Written, costOf}
-use Rattle.arrays.proofs.Writing.{written-none, written-more, written-to}
-use Rattle.arrays.proofs.Adding.{unit-positive, unit-low, cost-is}
+use Rattle.engine.specs.Arrays.{Written, costOf}
+use Rattle.engine.proofs.Writing.{written-none, written-more, written-to}
+use Rattle.engine.proofs.Adding.{unit-positive, unit-low, cost-is}
 use borrow.Author.Needs.{needs}
-use Rattle.arrays.proofs.round_up.Statement.{statement}
-use Rattle.arrays.proofs.round_up.Tie as tie
+use Rattle.engine.proofs.round_up.Statement.{statement}
+use Rattle.engine.proofs.round_up.Tie as tie
 
 abbrev Inv-loop : tie.InvT-loop
 Inv-loop energies tasks cost₀ exponent less end k₀ cost k = (k ≤ tasks * 16) × Written (costOf energies exponent) 0 k cost₀ cost
