@@ -302,6 +302,8 @@ pub record Cases : Type 0 where
   -- number for task 2.
   plan-list-1 : (plan work : List ℕ) → length plan ≡ 1 → length work ≡ 243 → PlannerGives (Table Ordinary) (S 100) plan work plan work (NotPlanned (TooShort 2))
   pub tie : (plan work : List ℕ) → length plan ≡ 2 → length work ≡ 243 → PlannerGives (Table Ordinary) even-tasks plan work (2 ∷ 1 ∷ []) (replicate 243 0) (Planned 1 4 4 6)
+  -- Rate number 0 is no job: of S, with a first release of 3, task 2 at rate 1 alone has load 20, and its jobs cost 14.
+  rate-0 : (planLoad (problemOf Ordinary (S-from 3 0)) (0 ∷ 1 ∷ []) ≡ 20) × (jobsEnergy Ordinary (S-from 3 0) (0 ∷ 1 ∷ []) ≡ 14)
   -- Document 02, note 4. The slower rate costs 910 - 10 × 90 = 10 over idling, the faster 200 - 10 × 10 = 100: plan 1, and
   -- with 10 idle ticks 910 + 10 × 10 = 1,010 in all, against 200 + 10 × 90 = 1,100 for plan 2.
   pub idle-counts : (plan work : List ℕ) → length plan ≡ 1 → length work ≡ 82
@@ -442,6 +444,7 @@ cases =
       long-bad-plan = plan-refused (S 100) 3 2 30 refl (1 ∷ 1 ∷ 9 ∷ 9 ∷ []) 2 refl;
       plan-list-1 = λ plan work p q. plan-short (S 100) 3 2 30 refl plan work (omega arith) (omega arith);
       tie = of-tie;
+      rate-0 = (refl, refl);
       idle-counts = planned (slow-or-fast 10 910) 2 1 100 refl (1 ∷ []) 0 1 90 1010
           (le-by-compare _ _ tt) (le-by-compare _ _ tt) refl refl refl refl refl refl;
       walk-idle = (walks (slow-or-fast 10 910) 2 1 100 refl (1 ∷ []) refl, refl);

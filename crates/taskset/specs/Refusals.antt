@@ -181,8 +181,8 @@ engineCheck Exhaustive s workLength = manyCheck Ordinary s
 -- working list.
 abbrev pub readyChecks : Engine → List ℕ → ℕ → ℕ → List Check
 readyChecks e s planLength workLength =
-    idleChecks (layoutOf e) s ▹ hyperCheck (layoutOf e) s ▹ engineCheck e s workLength ▹
-    roomCheck (taskCount (layoutOf e) s) planLength
+    idleChecks (layoutOf e) s ▹ hyperCheck (layoutOf e) s ▹
+    engineCheck e s workLength ▹ roomCheck (taskCount (layoutOf e) s) planLength
 
 abbrev pub plannerChecks : Engine → List ℕ → ℕ → ℕ → List Check
 plannerChecks e s planLength workLength =

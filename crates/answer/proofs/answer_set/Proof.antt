@@ -49,10 +49,10 @@ ready c =
 -- What the planner gave.
 abbrev Call : tie.After-plan-checked → PlannerAnswer → Type 0
 Call p =
-    PlannerCall (Table Ordinary) (planned-set p) (replicate planLent 0) (replicate workLent 0) (p .plan-checked .last .1 .0) (p .plan-checked .last .1 .1 .0)
+    PlannerCall (Table Ordinary) (planned-set p) (replicate planLent 0) (replicate workLent 0) (p .plan-checked .last .1 .1 .0) (p .plan-checked .last .1 .1 .1 .0)
 
 plan-of : (c : tie.After-unit) → let p = called (c .before .before) in
-    PlannedSet (planned-set p) (take (checked p .rates .given .0 .1 .0) (p .plan-checked .last .1 .0))
+    PlannedSet (planned-set p) (take (checked p .rates .given .0 .1 .0) (p .plan-checked .last .1 .1 .0))
     (c .unit .given .0 .0) (c .unit .given .0 .1 .0) (c .unit .given .0 .1 .1 .0) (c .unit .given .0 .1 .1 .1 .0)
 plan-of c =
     let p = called (c .before .before) in
@@ -60,10 +60,10 @@ plan-of c =
     (subst (Call p) (c .unit .given .1) (p .plan-checked .ensures))
 
 fits : (c : tie.After-unit)
-    → let p = called (c .before .before) in checked p .rates .given .0 .1 .0 ≤ length (p .plan-checked .last .1 .0)
+    → let p = called (c .before .before) in checked p .rates .given .0 .1 .0 ≤ length (p .plan-checked .last .1 .1 .0)
 fits c =
     let p = called (c .before .before) in
-    omega (arith, ready (checked p) .2, tasks-few (planned-set p) (plan-of c .accepts), p .plan-checked .kept .1 .0)
+    omega (arith, ready (checked p) .2, tasks-few (planned-set p) (plan-of c .accepts), p .plan-checked .kept .1 .1 .0)
 
 ready-requires : tie.Need-ready-requires
 ready-requires c κs = search needs
