@@ -33,22 +33,26 @@ module _ (layout : Layout) (s : List ℕ) where
   abbrev pub AreFirsts : (ℕ → ℕ) → Type 0
   AreFirsts a = (t : ℕ) → t < taskCount layout s → a t < period layout s t
 
-  -- "its plan must keep all deadlines for ever under every choice of A" (document 02, note 6).
+  -- Every deadline for ever, whichever of these they are.
   abbrev pub KeepsFrom : List ℕ → Type 0
   KeepsFrom P = (a : ℕ → ℕ) → AreFirsts a → KeepsForEver (tasksWith layout s a P)
 
-  -- A LIST'S OWN PLANNING.
-  -- "Units, rounding and selection now use the energy per job less H × job time"; a plan "fits when its load is at most
-  -- L": the problem. "The reported energy is the plan's task energies plus H × (L - load), and the 1000 + slack
-  -- comparison is made between such totals": the energy. Demand 3 compares with "every plan that keeps every deadline
-  -- for ever", and note 6 grants every choice of first releases.
+  -- WHAT A LIST IS PLANNED AS.
   abbrev pub planning : Planning
   planning = record {
+    -- "Units, rounding and selection now use the energy per job less H × job time", and a plan "fits when its load is at
+    -- most L."
     problem = problemOf layout s;
+    -- "the slack G in thousandths"
     slack = slackOf s;
+    -- "Hyper-period L: the least common multiple of the periods"
     hyper = hyperPeriod layout s;
+    -- "The reported energy is the plan's task energies plus H × (L - load), and the 1000 + slack comparison is made
+    -- between such totals."
     energy = reportedEnergy layout s;
+    -- "A plan keeps every deadline for ever when it misses at no tick, however late."
     Keeps = Keeps;
+    -- "its plan must keep all deadlines for ever under every choice of A" (document 02, note 6)
     Grants = KeepsFrom;
   }
 
