@@ -19,6 +19,9 @@ use taskset::PlannerAnswer;
 use taskset::Refusal;
 use ticks::WalkEnd;
 
+// How many bytes four values take.
+const RESULT_BYTES: usize = 32;
+
 // A refusal in one number: its number times 2^32, plus its second number.
 fn code_of(r: Refusal) -> u64
     requires { ⌜ second r < 2 ^ 32 ⌝ }
@@ -56,7 +59,7 @@ fn put_values(d: &mut [u8], a: u64, b: u64, c: u64, e: u64)
 fn too_few(results_len: usize) -> bool
     ensures { λ r. ⌜ r ≡ ltb «results_len» resultSize ⌝ }
 {
-    results_len < 32
+    results_len < RESULT_BYTES
 }
 
 // Leaves the answer of a call that plans: 0 and its four values, or a refusal.
@@ -93,7 +96,7 @@ pub extern "C" fn seedspell_walk(set: &[u32], plan: &[u32], results: &mut [u8]) 
             hyper,
         } => {
             if too_few(results.len()) {
-                return code_of(Refusal::TooShort(32));
+                return code_of(Refusal::TooShort(RESULT_BYTES));
             }
             let end = walk::walk_checked(set, plan, rates, tasks, hyper);
             match end {
@@ -130,7 +133,7 @@ fn plan_list(
             hyper,
         } => {
             if too_few(results.len()) {
-                return code_of(Refusal::TooShort(32));
+                return code_of(Refusal::TooShort(RESULT_BYTES));
             }
             let answer = planner::plan_checked(set, engine, plan, work, rates, tasks, hyper);
             put_answer(results, answer)
@@ -151,13 +154,13 @@ pub extern "C" fn seedspell_plan(
     plan_list(set, Engine::Table(Layout::Ordinary), plan, work, results)
 }
 
-// The dull engine, which is lent no working words.
+// The dull engine. C lends it no working words; the one that is lent here stays as it is.
 #[no_mangle]
 pub extern "C" fn seedspell_plan_dull(set: &[u32], plan: &mut [u32], results: &mut [u8]) -> u64
     ensures { λ r. ⌜ DullEntry (now (set .entry)) (now (plan .entry)) (now (results .entry)) (now (plan .exit)) (now (results .exit)) r ⌝ }
 {
-    let mut none = [0u32; 1];
-    plan_list(set, Engine::Exhaustive, plan, &mut none, results)
+    let mut spare = [0u32; 1];
+    plan_list(set, Engine::Exhaustive, plan, &mut spare, results)
 }
 
 // The generator: 0 and 32 result bytes (the set's length, 0, 0, 0), or a refusal. Too few result bytes are refused before
@@ -171,7 +174,7 @@ pub extern "C" fn seedspell_generate(seed: u32, n: u32, set: &mut [u32], results
         Room::Refused(r) => code_of(r),
         Room::Enough(needed) => {
             if too_few(results.len()) {
-                return code_of(Refusal::TooShort(32));
+                return code_of(Refusal::TooShort(RESULT_BYTES));
             }
             generator::put_set(seed, n, set);
             put_values(results, needed as u64, 0, 0, 0);

@@ -78,8 +78,13 @@ fn dull_record(name: &[u8], s: &[u8]) -> bool {
     let k = set.value;
     let j = lent.value;
     let mut plan = [0u32; 400];
-    let mut none = [7u32; 1];
-    let a = planner::plan(&words[0..k], Engine::Exhaustive, &mut plan[0..j], &mut none);
+    let mut spare = [7u32; 1];
+    let a = planner::plan(
+        &words[0..k],
+        Engine::Exhaustive,
+        &mut plan[0..j],
+        &mut spare,
+    );
     print::text(name);
     print::planned(a, &plan);
     true

@@ -11,7 +11,7 @@ use Rattle.taskset.specs.Quantities.{energyBits, problemOf}
 use Rattle.taskset.specs.Planning.{Planning, planning, layoutOf}
 use Rattle.taskset.specs.Refusals.{number, second, Check, Accepts, Refuses, _▹_, roomCheck, noneCheck}
 use Rattle.taskset.specs.Refusals.{readyChecks, plannerChecks}
-use Rattle.taskset.specs.Calls.{code, SetAfter, RateNumbers, PlanGives, WorkAfter}
+use Rattle.taskset.specs.Calls.{code, SetAfter, RateNumbers, PlanGives}
 use Rattle.taskset.specs.DemandThree.{PlanPromise}
 use Rattle.taskset.specs.declared.Checked.the-variants.{Refused as NotGood}
 use Rattle.taskset.specs.declared.Engine.{Engine}
@@ -23,6 +23,7 @@ use Rattle.taskset.specs.declared.PlannerAnswer.the-variants.{Planned, Refused 
 use Rattle.taskset.proofs.Checks.{without-next, accepts-back, accepts-but-last, accepts-next}
 use Rattle.taskset.proofs.Checks.{refuses-next, refuses-before, refuses-back, refuses-rest}
 use Rattle.taskset.proofs.Small.{planner-second-small}
+use Rattle.taskset.proofs.SamePlanning.{untouched}
 use Rattle.taskset.proofs.DemandThree.{Plans, engine-plans, list-plans, refusal-owes, answer-owes}
 use Rattle.taskset.proofs.Margin.{InBits, margin-small, list-in-bits}
 use Rattle.planner.specs.Answers.{PlannerCall}
@@ -232,8 +233,4 @@ entry-with other same e = record {
 -- The dull engine's, whatever working words are lent: it touches none.
 pub without-work : {s plan work d plan′ work′ d′ : List ℕ} {x : ℕ} → PlanEntry Exhaustive s plan work d plan′ work′ d′ x
     → DullEntry s plan d plan′ d′ x
-without-work = entry-with (λ a g. (g .0, untouched a)) (λ u. (u .0, refl))
-  where
-    untouched : (a : PlannerAnswer) → WorkAfter 0 [] [] a
-    untouched (Planned unit load hyper energy) = refl
-    untouched (NotPlanned r) = refl
+without-work = entry-with (λ a g. (g .0, untouched [] a)) (λ u. (u .0, refl))

@@ -4,8 +4,7 @@ use Prim.Native.Nat.{ℕ, _≤_, _<_}
 use mathlib.Core.Path.{_≡_, refl, subst, sym}
 use mathlib.Core.List.{List}
 use native.Mathlib.Omega.{arith}
-use lib.ListN.{length}
-use Rattle.layout.specs.Words.{slackPlace, taskCount}
+use Rattle.layout.specs.Words.{taskCount}
 use Rattle.layout.specs.declared.Layout.{Layout}
 use Rattle.layout.specs.Whole.{IsWhole}
 use Rattle.layout.proofs.Whole.{whole-of}
@@ -15,20 +14,14 @@ use Rattle.taskset.specs.Calls.{SetAfter}
 use Rattle.taskset.specs.declared.Refusal.{Refusal}
 use Rattle.taskset.specs.declared.Refusal.the-variants.{TooShort}
 use Rattle.taskset.specs.declared.Checked.the-variants.{Good, Refused as NotGood}
+use Rattle.options.specs.Posed.{SetPassed}
 use Rattle.taskset.proofs.Checks.{no-word-fault, accepts-next, refuses-next, refuses-before, passed}
-
--- A set of m rates, n tasks and hyper-period l has passed checks 2, 3, 10 and 4.
-pub record SetPassed (layout : Layout) (s : List ℕ) (m n l : ℕ) : Type 0 where
-  pub after : SetAfter (idleChecks layout s ▹ hyperCheck layout s) layout s (Good m n l)
 
 module _ {layout : Layout} {s : List ℕ} {m n l : ℕ} (passed-set : SetPassed layout s m n l) where
   pub whole : IsWhole layout s
   whole =
       whole-of layout s
       (no-word-fault layout s (passed 2 (idleChecks layout s ▹ hyperCheck layout s) refl (passed-set .after .0)))
-
-  pub some-words : slackPlace < length s
-  some-words = omega (arith, whole .size)
 
 module _ (layout : Layout) (s : List ℕ) (c : Check) (planLength : ℕ) where
   abbrev set : List Check

@@ -13,7 +13,7 @@ use Rattle.selection.specs.Plan.{Problem, Fitting, IsPlan}
 use Rattle.selection.proofs.Same.{load-same, energy-same, fitting-same, planned-same}
 use Rattle.layout.specs.Words.{idle}
 use Rattle.layout.specs.declared.Layout.{Layout}
-use Rattle.taskset.specs.Quantities.{hyperPeriod, reportedEnergy}
+use Rattle.taskset.specs.Quantities.{reportedEnergy}
 use Rattle.taskset.specs.Planning.{Planning, planning}
 use Rattle.taskset.specs.Refusals.{IsShort, Check, Accepts, _▹_, noneCheck}
 use Rattle.taskset.specs.Calls.{plannerValues, SetAfter, Selected, HoldsPlan, RateNumbers, PlanGives}

@@ -9,6 +9,9 @@ use Rattle.layout.specs.Words.{rateCount, taskCount}
 use Rattle.layout.specs.declared.Layout.{Layout}
 use Rattle.taskset.specs.Quantities.{hyperPeriod}
 use Rattle.taskset.specs.Planning.{Planning, planning}
+use Rattle.taskset.specs.Refusals.{_▹_, idleChecks, hyperCheck}
+use Rattle.taskset.specs.Calls.{SetAfter}
+use Rattle.taskset.specs.declared.Checked.the-variants.{Good}
 use Rattle.taskset.specs.Sets.{IsSet}
 use Rattle.taskset.specs.Sets.{Covered}
 use Rattle.engine.specs.Arrays.{loadBound, energyBound, arrays, Asked, Small}
@@ -24,6 +27,10 @@ pub record SetGiven (layout : Layout) (s : List ℕ) (m n l : ℕ) : Type 0 wher
   pub rates : m ≡ rateCount layout s
   pub tasks : n ≡ taskCount layout s
   pub hyper : l ≡ hyperPeriod layout s
+
+-- It has passed them: what the checks answered.
+pub record SetPassed (layout : Layout) (s : List ℕ) (m n l : ℕ) : Type 0 where
+  pub after : SetAfter (idleChecks layout s ▹ hyperCheck layout s) layout s (Good m n l)
 
 -- The request and the arrays give the planning's own problem, with its slack; and a plan fits.
 pub record Poses (m : Planning) (loads energies : List ℕ) (q : Request) : Type 0 where

@@ -25,7 +25,7 @@ use Rattle.engine.specs.declared.Choice.{Choice}
 use Rattle.options.specs.Posed.{SetGiven, Poses}
 use Rattle.options.proofs.Planning.{set-given, none-given, energy-is, energy-fits, plan-given, numbers}
 use Rattle.planner.specs.Answers.{PlannerCall}
-use Rattle.planner.specs.Engines.{clears, EngineAsked, EngineChose}
+use Rattle.planner.specs.Engines.{EngineAsked, EngineChose}
 use Rattle.planner.proofs.Engines.{asked, clears-own}
 
 -- What meets document 01's definition keeps what demand 3 asks of it.

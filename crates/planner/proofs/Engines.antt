@@ -16,7 +16,6 @@ use Rattle.exhaustive.specs.Engine.{ExhaustiveReady}
 use Rattle.layout.specs.Words.{mostTasks, slackPlace, slack, rateCount, taskCount}
 use Rattle.layout.specs.declared.Layout.{Layout}
 use Rattle.layout.specs.declared.Layout.the-variants.{Ordinary}
-use Rattle.layout.specs.Whole.{IsWhole}
 use Rattle.layout.proofs.Whole.{slack-in}
 use Rattle.taskset.specs.Quantities.{workNeeded}
 use Rattle.taskset.specs.Planning.{planning, layoutOf, workOf}
@@ -27,38 +26,31 @@ use Rattle.taskset.specs.declared.Engine.{Engine}
 use Rattle.taskset.specs.declared.Engine.the-variants.{Table, Exhaustive}
 use Rattle.taskset.specs.Sets.{IsSet}
 use Rattle.taskset.proofs.Checks.{passed}
-use Rattle.options.specs.Posed.{Poses}
-use Rattle.options.proofs.Enough.{SetPassed, whole}
+use Rattle.options.specs.Posed.{SetPassed, Poses}
+use Rattle.options.proofs.Enough.{whole}
 use Rattle.options.proofs.Planning.{long-enough, engine-ready}
-use Rattle.planner.specs.Engines.{Counted, OwnAfter, Asks, clears, EngineAsked, EngineChose}
-use Rattle.planner.specs.declared.Own.{Own}
+use Rattle.planner.specs.Engines.{OwnAfter, Asks, clears, EngineAsked, EngineChose}
 use Rattle.planner.specs.declared.Own.the-variants.{Passed, Failed}
 
 -- ---- the check that is an engine's own, of a set that has passed those before it
-module _ {e : Engine} {s : List ℕ} {m n l : ℕ} (counted : Counted e s m n l) where
-  set-passed : SetPassed (layoutOf e) s m n l
-  set-passed = record { after = counted .after }
-
-  set-whole : IsWhole (layoutOf e) s
-  set-whole = whole set-passed
-
+module _ {layout : Layout} {s : List ℕ} {m n l : ℕ} (counted : SetPassed layout s m n l) where
   pub some-words : slackPlace < length s
-  some-words = omega (arith, set-whole .size)
+  some-words = omega (arith, whole counted .size)
 
   pub tasks-few : n ≤ mostTasks
-  tasks-few = omega (arith, counted .after .2, set-whole .tasks-range .1)
+  tasks-few = omega (arith, counted .after .2, whole counted .tasks-range .1)
 
   pub slack-positive : 1 ≤ slack s
-  slack-positive = slack-in (layoutOf e) s set-whole .0
+  slack-positive = slack-in layout s (whole counted) .0
 
   pub rates-range : (1 ≤ m) × (m ≤ 8)
   rates-range = (
-    omega (arith, counted .after .1, set-whole .rates-range .0),
-    omega (arith, counted .after .1, set-whole .rates-range .1),
+    omega (arith, counted .after .1, whole counted .rates-range .0),
+    omega (arith, counted .after .1, whole counted .rates-range .1),
   )
 
 -- Check 5, with w the words needed.
-module _ (layout : Layout) {s : List ℕ} {m n l : ℕ} (counted : Counted (Table layout) s m n l)
+module _ (layout : Layout) {s : List ℕ} {m n l : ℕ} (counted : SetPassed layout s m n l)
     {w : ℕ} (is : w ≡ workWords n (slack s)) (workLength : ℕ) where
   needed : w ≡ workNeeded layout s
   needed = rw (← counted .after .2) is
@@ -70,7 +62,7 @@ module _ (layout : Layout) {s : List ℕ} {m n l : ℕ} (counted : Counted (Tabl
   table-enough h k x = omega (arith, x .0, needed)
 
 -- Check 11, with k the plans as they were counted.
-module _ {s : List ℕ} {m n l : ℕ} (counted : Counted Exhaustive s m n l)
+module _ {s : List ℕ} {m n l : ℕ} (counted : SetPassed Ordinary s m n l)
     {k : ℕ} (is : k ≡ min (m ^ n) (suc mostPlans)) (workLength : ℕ) where
   power : m ^ n ≡ rateCount Ordinary s ^ taskCount Ordinary s
   power = ap₂ _^_ (counted .after .1) (counted .after .2)
@@ -82,10 +74,10 @@ module _ {s : List ℕ} {m n l : ℕ} (counted : Counted Exhaustive s m n l)
   plans-few h j x = omega (arith, power, x .1)
 
 -- The same of an engine that is known to be the one or the other.
-module _ {e : Engine} {s : List ℕ} {m n l : ℕ} (counted : Counted e s m n l) (workLength : ℕ) where
+module _ {e : Engine} {s : List ℕ} {m n l : ℕ} (counted : SetPassed (layoutOf e) s m n l) (workLength : ℕ) where
   module _ {layout : Layout} (is : e ≡ Table layout) {w : ℕ} (w-is : w ≡ workWords n (slack s)) where
-    by-table : Counted (Table layout) s m n l
-    by-table = subst (λ (x : Engine). Counted x s m n l) is counted
+    by-table : SetPassed layout s m n l
+    by-table = subst (λ (x : Engine). SetPassed (layoutOf x) s m n l) is counted
 
     pub work-short : workLength < w → OwnAfter e s workLength (Failed (WorkShort w))
     work-short h =
@@ -97,8 +89,8 @@ module _ {e : Engine} {s : List ℕ} {m n l : ℕ} (counted : Counted e s m n l)
         subst (λ (x : Engine). OwnAfter x s workLength Passed) (sym is) (table-enough layout by-table w-is workLength h)
 
   module _ (is : e ≡ Exhaustive) {k : ℕ} (k-is : k ≡ min (m ^ n) (suc mostPlans)) where
-    through-all : Counted Exhaustive s m n l
-    through-all = subst (λ (x : Engine). Counted x s m n l) is counted
+    through-all : SetPassed Ordinary s m n l
+    through-all = subst (λ (x : Engine). SetPassed (layoutOf x) s m n l) is counted
 
     pub too-many : mostPlans < k → OwnAfter e s workLength (Failed TooManyPlans)
     too-many h =

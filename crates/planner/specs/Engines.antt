@@ -8,20 +8,14 @@ use Rattle.selection.specs.Plan.{workWords, mostPlans}
 use Rattle.engine.specs.Arrays.{EngineReady, ChosenBy}
 use Rattle.engine.specs.declared.Request.{Request}
 use Rattle.engine.specs.declared.Choice.{Choice}
-use Rattle.taskset.specs.Planning.{layoutOf}
-use Rattle.taskset.specs.Refusals.{number, second, Passes, _▹_, idleChecks, hyperCheck, engineCheck}
-use Rattle.taskset.specs.Calls.{SetAfter, Cleared}
-use Rattle.taskset.specs.declared.Checked.the-variants.{Good}
+use Rattle.taskset.specs.Refusals.{number, second, Passes, engineCheck}
+use Rattle.taskset.specs.Calls.{Cleared}
 use Rattle.taskset.specs.declared.Engine.{Engine}
 use Rattle.taskset.specs.declared.Engine.the-variants.{Table, Exhaustive}
 use Rattle.planner.specs.declared.Own.{Own}
 use Rattle.planner.specs.declared.Own.the-variants.{Passed, Failed}
 
--- A set of m rates, n tasks and hyper-period l has passed checks 2, 3, 10 and 4.
-pub record Counted (e : Engine) (s : List ℕ) (m n l : ℕ) : Type 0 where
-  pub after : SetAfter (idleChecks (layoutOf e) s ▹ hyperCheck (layoutOf e) s) (layoutOf e) s (Good m n l)
-
--- What the engine's own check of it answers.
+-- What the engine's own check of a set that has passed those before it answers.
 abbrev pub OwnAfter : Engine → List ℕ → ℕ → Own → Type 0
 OwnAfter e s workLength Passed = Passes (engineCheck e s workLength)
 OwnAfter e s workLength (Failed r) =

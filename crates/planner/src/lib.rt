@@ -9,8 +9,9 @@ ghost use Rattle.taskset.specs.declared.Checked.the-variants.{Good};
 ghost use Rattle.taskset.specs.Planning.{layoutOf};
 ghost use Rattle.taskset.specs.Refusals.{readyChecks};
 ghost use Rattle.taskset.specs.Calls.{SetAfter};
+ghost use Rattle.options.specs.Posed.{SetPassed};
 ghost use Rattle.planner.specs.Answers.{PlannerCall};
-ghost use Rattle.planner.specs.Engines.{Counted, OwnAfter, EngineAsked, EngineChose};
+ghost use Rattle.planner.specs.Engines.{OwnAfter, EngineAsked, EngineChose};
 use engine::Choice;
 use engine::Request;
 use layout::Layout;
@@ -54,7 +55,7 @@ fn own_check(
     hyper: u64,
     work_len: usize,
 ) -> Own
-    requires { ⌜ Counted engine (now set) rates tasks hyper ⌝ }
+    requires { ⌜ SetPassed (layoutOf engine) (now set) rates tasks hyper ⌝ }
     ensures { λ r. ⌜ OwnAfter engine (now (set .entry)) «work_len» r ⌝ }
 {
     match engine {

@@ -35,12 +35,13 @@ use Rattle.taskset.specs.declared.Engine.the-variants.{Table}
 use Rattle.taskset.specs.declared.Refusal.{Refusal}
 use Rattle.taskset.specs.declared.Refusal.the-variants.{BadWord, NotAbove, TooLong, WorkShort, TooShort, NoPlan, BadPlan, BelowIdle}
 use Rattle.taskset.specs.declared.Checked.{Checked}
-use Rattle.taskset.specs.declared.Checked.the-variants.{Good, Refused as NotGood}
+use Rattle.taskset.specs.declared.Checked.the-variants.{Good}
 use Rattle.taskset.specs.declared.PlannerAnswer.the-variants.{Planned, Refused as NotPlanned}
 use Rattle.taskset.specs.declared.WalkAnswer.the-variants.{Kept, Missed, Refused as NotWalked}
 use Rattle.taskset.proofs.Checks.{nothing, same, refuses-early, refuses-before, accepts-next, refuses-next, passed}
 use Rattle.taskset.proofs.Verdict.{isBad, isFall, isOver, isBelow, hasBelow, shapeOf, coverOf, afterShape}
-use Rattle.taskset.proofs.Verdict.{checkedOf, coveredOf, checked-answers, covered-answers}
+use Rattle.taskset.proofs.Verdict.{checkedOf, coveredOf, checked-answers}
+use Rattle.taskset.proofs.Declined.{Declines, set, answered, set-refused}
 use Rattle.taskset.proofs.PlanVerdict.{isUnfit, planVerdict, PlanSays, plan-verdict-says}
 use Rattle.taskset.specs.Sets.{IsSet}
 use Rattle.taskset.proofs.Sets.{set-of, falling}
@@ -103,50 +104,31 @@ with-rates f g rest = 100 ∷ 0 ∷ 2 ∷ f ∷ g ∷ 1 ∷ 10 ∷ 12 ∷ 0 ∷ 
 with-firsts : ℕ → ℕ → ℕ → ℕ → List ℕ
 with-firsts p q a b = 100 ∷ 0 ∷ 2 ∷ 1 ∷ 2 ∷ 2 ∷ p ∷ 1 ∷ a ∷ 5 ∷ 6 ∷ q ∷ 2 ∷ b ∷ 5 ∷ 6 ∷ []
 
--- The planner refuses, whatever is lent, and leaves both lists as they are.
 abbrev pub Declined : List ℕ → Refusal → Type 0
-Declined s r = (plan work : List ℕ) → PlannerGives (Table Ordinary) s plan work plan work (NotPlanned r)
+Declined = Declines (Table Ordinary)
 
 -- ---- from what the verdicts compute to what the calls answer
 module _ (s : List ℕ) where
   abbrev L : ℕ
   L = hyperPeriod Ordinary s
 
-  -- The checks of the set that the planner makes, and their verdict.
-  abbrev set : List Check
-  set = idleChecks Ordinary s ▹ hyperCheck Ordinary s
-
   abbrev checked : Checked
   checked = coveredOf Ordinary s
 
-  answered : (x : Checked) → checked ≡ x → SetAfter set Ordinary s x
-  answered x e = subst (SetAfter set Ordinary s) e (covered-answers Ordinary s)
-
-  -- A refusal of checks 2, 3, 10 or 4 is the planner's, whatever is lent.
-  set-refused : (r : Refusal) → checked ≡ NotGood r → Declined s r
-  set-refused r e plan work = (
-    (
-      refuses-early set (plannerChecks (Table Ordinary) s (length plan) (length work)) (same (same (same (same nothing)))) (number r)
-          (second r) (answered (NotGood r) e),
-      refl,
-    ),
-    refl,
-  )
-
   module _ (m n l : ℕ) (e : checked ≡ Good m n l) where
-    passes : Accepts set
-    passes = answered (Good m n l) e .0
+    passes : Accepts (set Ordinary s)
+    passes = answered Ordinary s (Good m n l) e .0
 
     is-set : IsSet Ordinary s
-    is-set = set-of Ordinary s (passed 2 set refl passes) (passed 3 set refl passes) (passed 4 set refl passes)
+    is-set = set-of Ordinary s (passed 2 (set Ordinary s) refl passes) (passed 3 (set Ordinary s) refl passes) (passed 4 (set Ordinary s) refl passes)
 
     -- Too few working words.
     work-short : (plan work : List ℕ) → length work < workNeeded Ordinary s → PlannerGives (Table Ordinary) s plan work plan work (NotPlanned (WorkShort (workNeeded Ordinary s)))
     work-short plan work h = (
       (
-        refuses-early (set ▹ workCheck (workNeeded Ordinary s) (length work)) (plannerChecks (Table Ordinary) s (length plan) (length work))
+        refuses-early (set Ordinary s ▹ workCheck (workNeeded Ordinary s) (length work)) (plannerChecks (Table Ordinary) s (length plan) (length work))
             (same (same (same (same (same nothing))))) 5 (workNeeded Ordinary s)
-            (refuses-next set (workCheck (workNeeded Ordinary s) (length work)) (workNeeded Ordinary s) passes (h, refl)),
+            (refuses-next (set Ordinary s) (workCheck (workNeeded Ordinary s) (length work)) (workNeeded Ordinary s) passes (h, refl)),
         refl,
       ),
       refl,
@@ -155,10 +137,10 @@ module _ (s : List ℕ) where
     -- What is lent is long enough.
     module _ (plan work : List ℕ) where
       abbrev upTo5 : List Check
-      upTo5 = set ▹ workCheck (workNeeded Ordinary s) (length work)
+      upTo5 = set Ordinary s ▹ workCheck (workNeeded Ordinary s) (length work)
 
       work-enough : workNeeded Ordinary s ≤ length work → Accepts upTo5
-      work-enough q = accepts-next set (workCheck (workNeeded Ordinary s) (length work)) passes (λ k h. omega (arith, h .0))
+      work-enough q = accepts-next (set Ordinary s) (workCheck (workNeeded Ordinary s) (length work)) passes (λ k h. omega (arith, h .0))
 
       enough : workNeeded Ordinary s ≤ length work → taskCount Ordinary s ≤ length plan → Accepts (readyChecks (Table Ordinary) s (length plan) (length work))
       enough q p = accepts-next upTo5 (roomCheck (taskCount Ordinary s) (length plan)) (work-enough q) (λ k h. omega (arith, h .0))
@@ -179,7 +161,7 @@ module _ (s : List ℕ) where
               record {
                 exponent = a;
                 planned = rw (← chosen, ← used) (planned-is (problemOf Ordinary s) fit (slack s));
-                values-are = cc (u, w, j, answered (Good m n l) e .3);
+                values-are = cc (u, w, j, answered Ordinary s (Good m n l) e .3);
               },
               record {
                 front = take-all (taskCount Ordinary s) P (omega arith);
@@ -430,15 +412,15 @@ cases =
       walk-of-1-4 = plan-refused (S 100) 3 2 30 refl (1 ∷ 4 ∷ []) 1 refl;
       cycles-60 = planned (one-task 60) 2 1 30 refl (2 ∷ []) 0 1 30 6 (le-by-compare _ _ tt) (le-by-compare _ _ tt) refl refl refl refl refl refl;
       cycles-61 = no-plan (one-task 61) 2 1 30 refl (le-by-compare _ _ tt) (le-by-compare _ _ tt);
-      slack-0 = set-refused (S 0) (BadWord 0) refl;
-      empty = set-refused [] (BadWord 0) refl;
-      rates-4-4 = set-refused (with-rates 4 4 (9 ∷ [])) (NotAbove 4) refl;
-      periods-too-long = set-refused (two-periods 9999999 10000000) (TooLong 11) refl;
-      period-10000000 = answered (one-period 10000000) (Good 2 1 10000000) refl;
-      bad-rate-count = set-refused (100 ∷ 0 ∷ 9 ∷ 2 ∷ []) (BadWord 2) refl;
-      bad-task-count = set-refused (100 ∷ 0 ∷ 2 ∷ 2 ∷ 4 ∷ 33 ∷ 10 ∷ []) (BadWord 5) refl;
-      missing = set-refused (with-rates 2 4 []) (BadWord 10) refl;
-      left-over = set-refused (with-rates 2 4 (9 ∷ 1 ∷ [])) (BadWord 11) refl;
+      slack-0 = set-refused (Table Ordinary) (S 0) (BadWord 0) refl;
+      empty = set-refused (Table Ordinary) [] (BadWord 0) refl;
+      rates-4-4 = set-refused (Table Ordinary) (with-rates 4 4 (9 ∷ [])) (NotAbove 4) refl;
+      periods-too-long = set-refused (Table Ordinary) (two-periods 9999999 10000000) (TooLong 11) refl;
+      period-10000000 = answered Ordinary (one-period 10000000) (Good 2 1 10000000) refl;
+      bad-rate-count = set-refused (Table Ordinary) (100 ∷ 0 ∷ 9 ∷ 2 ∷ []) (BadWord 2) refl;
+      bad-task-count = set-refused (Table Ordinary) (100 ∷ 0 ∷ 2 ∷ 2 ∷ 4 ∷ 33 ∷ 10 ∷ []) (BadWord 5) refl;
+      missing = set-refused (Table Ordinary) (with-rates 2 4 []) (BadWord 10) refl;
+      left-over = set-refused (Table Ordinary) (with-rates 2 4 (9 ∷ 1 ∷ [])) (BadWord 11) refl;
       short-plan = plan-refused (S 100) 3 2 30 refl (1 ∷ []) 1 refl;
       long-plan = plan-refused (S 100) 3 2 30 refl (1 ∷ 1 ∷ 1 ∷ []) 2 refl;
       long-bad-plan = plan-refused (S 100) 3 2 30 refl (1 ∷ 1 ∷ 9 ∷ 9 ∷ []) 2 refl;
@@ -461,15 +443,15 @@ cases =
           (le-by-compare _ _ tt) (le-by-compare _ _ tt) refl refl refl refl refl refl;
       idle-equal = planned (slow-or-fast 10 900) 2 1 100 refl (1 ∷ []) 0 1 90 1000
           (le-by-compare _ _ tt) (le-by-compare _ _ tt) refl refl refl refl refl refl;
-      idle-above = set-refused (slow-or-fast 10 899) (BelowIdle 9) refl;
+      idle-above = set-refused (Table Ordinary) (slow-or-fast 10 899) (BelowIdle 9) refl;
       nothing-left = planned (idle-tasks 10 10 40 20 40 20) 2 2 10 refl (2 ∷ 2 ∷ []) 0 1 4 100
           (le-by-compare _ _ tt) (le-by-compare _ _ tt) refl refl refl refl refl refl;
-      first-task = set-refused (idle-tasks 10 10 40 19 39 20) (BelowIdle 10) refl;
-      second-task = set-refused (idle-tasks 10 10 40 20 39 20) (BelowIdle 14) refl;
-      before-4 = set-refused (idle-tasks 9999999 10000000 40 20 39 20) (BelowIdle 14) refl;
-      after-4 = set-refused (idle-tasks 9999999 10000000 40 20 40 20) (TooLong 11) refl;
+      first-task = set-refused (Table Ordinary) (idle-tasks 10 10 40 19 39 20) (BelowIdle 10) refl;
+      second-task = set-refused (Table Ordinary) (idle-tasks 10 10 40 20 39 20) (BelowIdle 14) refl;
+      before-4 = set-refused (Table Ordinary) (idle-tasks 9999999 10000000 40 20 39 20) (BelowIdle 14) refl;
+      after-4 = set-refused (Table Ordinary) (idle-tasks 9999999 10000000 40 20 40 20) (TooLong 11) refl;
       not-by-walk = (walks (idle-tasks 10 10 40 20 39 20) 2 2 10 refl (1 ∷ 1 ∷ []) refl, refl);
-      idle-1001 = set-refused (slow-or-fast 1001 910) (BadWord 1) refl;
+      idle-1001 = set-refused (Table Ordinary) (slow-or-fast 1001 910) (BadWord 1) refl;
       margin-31 = by-33-64;
       margin-31-reached = (
         refl,
@@ -501,9 +483,9 @@ cases =
       planned-from = planned (S-from 0 7) 3 2 30 refl (2 ∷ 1 ∷ []) 0 1 29 41
           (le-by-compare _ _ tt) (le-by-compare _ _ tt) refl refl refl refl refl refl;
       walk-from = (walks (S-from 0 7) 3 2 30 refl (2 ∷ 1 ∷ []) refl, refl);
-      first-1 = answered (with-firsts 2 4 1 3) (Good 2 2 4) refl;
-      first-2 = set-refused (with-firsts 2 4 2 3) (BadWord 8) refl;
-      first-4 = set-refused (with-firsts 2 4 1 4) (BadWord 13) refl;
+      first-1 = answered Ordinary (with-firsts 2 4 1 3) (Good 2 2 4) refl;
+      first-2 = set-refused (Table Ordinary) (with-firsts 2 4 2 3) (BadWord 8) refl;
+      first-4 = set-refused (Table Ordinary) (with-firsts 2 4 1 4) (BadWord 13) refl;
       walk-over-load = (walks (with-firsts 2 2 0 1) 2 2 2 refl (1 ∷ 1 ∷ []) refl, refl);
       over-load = (refl, refl);
       not-for-ever = (

@@ -3,7 +3,7 @@
 -- Assumes nothing.
 use Prim.Native.Nat.{ℕ, zero, suc, _^_, _≤_, _<_}
 use native.Mathlib.Bridge.{le-by-compare, IsLe}
-use mathlib.Core.Path.{_≡_, refl, subst}
+use mathlib.Core.Path.{_≡_, refl}
 use mathlib.Core.List.{List, [], _∷_, _++_}
 use native.Mathlib.Omega.{arith}
 use lib.ListN.{length, replicate}
@@ -12,18 +12,16 @@ use Rattle.numbers.proofs.Search.{seek}
 use Rattle.selection.specs.Plan.{mostPlans}
 use Rattle.layout.specs.Words.{headKinds, extraKinds, kindIn, kindAt, headKind, taskKind, allows, rateCount, taskCount}
 use Rattle.layout.specs.declared.Layout.the-variants.{Ordinary}
-use Rattle.taskset.specs.Refusals.{number, second, Check, Passes, _▹_, idleChecks, hyperCheck}
+use Rattle.taskset.specs.Refusals.{Passes, _▹_}
 use Rattle.taskset.specs.Refusals.{manyCheck, plannerChecks}
-use Rattle.taskset.specs.Calls.{SetAfter, PlannerGives}
 use Rattle.taskset.specs.declared.Engine.the-variants.{Exhaustive}
 use Rattle.taskset.specs.declared.Refusal.{Refusal}
 use Rattle.taskset.specs.declared.Refusal.the-variants.{TooLong, TooManyPlans}
-use Rattle.taskset.specs.declared.Checked.{Checked}
-use Rattle.taskset.specs.declared.Checked.the-variants.{Good, Refused as NotGood}
-use Rattle.taskset.specs.declared.PlannerAnswer.the-variants.{Refused as NotPlanned}
+use Rattle.taskset.specs.declared.Checked.the-variants.{Good}
 use Rattle.taskset.proofs.Checks.{nothing, same, refuses-early, refuses-next}
 use Rattle.taskset.proofs.Verdict.{isBad, isFall, isOver, isBelow, hasBelow, shapeOf}
-use Rattle.taskset.proofs.Verdict.{coverOf, afterShape, coveredOf, covered-answers}
+use Rattle.taskset.proofs.Verdict.{coverOf, afterShape, coveredOf}
+use Rattle.taskset.proofs.Declined.{Declines, set, answered, set-refused}
 
 -- n tasks of 1 cycle, released together, with m energies of 1; the last has period p, the others q.
 tasks : ℕ → ℕ → ℕ → ℕ → List ℕ
@@ -35,34 +33,17 @@ tasks m p q (suc (suc n)) = (q ∷ 1 ∷ 0 ∷ replicate m 1) ++ tasks m p q (su
 many : ℕ → ℕ → ℕ → ℕ → List ℕ
 many m n p q = 100 ∷ 0 ∷ m ∷ (each (λ r. r) 1 m ++ (n ∷ tasks m p q n))
 
--- The dull engine refuses, whatever is lent, and leaves both lists as they are.
 abbrev pub DullDeclined : List ℕ → Refusal → Type 0
-DullDeclined s r = (plan work : List ℕ) → PlannerGives Exhaustive s plan work plan work (NotPlanned r)
+DullDeclined = Declines Exhaustive
 
 module _ (s : List ℕ) where
-  abbrev set : List Check
-  set = idleChecks Ordinary s ▹ hyperCheck Ordinary s
-
-  answered : (x : Checked) → coveredOf Ordinary s ≡ x → SetAfter set Ordinary s x
-  answered x e = subst (SetAfter set Ordinary s) e (covered-answers Ordinary s)
-
-  set-refused : (r : Refusal) → coveredOf Ordinary s ≡ NotGood r → DullDeclined s r
-  set-refused r e plan work = (
-    (
-      refuses-early set (plannerChecks Exhaustive s (length plan) (length work)) (same (same (same (same nothing)))) (number r)
-          (second r) (answered (NotGood r) e),
-      refl,
-    ),
-    refl,
-  )
-
   too-many : (m n l : ℕ) → coveredOf Ordinary s ≡ Good m n l
       → mostPlans < rateCount Ordinary s ^ taskCount Ordinary s → DullDeclined s TooManyPlans
   too-many m n l e over plan work = (
     (
-      refuses-early (set ▹ manyCheck Ordinary s) (plannerChecks Exhaustive s (length plan) (length work))
+      refuses-early (set Ordinary s ▹ manyCheck Ordinary s) (plannerChecks Exhaustive s (length plan) (length work))
           (same (same (same (same (same nothing)))))
-          11 0 (refuses-next set (manyCheck Ordinary s) 0 (answered (Good m n l) e .0) (refl, over)),
+          11 0 (refuses-next (set Ordinary s) (manyCheck Ordinary s) 0 (answered Ordinary s (Good m n l) e .0) (refl, over)),
       refl,
     ),
     refl,
@@ -91,5 +72,5 @@ dull-cases = record {
   plans-7-7 = few (many 7 7 100 100) (le-by-compare _ _ tt);
   plans-2-20 = too-many (many 2 20 100 100) 2 20 100 refl (le-by-compare _ _ tt);
   plans-8-32 = too-many (many 8 32 100 100) 8 32 100 refl (le-by-compare _ _ tt);
-  after-4 = set-refused (many 2 20 9999999 10000000) (TooLong 101) refl;
+  after-4 = set-refused Exhaustive (many 2 20 9999999 10000000) (TooLong 101) refl;
 }

@@ -36,7 +36,7 @@ use Rattle.taskset.specs.declared.Engine.the-variants.{Table, Exhaustive
 use Rattle.taskset.specs.declared.PlannerAnswer.{PlannerAnswer}
 use Rattle.taskset.proofs.Sets.{job-time-at, job-energy-at}
 use Rattle.taskset.proofs.Checks.{no-word-fault, Agree, AllAgree, _then_, no-more}
-use Rattle.taskset.proofs.Alike.{SamePlanning, plan-same, work-after-same}
+use Rattle.taskset.proofs.SamePlanning.{SamePlanning, plan-same, work-after-same}
 
 -- ---- the words that the planner reads
 -- Two lists agree in every word but the first releases, named by what they stand for.
@@ -136,8 +136,7 @@ module _ (layout : Layout) (s s′ : List ℕ) (a : Alike layout s s′) where
       → hyperPeriod layout s / period layout s t ≡ hyperPeriod layout s′ / period layout s′ t
   jobs-same t l = ap₂ _/_ hyper-same (a .periods t l)
 
-  -- In every number that a plan can meet, and in no other: there is no rate number 0, and the word that would be its
-  -- energy is a first release.
+  -- In every number that a plan can meet: of rate numbers from 1 on.
   problem-same : Same (problemOf layout s) (problemOf layout s′)
   problem-same = record {
     count = a .task-counts;

@@ -9,9 +9,10 @@ pub mod DemandThree
 pub mod Margin
 pub mod Copied
 pub mod Unique
+pub mod SamePlanning
 pub mod TwoEngines
+pub mod Declined
 pub mod DullCases
-pub mod Alike
 pub mod Firsts
 pub mod Cases
 pub mod WorkedDull

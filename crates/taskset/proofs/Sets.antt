@@ -135,7 +135,7 @@ module _ (layout : Layout) (s : List ℕ) where
         ) in
         omega (arith, mul-le-mul (jobs-few t) time)
 
-    pub task-energy-small : (t r : ℕ) → t < taskCount layout s → 1 ≤ r → r ≤ rateCount layout s → taskEnergy layout s t r ≤ mostTaskEnergy
+    task-energy-small : (t r : ℕ) → t < taskCount layout s → 1 ≤ r → r ≤ rateCount layout s → taskEnergy layout s t r ≤ mostTaskEnergy
     task-energy-small t r l a b =
         rw (job-energy-at layout s t r a) (omega (arith, mul-le-mul (jobs-few t) (set .whole .energy-range t r l a b .1)))
 

@@ -4,7 +4,7 @@
 -- succeed on the same sets.
 -- Assumes nothing.
 use Prim.Native.Nat.{ℕ}
-use mathlib.Core.Path.{_≡_, refl}
+use mathlib.Core.Path.{_≡_}
 use mathlib.Core.List.{List, [], _∷_, _++_}
 use mathlib.Core.Logic.{_↔_}
 use lib.ListN.{length}
@@ -16,10 +16,11 @@ use Rattle.taskset.specs.Refusals.{number, second, Check, Passes, Accept
 use Rattle.taskset.specs.Refusals.{workCheck, roomCheck, noneCheck, plannerChecks}
 use Rattle.taskset.specs.Planning.{Planning, planning}
 use Rattle.taskset.specs.declared.Engine.the-variants.{Table, Exhaustive}
-use Rattle.taskset.specs.Calls.{PlanGives, WorkAfter, PlannerGives}
+use Rattle.taskset.specs.Calls.{PlanGives, PlannerGives}
 use Rattle.taskset.specs.declared.PlannerAnswer.{PlannerAnswer}
 use Rattle.taskset.specs.declared.PlannerAnswer.the-variants.{Planned, Refused as NotPlanned}
 use Rattle.taskset.proofs.Checks.{AllSingle, accepts-leave, accepts-take, refuses-leave, refuses-take}
+use Rattle.taskset.proofs.SamePlanning.{untouched}
 use Rattle.taskset.proofs.Unique.{none-single, single-next, short-single}
 use Rattle.taskset.proofs.Unique.{covered-single, planned-one, plan-unique}
 
@@ -98,9 +99,5 @@ module _ (s : List ℕ) where
     take-in set (manyCheck Ordinary s) (rest (length plan)) both plan plan′ a many
         (leave set (workCheck (workNeeded Ordinary s) (length work)) (rest (length plan)) both plan plan′ a
         (λ k h. not-5 (h .0)) (x .0)),
-    untouched a,
+    untouched other a,
   )
-    where
-      untouched : (b : PlannerAnswer) → WorkAfter 0 other other b
-      untouched (Planned u l h e) = refl
-      untouched (NotPlanned r) = refl

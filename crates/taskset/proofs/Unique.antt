@@ -111,10 +111,10 @@ idle-single layout s = single-next (wordChecks layout s) (idleCheck layout s) (w
 pub covered-single : (layout : Layout) (s : List ℕ) → AllSingle (idleChecks layout s ▹ hyperCheck layout s)
 covered-single layout s = single-next (idleChecks layout s) (hyperCheck layout s) (idle-single layout s) (too-long-single layout s)
 
-pub many-single : (layout : Layout) (s : List ℕ) → Single (manyCheck layout s)
+many-single : (layout : Layout) (s : List ℕ) → Single (manyCheck layout s)
 many-single layout s j k a b = a .0 ∙ sym (b .0)
 
-pub engine-single : (e : Engine) (s : List ℕ) (workLength : ℕ) → Single (engineCheck e s workLength)
+engine-single : (e : Engine) (s : List ℕ) (workLength : ℕ) → Single (engineCheck e s workLength)
 engine-single (Table layout) s wl = short-single (workNeeded layout s) wl
 engine-single Exhaustive s wl = many-single Ordinary s
 
@@ -227,7 +227,7 @@ pub record SamePlan (m : Planning) (a b : PlannerAnswer) (plan₁ plan₂ : List
   pub answer : a ≡ b
   pub plan : planGiven m plan₁ a ≡ planGiven m plan₂ b
 
-pub plan-by-checks : (cs : List Check) → AllSingle cs → (m : Planning) (plan₁ plan₁′ plan₂ plan₂′ : List ℕ) (a b : PlannerAnswer)
+plan-by-checks : (cs : List Check) → AllSingle cs → (m : Planning) (plan₁ plan₁′ plan₂ plan₂′ : List ℕ) (a b : PlannerAnswer)
     → PlanGives cs m plan₁ plan₁′ a → PlanGives cs m plan₂ plan₂′ b → SamePlan m a b plan₁′ plan₂′
 plan-by-checks cs single m plan₁ p₁ plan₂ p₂ a b x y =
     let z = given-for cs m plan₁ p₁ a x plan₂ in

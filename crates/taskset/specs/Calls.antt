@@ -82,10 +82,10 @@ pub record HoldsPlan (n : ℕ) (P plan plan′ : List ℕ) : Type 0 where
 
 -- "A plan is a rate number for each task": each of the first N words of the plan list is 1 to M. So number - 1 is a
 -- place in a table of M entries that counts from 0, and the number itself need not be.
-pub record RateNumber (m w : ℕ) : Type 0 where
+pub record RateNumber (rates w : ℕ) : Type 0 where
   pub from-1 : 1 ≤ w
-  pub to-m : w ≤ m
-  pub place : w - 1 < m
+  pub to-m : w ≤ rates
+  pub place : w - 1 < rates
 
 abbrev pub RateNumbers : Planning → List ℕ → PlannerAnswer → Type 0
 RateNumbers m plan′ (Planned unit load hyper energy) =

@@ -1,4 +1,5 @@
-// What a task set comes to and what each call answers. Here are the types of the answers; specs/ defines what document
+// What a task set comes to and what each call answers. Here are the types of the answers, and which engine a call
+// that plans goes by; specs/ defines what document
 // 01 says of each, proofs/ has the theory. What stands where in a set's list is left to the crate layout, all code, the
 // checks among it, to the crates above.
 

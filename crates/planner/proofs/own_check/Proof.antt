@@ -4,7 +4,8 @@ use mathlib.Core.Path.{_≡_, ap, _∙_}
 use native.Mathlib.Omega.{arith}
 use Rattle.selection.specs.Plan.{workWords}
 use Rattle.layout.specs.Words.{slack}
-use Rattle.planner.specs.Engines.{Counted}
+use Rattle.taskset.specs.Planning.{layoutOf}
+use Rattle.options.specs.Posed.{SetPassed}
 use Rattle.planner.proofs.Engines.{some-words, tasks-few, slack-positive, rates-range}
 use Rattle.planner.proofs.Engines.{work-short, work-enough, too-many, few-enough}
 use borrow.Author.Needs.{needs}
@@ -22,7 +23,7 @@ abbrev told : tie.After-work-needed → tie.After-enum-told
 told w = w .before .before
 
 counted : (s : tie.Start)
-    → Counted (s .args .engine) (s .args .set .now) (s .args .rates) (s .args .tasks) (s .args .hyper)
+    → SetPassed (layoutOf (s .args .engine)) (s .args .set .now) (s .args .rates) (s .args .tasks) (s .args .hyper)
 counted s = s .pre
 
 -- The working words needed, by the slack that was read.

@@ -4,8 +4,7 @@ use mathlib.Core.Path.{sym, subst}
 use Rattle.layout.specs.declared.Layout.{Layout}
 use Rattle.engine.specs.declared.Request.{Request}
 use Rattle.taskset.specs.Planning.{planning, layoutOf}
-use Rattle.options.specs.Posed.{SetGiven, Poses, PosedFor}
-use Rattle.options.specs.declared.Posed.{Posed}
+use Rattle.options.specs.Posed.{Poses, PosedFor}
 use Rattle.options.proofs.Filling.{both-none}
 use Rattle.planner.specs.Answers.{PlannerCall}
 use Rattle.planner.proofs.Calls.{Prepared, given, words-given, none-fits, engine-asked, sum-fits, chosen-given}

@@ -1,14 +1,15 @@
 -- Checks 2, 3, 10 and 4, then the engine's own, then 6.
 -- Assumes nothing.
-use mathlib.Core.Path.{_≡_, subst, sym}
+use mathlib.Core.Path.{subst}
 use native.Mathlib.Omega.{arith}
 use Rattle.layout.specs.declared.Layout.{Layout}
 use Rattle.taskset.specs.Planning.{layoutOf}
 use Rattle.taskset.specs.Calls.{SetAfter}
 use Rattle.taskset.specs.Refusals.{Check, Passes, _▹_, idleChecks, hyperCheck, engineCheck}
 use Rattle.taskset.specs.declared.Checked.{Checked}
-use Rattle.taskset.specs.declared.Checked.the-variants.{Good, Refused as NotGood}
-use Rattle.options.proofs.Enough.{SetPassed, set-refused, own-refused, plan-short, is-ready}
+use Rattle.taskset.specs.declared.Checked.the-variants.{Good}
+use Rattle.options.specs.Posed.{SetPassed}
+use Rattle.options.proofs.Enough.{set-refused, own-refused, plan-short, is-ready}
 use Rattle.planner.specs.Engines.{OwnAfter}
 use borrow.Author.Needs.{needs}
 use Rattle.planner.proofs.ready.Statement.{statement}

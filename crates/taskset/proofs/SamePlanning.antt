@@ -2,12 +2,12 @@
 -- given of the other.
 -- Assumes nothing.
 use Prim.Native.Nat.{ℕ, _≤_}
-use mathlib.Core.Path.{_≡_, subst, _∙_}
+use mathlib.Core.Path.{_≡_, refl, subst, _∙_}
 use mathlib.Core.List.{List}
 use Rattle.selection.specs.Plan.{Fitting, IsPlanned}
 use Rattle.selection.specs.Same.{Same}
-use Rattle.selection.proofs.Same.{load-same, fitting-same, planned-same}
-use Rattle.taskset.specs.Refusals.{number, second, NoneOk, Check}
+use Rattle.selection.proofs.Same.{load-same, planned-same}
+use Rattle.taskset.specs.Refusals.{number, second, Check}
 use Rattle.taskset.specs.Planning.{Planning}
 use Rattle.taskset.specs.Calls.{plannerValues, Selected, HoldsPlan, PlanGives, Cleared, WorkAfter}
 use Rattle.taskset.specs.declared.PlannerAnswer.{PlannerAnswer}
@@ -53,3 +53,8 @@ pub work-after-same : {v w : ℕ} → v ≡ w → (work work′ : List ℕ) (x :
     → WorkAfter v work work′ x → WorkAfter w work work′ x
 work-after-same e work work′ (Planned unit load hyper energy) g = subst (λ (k : ℕ). Cleared k work work′) e g
 work-after-same e work work′ (NotPlanned r) g = g
+
+-- A call that clears no words leaves them as they were.
+pub untouched : (work : List ℕ) (x : PlannerAnswer) → WorkAfter 0 work work x
+untouched work (Planned unit load hyper energy) = refl
+untouched work (NotPlanned r) = refl
