@@ -81,11 +81,14 @@ set-refused s d d′ n r h put = (refusedLine (number r) (second r), steps.refus
 
 pub ready-refused : (s : List ℕ) (r : Refusal) → SetAfter (readyChecks (Table Ordinary) s planLent workLent) Ordinary s (NotGood r)
     → Refuses (plannerChecks (Table Ordinary) s planLent workLent) (number r) (second r)
-ready-refused s r h = refuses-before (readyChecks (Table Ordinary) s planLent workLent) (noneCheck (Fitting (problemOf Ordinary s))) (number r) (second r) h
+ready-refused s r h =
+    refuses-before (readyChecks (Table Ordinary) s planLent workLent) (noneCheck (Fitting (problemOf Ordinary s)))
+    (number r) (second r) h
 
 -- What passes the checks before 7 with some words passes them with more.
 pub more-room : (s : List ℕ) (p w p′ w′ m n l : ℕ) → p ≤ p′ → w ≤ w′
-    → SetAfter (readyChecks (Table Ordinary) s p w) Ordinary s (Good m n l) → SetAfter (readyChecks (Table Ordinary) s p′ w′) Ordinary s (Good m n l)
+    → SetAfter (readyChecks (Table Ordinary) s p w) Ordinary s (Good m n l)
+    → SetAfter (readyChecks (Table Ordinary) s p′ w′) Ordinary s (Good m n l)
 more-room s p w p′ w′ m n l a b h =
     let set = idleChecks Ordinary s ▹ hyperCheck Ordinary s in
     let five = workCheck (workNeeded Ordinary s) w in

@@ -55,7 +55,8 @@ module _ (s : List ℕ) (accepts : Accepts (plannerChecks (Table Ordinary) s pla
     -- Demand 3, with note 5's margin.
     pub promise : PlanPromise (planning Ordinary s) P unit energy
     promise =
-        plan-given (planning Ordinary s) (list-plans (engine-plans (Table Ordinary) s planLent workLent) .sound ready) P unit load hyper energy selected
+        plan-given (planning Ordinary s) (list-plans (engine-plans (Table Ordinary) s planLent workLent) .sound ready)
+        P unit load hyper energy selected
 
     -- After a plan the walk is kept, from whatever first releases: there is no other line.
     pub walk-is-kept : IsKept (walkOf s P)
@@ -107,16 +108,20 @@ one-output t o₁ o₂ (unread n k r x) (refused s n′ k′ h r′ y) = absurd 
 one-output t o₁ o₂ (unread n k r x) (planned s P u l h e b i p is y) = absurd (not-both (readerChecks t setLent) n k (is .accepts) r)
 one-output t o₁ o₂ (refused s n k h r x) (unread n′ k′ r′ y) = absurd (not-both (readerChecks t setLent) n′ k′ (h .accepts) r′)
 one-output t o₁ o₂ (refused s n k h r x) (refused s′ n′ k′ h′ r′ y) =
-    let r″ = subst (λ (z : Script). Refuses (plannerChecks (Table Ordinary) (words z) planLent workLent) n′ k′) (one-script s′ s t (h′ .text) (h .text)) r′ in
-    let e = refuses-unique (plannerChecks (Table Ordinary) (words s) planLent workLent) (planner-single (Table Ordinary) (words s) planLent workLent) n k n′ k′ r r″ in
+    let r″ = subst (λ (z : Script). Refuses (plannerChecks (Table Ordinary) (words z) planLent workLent) n′ k′)
+    (one-script s′ s t (h′ .text) (h .text)) r′ in
+    let e = refuses-unique (plannerChecks (Table Ordinary) (words s) planLent workLent)
+    (planner-single (Table Ordinary) (words s) planLent workLent) n k n′ k′ r r″ in
     x ∙ cc (e .0, e .1) ∙ sym y
 one-output t o₁ o₂ (refused s n k h r x) (planned s′ P u l hh e b i p is y) =
     absurd (not-both (plannerChecks (Table Ordinary) (words s) planLent workLent) n k
-    (subst (λ (z : Script). Accepts (plannerChecks (Table Ordinary) (words z) planLent workLent)) (one-script s′ s t (is .text) (h .text)) (y .accepts)) r)
+    (subst (λ (z : Script). Accepts (plannerChecks (Table Ordinary) (words z) planLent workLent))
+    (one-script s′ s t (is .text) (h .text)) (y .accepts)) r)
 one-output t o₁ o₂ (planned s P u l h e b i p is x) (unread n k r y) = absurd (not-both (readerChecks t setLent) n k (is .accepts) r)
 one-output t o₁ o₂ (planned s P u l hh e b i p is x) (refused s′ n k h r y) =
     absurd (not-both (plannerChecks (Table Ordinary) (words s′) planLent workLent) n k
-    (subst (λ (z : Script). Accepts (plannerChecks (Table Ordinary) (words z) planLent workLent)) (one-script s s′ t (is .text) (h .text)) (x .accepts)) r)
+    (subst (λ (z : Script). Accepts (plannerChecks (Table Ordinary) (words z) planLent workLent))
+    (one-script s s′ t (is .text) (h .text)) (x .accepts)) r)
 one-output t o₁ o₂ (planned s P u l h e b i p is x) (planned s′ Q v m k f c j q is′ y) =
     plans-same (words s) P Q o₁ o₂ u l h e b i p v m k f c j q x
     (subst (λ (z : Script). PrintsPlan (words z) Q o₂ v m k f c j q) (one-script s′ s t (is′ .text) (is .text)) y)

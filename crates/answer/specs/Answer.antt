@@ -69,7 +69,8 @@ RespondGives t d d′ (NotCopied r) =
 -- deadline for ever.
 abbrev pub Owes : {t out : List ℕ} → Prints t out → Type 0
 Owes (unread n k r e) = Unit {0}
-Owes (refused s n k h r e) = (n ≡ 7) ↔ (Accepts (readyChecks (Table Ordinary) (words s) planLent workLent) × NoneKeeps (planning Ordinary (words s)))
+Owes (refused s n k h r e) =
+    (n ≡ 7) ↔ (Accepts (readyChecks (Table Ordinary) (words s) planLent workLent) × NoneKeeps (planning Ordinary (words s)))
 Owes (planned s P unit load hyper energy busy idle preempted h x) = PlanPromise (planning Ordinary (words s)) P unit energy
 
 -- The bytes that the call writes are an output, with all that it owes.

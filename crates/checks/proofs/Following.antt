@@ -35,7 +35,14 @@ module _ {layout : Layout} {m n : ℕ} {s : List ℕ} (h : OfCounts layout m n s
   enough = rw (h .counted, h .numbered) (omega (arith, h .whole .size))
 
   pub task-in : at + taskSize layout m ≤ length s
-  task-in = omega (arith, enough, mul-le-mul-right (taskSize layout m) i, mul-comm (suc t) (taskSize layout m), mul-suc (taskSize layout m) t, mul-comm (taskSize layout m) t)
+  task-in = omega (
+    arith,
+    enough,
+    mul-le-mul-right (taskSize layout m) i,
+    mul-comm (suc t) (taskSize layout m),
+    mul-suc (taskSize layout m) t,
+    mul-comm (taskSize layout m) t,
+  )
 
   next-place : at + taskSize layout m ≡ periodPlace layout m (t + 1)
   next-place = omega (arith, ap (λ (x : ℕ). x * taskSize layout m) (add-one t), mul-comm (suc t) (taskSize layout m), mul-suc (taskSize layout m) t, mul-comm (taskSize layout m) t)
@@ -71,7 +78,12 @@ module _ {layout : Layout} {m n : ℕ} {s : List ℕ} (h : OfCounts layout m n s
       within = omega arith;
       place = next-place;
       value = rw (add-one t) next-is;
-      least = omega (arith, next-is, running-positive (period layout s) n (λ t l. h .whole .period-range t (omega (arith, h .numbered)) .0) (suc t) i);
+      least = omega (
+        arith,
+        next-is,
+        running-positive (period layout s) n
+            (λ t l. h .whole .period-range t (omega (arith, h .numbered)) .0) (suc t) i,
+      );
       most = o;
       none = none-more (omega arith) (q .none) (λ p. omega (arith, next-is));
     }

@@ -71,7 +71,8 @@ module _ (layout : Layout) (s : List ℕ) where
       unfolding allows
       cycles-in t h = between-true _ _ _ (word-in t 1 h (omega arith) (cyclesPlace layout (rateCount layout s) t) Cycles refl (kind-cycles layout))
 
-      energy-in : (t r : ℕ) → t < taskCount layout s → 1 ≤ r → r ≤ rateCount layout s → (1 ≤ energy layout s t r) × (energy layout s t r ≤ mostEnergy)
+      energy-in : (t r : ℕ) → t < taskCount layout s → 1 ≤ r → r ≤ rateCount layout s
+          → (1 ≤ energy layout s t r) × (energy layout s t r ≤ mostEnergy)
       unfolding allows
       energy-in t r h a b =
           between-true _ _ _ (word-in t (1 + extraSize layout + r) h (omega arith) (energyPlace layout (rateCount layout s) t r) Energy refl (kind-energy layout r a))

@@ -20,4 +20,5 @@ pub record IsWhole (layout : Layout) (s : List ℕ) : Type 0 where
   pub cycles-range : (t : ℕ) → t < taskCount layout s → (1 ≤ cycles layout s t) × (cycles layout s t ≤ longestJob)
   pub extra-word : (t k : ℕ) → t < taskCount layout s → k < extraSize layout
       → allows s (periodPlace layout (rateCount layout s) t + (2 + k)) (kindIn (extraKinds layout) k) ≡ true
-  pub energy-range : (t r : ℕ) → t < taskCount layout s → 1 ≤ r → r ≤ rateCount layout s → (1 ≤ energy layout s t r) × (energy layout s t r ≤ mostEnergy)
+  pub energy-range : (t r : ℕ) → t < taskCount layout s → 1 ≤ r → r ≤ rateCount layout s
+      → (1 ≤ energy layout s t r) × (energy layout s t r ≤ mostEnergy)

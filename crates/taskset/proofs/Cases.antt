@@ -30,12 +30,13 @@ use Rattle.taskset.specs.Refusals.{workCheck, roomCheck, noneCheck, plan
 use Rattle.taskset.specs.Refusals.{walkChecks}
 use Rattle.taskset.specs.Calls.{code, plannerValues, walkValues, SetAfter, PlannerGives, WalkAnswers}
 use Rattle.taskset.specs.DemandThree.{margin, IsLeast, PlanPromise, Together}
-use Rattle.taskset.specs.Planning.{Keeps, planning}
+use Rattle.taskset.specs.Planning.{Planning, Keeps, planning}
 use Rattle.taskset.specs.declared.Engine.the-variants.{Table}
 use Rattle.taskset.specs.declared.Refusal.{Refusal}
 use Rattle.taskset.specs.declared.Refusal.the-variants.{BadWord, NotAbove, TooLong, WorkShort, TooShort, NoPlan, BadPlan, BelowIdle}
 use Rattle.taskset.specs.declared.Checked.{Checked}
 use Rattle.taskset.specs.declared.Checked.the-variants.{Good}
+use Rattle.taskset.specs.declared.PlannerAnswer.{PlannerAnswer}
 use Rattle.taskset.specs.declared.PlannerAnswer.the-variants.{Planned, Refused as NotPlanned}
 use Rattle.taskset.specs.declared.WalkAnswer.the-variants.{Kept, Missed, Refused as NotWalked}
 use Rattle.taskset.proofs.Checks.{nothing, same, refuses-early, refuses-before, accepts-next, refuses-next, passed}
@@ -104,6 +105,13 @@ with-rates f g rest = 100 ∷ 0 ∷ 2 ∷ f ∷ g ∷ 1 ∷ 10 ∷ 12 ∷ 0 ∷ 
 with-firsts : ℕ → ℕ → ℕ → ℕ → List ℕ
 with-firsts p q a b = 100 ∷ 0 ∷ 2 ∷ 1 ∷ 2 ∷ 2 ∷ p ∷ 1 ∷ a ∷ 5 ∷ 6 ∷ q ∷ 2 ∷ b ∷ 5 ∷ 6 ∷ []
 
+-- What the planner gives, and what it plans.
+abbrev ByPlanner : (s plan work plan′ work′ : List ℕ) → PlannerAnswer → Type 0
+ByPlanner = PlannerGives (Table Ordinary)
+
+abbrev ordinary : List ℕ → Planning
+ordinary = planning Ordinary
+
 abbrev pub Declined : List ℕ → Refusal → Type 0
 Declined = Declines (Table Ordinary)
 
@@ -120,13 +128,16 @@ module _ (s : List ℕ) where
     passes = answered Ordinary s (Good m n l) e .0
 
     is-set : IsSet Ordinary s
-    is-set = set-of Ordinary s (passed 2 (set Ordinary s) refl passes) (passed 3 (set Ordinary s) refl passes) (passed 4 (set Ordinary s) refl passes)
+    is-set = set-of Ordinary s (passed 2 (set Ordinary s) refl passes) (passed 3 (set Ordinary s) refl passes)
+        (passed 4 (set Ordinary s) refl passes)
 
     -- Too few working words.
-    work-short : (plan work : List ℕ) → length work < workNeeded Ordinary s → PlannerGives (Table Ordinary) s plan work plan work (NotPlanned (WorkShort (workNeeded Ordinary s)))
+    work-short : (plan work : List ℕ) → length work < workNeeded Ordinary s
+        → ByPlanner s plan work plan work (NotPlanned (WorkShort (workNeeded Ordinary s)))
     work-short plan work h = (
       (
-        refuses-early (set Ordinary s ▹ workCheck (workNeeded Ordinary s) (length work)) (plannerChecks (Table Ordinary) s (length plan) (length work))
+        refuses-early (set Ordinary s ▹ workCheck (workNeeded Ordinary s) (length work))
+            (plannerChecks (Table Ordinary) s (length plan) (length work))
             (same (same (same (same (same nothing))))) 5 (workNeeded Ordinary s)
             (refuses-next (set Ordinary s) (workCheck (workNeeded Ordinary s) (length work)) (workNeeded Ordinary s) passes (h, refl)),
         refl,
@@ -142,15 +153,17 @@ module _ (s : List ℕ) where
       work-enough : workNeeded Ordinary s ≤ length work → Accepts upTo5
       work-enough q = accepts-next (set Ordinary s) (workCheck (workNeeded Ordinary s) (length work)) passes (λ k h. omega (arith, h .0))
 
-      enough : workNeeded Ordinary s ≤ length work → taskCount Ordinary s ≤ length plan → Accepts (readyChecks (Table Ordinary) s (length plan) (length work))
+      enough : workNeeded Ordinary s ≤ length work → taskCount Ordinary s ≤ length plan
+          → Accepts (readyChecks (Table Ordinary) s (length plan) (length work))
       enough q p = accepts-next upTo5 (roomCheck (taskCount Ordinary s) (length plan)) (work-enough q) (λ k h. omega (arith, h .0))
 
     -- A plan, where just the words needed are lent.
-    planned : (P : List ℕ) (a unit load energy : ℕ) → 1 ≤ rateCount Ordinary s → planLoad (problemOf Ordinary s) (fastest (problemOf Ordinary s)) ≤ L → length P ≡ taskCount Ordinary s
+    planned : (P : List ℕ) (a unit load energy : ℕ) → 1 ≤ rateCount Ordinary s
+        → planLoad (problemOf Ordinary s) (fastest (problemOf Ordinary s)) ≤ L → length P ≡ taskCount Ordinary s
         → usedExponent (problemOf Ordinary s) (slack s) ≡ a → choose (problemOf Ordinary s) (2 ^ a) ≡ P → 2 ^ a ≡ unit
         → planLoad (problemOf Ordinary s) P ≡ load → reportedEnergy Ordinary s P ≡ energy
         → (plan work : List ℕ) → length plan ≡ taskCount Ordinary s → length work ≡ workNeeded Ordinary s
-        → PlannerGives (Table Ordinary) s plan work P (replicate (workNeeded Ordinary s) 0) (Planned unit load l energy)
+        → ByPlanner s plan work P (replicate (workNeeded Ordinary s) 0) (Planned unit load l energy)
     planned P a unit load energy some-rate fits size used chosen u w j plan work p q =
         let fit : Fitting (problemOf Ordinary s) (fastest (problemOf Ordinary s)) = fastest-fits (problemOf Ordinary s) some-rate fits in (
           (
@@ -176,7 +189,7 @@ module _ (s : List ℕ) where
 
     -- Enough working words, and a plan list that is too short.
     plan-short : (plan work : List ℕ) → workNeeded Ordinary s ≤ length work → length plan < taskCount Ordinary s
-        → PlannerGives (Table Ordinary) s plan work plan work (NotPlanned (TooShort (taskCount Ordinary s)))
+        → ByPlanner s plan work plan work (NotPlanned (TooShort (taskCount Ordinary s)))
     plan-short plan work q p = (
       (
         refuses-before (readyChecks (Table Ordinary) s (length plan) (length work)) (noneCheck (Fitting (problemOf Ordinary s)))
@@ -190,7 +203,8 @@ module _ (s : List ℕ) where
 
     -- No plan fits where the plan with every task at rate M does not.
     no-plan : 1 ≤ rateCount Ordinary s → L < planLoad (problemOf Ordinary s) (fastest (problemOf Ordinary s))
-        → (plan work : List ℕ) → taskCount Ordinary s ≤ length plan → workNeeded Ordinary s ≤ length work → PlannerGives (Table Ordinary) s plan work plan work (NotPlanned NoPlan)
+        → (plan work : List ℕ) → taskCount Ordinary s ≤ length plan → workNeeded Ordinary s ≤ length work
+        → ByPlanner s plan work plan work (NotPlanned NoPlan)
     no-plan some-rate over plan work p q =
         let refuses =
         refuses-next (readyChecks (Table Ordinary) s (length plan) (length work)) (noneCheck (Fitting (problemOf Ordinary s))) 0
@@ -230,34 +244,35 @@ kept-keeps s P busy idle preempted zero w =
 abbrev Given : (s P : List ℕ) (unit load hyper energy : ℕ) → Type 0
 Given s P unit load hyper energy =
     (plan work : List ℕ) → length plan ≡ taskCount Ordinary s → length work ≡ workNeeded Ordinary s
-    → PlannerGives (Table Ordinary) s plan work P (replicate (workNeeded Ordinary s) 0) (Planned unit load hyper energy)
+    → ByPlanner s plan work P (replicate (workNeeded Ordinary s) 0) (Planned unit load hyper energy)
 
 module _ (s P : List ℕ) (unit load hyper energy : ℕ) (size : length P ≤ taskCount Ordinary s) (given : Given s P unit load hyper energy) where
-  promised : PlanPromise (planning Ordinary s) P unit energy
+  promised : PlanPromise (ordinary s) P unit energy
   promised =
       let plan : List ℕ = replicate (taskCount Ordinary s) 0 in
       let work : List ℕ = replicate (workNeeded Ordinary s) 0 in
-      subst (λ (R : List ℕ). PlanPromise (planning Ordinary s) R unit energy) (take-all (taskCount Ordinary s) P size)
-      (answer-owes (planning Ordinary s) (readyChecks (Table Ordinary) s (length plan) (length work))
+      subst (λ (R : List ℕ). PlanPromise (ordinary s) R unit energy) (take-all (taskCount Ordinary s) P size)
+      (answer-owes (ordinary s) (readyChecks (Table Ordinary) s (length plan) (length work))
       (list-plans (engine-plans (Table Ordinary) s (length plan) (length work))) plan P
       (Planned unit load hyper energy)
       (given plan work (length-replicate (taskCount Ordinary s) 0) (length-replicate (workNeeded Ordinary s) 0) .0))
 
   -- A plan whose walk is kept, with an energy that is just the margin below: it has the least.
   least-by-margin : (Q : List ℕ) (busy idle preempted : ℕ) → Together s → WalkAnswers s Q (Kept busy idle preempted)
-      → energy ≡ reportedEnergy Ordinary s Q + margin (planning Ordinary s) unit → IsLeast (planning Ordinary s) Q (reportedEnergy Ordinary s Q)
-  least-by-margin Q busy idle preempted zero w = margin-reached (planning Ordinary s) P unit energy promised Q (kept-keeps s Q busy idle preempted zero w)
+      → energy ≡ reportedEnergy Ordinary s Q + margin (ordinary s) unit → IsLeast (ordinary s) Q (reportedEnergy Ordinary s Q)
+  least-by-margin Q busy idle preempted zero w = margin-reached (ordinary s) P unit energy promised Q
+      (kept-keeps s Q busy idle preempted zero w)
 
 -- ---- the cases
 pub record Cases : Type 0 where
   -- (M) "S: plan 2 1, unit 1, load 29, energy 41." (M) "S has W = 243".
   pub planned-100 : (plan work : List ℕ) → length plan ≡ 2 → length work ≡ 243
-      → PlannerGives (Table Ordinary) (S 100) plan work (2 ∷ 1 ∷ []) (replicate 243 0) (Planned 1 29 30 41)
+      → ByPlanner (S 100) plan work (2 ∷ 1 ∷ []) (replicate 243 0) (Planned 1 29 30 41)
   -- (M) "242 working words: refusal 5 with 243."
-  work-242 : (plan work : List ℕ) → length work ≡ 242 → PlannerGives (Table Ordinary) (S 100) plan work plan work (NotPlanned (WorkShort 243))
+  work-242 : (plan work : List ℕ) → length work ≡ 242 → ByPlanner (S 100) plan work plan work (NotPlanned (WorkShort 243))
   -- (M) "S with slack 1,000: plan 1 2, unit 8, load 28, energy 42." (M) "S with slack 1,000: W = 27."
   pub planned-1000 : (plan work : List ℕ) → length plan ≡ 2 → length work ≡ 27
-      → PlannerGives (Table Ordinary) (S 1000) plan work (1 ∷ 2 ∷ []) (replicate 27 0) (Planned 8 28 30 42)
+      → ByPlanner (S 1000) plan work (1 ∷ 2 ∷ []) (replicate 27 0) (Planned 8 28 30 42)
   -- (M) "S, walk of 1 1: missed, tick 15, task 2." (M) "Walk of 2 1: kept, 29, 1, 1."
   walk-of-1-1 : WalkAnswers (S 100) (1 ∷ 1 ∷ []) (Missed 15 2)
   pub walk-of-2-1 : WalkAnswers (S 100) (2 ∷ 1 ∷ []) (Kept 29 1 1)
@@ -265,8 +280,10 @@ pub record Cases : Type 0 where
   load-of-1-3 : planLoad (problemOf Ordinary (S 100)) (1 ∷ 3 ∷ []) ≡ 24
   walk-of-1-4 : WalkAnswers (S 100) (1 ∷ 4 ∷ []) (NotWalked (BadPlan 1))
   -- (M) "Highest rate 2, one task of period 30: 60 cycles fit," (M) "61 give refusal 7."
-  cycles-60 : (plan work : List ℕ) → length plan ≡ 1 → length work ≡ 82 → PlannerGives (Table Ordinary) (one-task 60) plan work (2 ∷ []) (replicate 82 0) (Planned 1 30 30 6)
-  pub cycles-61 : (plan work : List ℕ) → 1 ≤ length plan → 82 ≤ length work → PlannerGives (Table Ordinary) (one-task 61) plan work plan work (NotPlanned NoPlan)
+  cycles-60 : (plan work : List ℕ) → length plan ≡ 1 → length work ≡ 82
+      → ByPlanner (one-task 60) plan work (2 ∷ []) (replicate 82 0) (Planned 1 30 30 6)
+  pub cycles-61 : (plan work : List ℕ) → 1 ≤ length plan → 82 ≤ length work
+      → ByPlanner (one-task 61) plan work plan work (NotPlanned NoPlan)
   -- "A slack of 0: refusal 2, place 0. Empty list: refusal 2, place 0. Rates 4 4: refusal 3, place 3."
   slack-0 : Declined (S 0) (BadWord 0)
   empty : Declined [] (BadWord 0)
@@ -282,33 +299,37 @@ pub record Cases : Type 0 where
   left-over : Declined (with-rates 2 4 (9 ∷ 1 ∷ [])) (BadWord 11)
   -- A plan list of one word for two tasks: refusal 6 with 2. Two plans that differ in rate numbers alone: the lower
   -- number for task 2.
-  plan-list-1 : (plan work : List ℕ) → length plan ≡ 1 → length work ≡ 243 → PlannerGives (Table Ordinary) (S 100) plan work plan work (NotPlanned (TooShort 2))
-  pub tie : (plan work : List ℕ) → length plan ≡ 2 → length work ≡ 243 → PlannerGives (Table Ordinary) even-tasks plan work (2 ∷ 1 ∷ []) (replicate 243 0) (Planned 1 4 4 6)
+  plan-list-1 : (plan work : List ℕ) → length plan ≡ 1 → length work ≡ 243 → ByPlanner (S 100) plan work plan work (NotPlanned (TooShort 2))
+  pub tie : (plan work : List ℕ) → length plan ≡ 2 → length work ≡ 243
+      → ByPlanner even-tasks plan work (2 ∷ 1 ∷ []) (replicate 243 0) (Planned 1 4 4 6)
   -- Rate number 0 is no job: of S, with a first release of 3, task 2 at rate 1 alone has load 20, and its jobs cost 14.
   rate-0 : (planLoad (problemOf Ordinary (S-from 3 0)) (0 ∷ 1 ∷ []) ≡ 20) × (jobsEnergy Ordinary (S-from 3 0) (0 ∷ 1 ∷ []) ≡ 14)
   -- Document 02, note 4. The slower rate costs 910 - 10 × 90 = 10 over idling, the faster 200 - 10 × 10 = 100: plan 1, and
   -- with 10 idle ticks 910 + 10 × 10 = 1,010 in all, against 200 + 10 × 90 = 1,100 for plan 2.
   pub idle-counts : (plan work : List ℕ) → length plan ≡ 1 → length work ≡ 82
-      → PlannerGives (Table Ordinary) (slow-or-fast 10 910) plan work (1 ∷ []) (replicate 82 0) (Planned 1 90 100 1010)
+      → ByPlanner (slow-or-fast 10 910) plan work (1 ∷ []) (replicate 82 0) (Planned 1 90 100 1010)
   pub walk-idle : WalkAnswers (slow-or-fast 10 910) (1 ∷ []) (Kept 90 10 0)
   -- So no bound between the jobs' energies alone holds: that of the plan given is 910, and plan 2 keeps every deadline
   -- for ever with 200, 1,100 with its idle energy.
   pub jobs-alone : (jobsEnergy Ordinary (slow-or-fast 10 910) (1 ∷ []) ≡ 910) × (jobsEnergy Ordinary (slow-or-fast 10 910) (2 ∷ []) ≡ 200) ×
       (reportedEnergy Ordinary (slow-or-fast 10 910) (2 ∷ []) ≡ 1100) × Keeps Ordinary (slow-or-fast 10 910) (2 ∷ [])
-  pub jobs-alone-false : (1000 * jobsEnergy Ordinary (slow-or-fast 10 910) (1 ∷ []) ≤ 1100 * jobsEnergy Ordinary (slow-or-fast 10 910) (2 ∷ [])) → ⊥
+  pub jobs-alone-false :
+      (1000 * jobsEnergy Ordinary (slow-or-fast 10 910) (1 ∷ []) ≤ 1100 * jobsEnergy Ordinary (slow-or-fast 10 910) (2 ∷ []))
+      → ⊥
   pub jobs-alone-above :
-      (jobsEnergy Ordinary (slow-or-fast 10 910) (1 ∷ []) ≤ jobsEnergy Ordinary (slow-or-fast 10 910) (2 ∷ []) + margin (planning Ordinary (slow-or-fast 10 910)) 1)
+      (jobsEnergy Ordinary (slow-or-fast 10 910) (1 ∷ [])
+      ≤ jobsEnergy Ordinary (slow-or-fast 10 910) (2 ∷ []) + margin (ordinary (slow-or-fast 10 910)) 1)
       → ⊥
   -- Without idle energy the faster rate is the cheaper.
   idle-nothing : (plan work : List ℕ) → length plan ≡ 1 → length work ≡ 82
-      → PlannerGives (Table Ordinary) (slow-or-fast 0 910) plan work (2 ∷ []) (replicate 82 0) (Planned 8 10 100 200)
+      → ByPlanner (slow-or-fast 0 910) plan work (2 ∷ []) (replicate 82 0) (Planned 8 10 100 200)
   -- "10, an energy below H × job time": 900 is not below 10 × 90, and 899 is. With 900 the energy that selection sees is 0.
   idle-equal : (plan work : List ℕ) → length plan ≡ 1 → length work ≡ 82
-      → PlannerGives (Table Ordinary) (slow-or-fast 10 900) plan work (1 ∷ []) (replicate 82 0) (Planned 1 90 100 1000)
+      → ByPlanner (slow-or-fast 10 900) plan work (1 ∷ []) (replicate 82 0) (Planned 1 90 100 1000)
   pub idle-above : Declined (slow-or-fast 10 899) (BelowIdle 9)
   -- All that selection sees is 0: the first unit is 1, and the least load decides.
   nothing-left : (plan work : List ℕ) → length plan ≡ 2 → length work ≡ 243
-      → PlannerGives (Table Ordinary) (idle-tasks 10 10 40 20 40 20) plan work (2 ∷ 2 ∷ []) (replicate 243 0) (Planned 1 4 10 100)
+      → ByPlanner (idle-tasks 10 10 40 20 40 20) plan work (2 ∷ 2 ∷ []) (replicate 243 0) (Planned 1 4 10 100)
   -- "with the first such energy's place": tasks in order, rates in order; no plan would use the second task's 39, as its
   -- other rate is cheaper. "after 3, before 4, and never by walk".
   first-task : Declined (idle-tasks 10 10 40 19 39 20) (BelowIdle 10)
@@ -321,26 +342,27 @@ pub record Cases : Type 0 where
   -- Document 02, note 5. With energies 33 and 64, at unit 32 both round to 2, and the lower load decides: plan 2, energy
   -- 64, which is 31 above the least. So no smaller margin than 1 × (32 - 1) would hold, without idle energy or with it.
   margin-31 : (plan work : List ℕ) → length plan ≡ 1 → length work ≡ 10
-      → PlannerGives (Table Ordinary) (two-energies 0 33 64) plan work (2 ∷ []) (replicate 10 0) (Planned 32 5 10 64)
-  margin-31-reached : (margin (planning Ordinary (two-energies 0 33 64)) 32 ≡ 31) × IsLeast (planning Ordinary (two-energies 0 33 64)) (1 ∷ []) 33
+      → ByPlanner (two-energies 0 33 64) plan work (2 ∷ []) (replicate 10 0) (Planned 32 5 10 64)
+  margin-31-reached : (margin (ordinary (two-energies 0 33 64)) 32 ≡ 31) × IsLeast (ordinary (two-energies 0 33 64)) (1 ∷ []) 33
   idle-margin : (plan work : List ℕ) → length plan ≡ 1 → length work ≡ 10
-      → PlannerGives (Table Ordinary) (two-energies 1 43 69) plan work (2 ∷ []) (replicate 10 0) (Planned 32 5 10 74)
-  idle-margin-reached : (margin (planning Ordinary (two-energies 1 43 69)) 32 ≡ 31) × IsLeast (planning Ordinary (two-energies 1 43 69)) (1 ∷ []) 43
+      → ByPlanner (two-energies 1 43 69) plan work (2 ∷ []) (replicate 10 0) (Planned 32 5 10 74)
+  idle-margin-reached : (margin (ordinary (two-energies 1 43 69)) 32 ≡ 31) × IsLeast (ordinary (two-energies 1 43 69)) (1 ∷ []) 43
   -- With 3 and 4 the unit is 2, the energy 4 and the least 3: at unit 2 nothing is 'the least'. Two such tasks together
   -- cost 8, and 6 is the least: the margin counts every task.
   unit-2 : (plan work : List ℕ) → length plan ≡ 1 → length work ≡ 10
-      → PlannerGives (Table Ordinary) (two-energies 0 3 4) plan work (2 ∷ []) (replicate 10 0) (Planned 2 5 10 4)
-  unit-2-above : IsLeast (planning Ordinary (two-energies 0 3 4)) (1 ∷ []) 3 × (IsLeast (planning Ordinary (two-energies 0 3 4)) (2 ∷ []) 4 → ⊥)
+      → ByPlanner (two-energies 0 3 4) plan work (2 ∷ []) (replicate 10 0) (Planned 2 5 10 4)
+  unit-2-above : IsLeast (ordinary (two-energies 0 3 4)) (1 ∷ []) 3 × (IsLeast (ordinary (two-energies 0 3 4)) (2 ∷ []) 4 → ⊥)
   both-tasks : (plan work : List ℕ) → length plan ≡ 2 → length work ≡ 27
-      → PlannerGives (Table Ordinary) (twice 3 4) plan work (2 ∷ 2 ∷ []) (replicate 27 0) (Planned 2 10 20 8)
-  both-tasks-reached : (margin (planning Ordinary (twice 3 4)) 2 ≡ 2) × IsLeast (planning Ordinary (twice 3 4)) (1 ∷ 1 ∷ []) 6
+      → ByPlanner (twice 3 4) plan work (2 ∷ 2 ∷ []) (replicate 27 0) (Planned 2 10 20 8)
+  both-tasks-reached : (margin (ordinary (twice 3 4)) 2 ≡ 2) × IsLeast (ordinary (twice 3 4)) (1 ∷ 1 ∷ []) 6
   -- "With unit 1 it is therefore the least there is": 41, for S.
-  pub least-41 : IsLeast (planning Ordinary (S 100)) (2 ∷ 1 ∷ []) 41
+  pub least-41 : IsLeast (ordinary (S 100)) (2 ∷ 1 ∷ []) 41
   -- Where the slack allows less than the margin: "one task whose task energy is 33 at every rate, with slack 1,000", 16
   -- against 31; and where the margin does, 31 against 32.
   unit-32 : (plan work : List ℕ) → length plan ≡ 1 → length work ≡ 10
-      → PlannerGives (Table Ordinary) (two-energies 0 33 33) plan work (2 ∷ []) (replicate 10 0) (Planned 32 5 10 33)
-  allowances : (allowance (planning Ordinary (two-energies 0 33 33)) 33 ≡ 16) × (margin (planning Ordinary (two-energies 0 33 33)) 32 ≡ 31) × (allowance (planning Ordinary (two-energies 0 33 64)) 64 ≡ 32)
+      → ByPlanner (two-energies 0 33 33) plan work (2 ∷ []) (replicate 10 0) (Planned 32 5 10 33)
+  allowances : (allowance (ordinary (two-energies 0 33 33)) 33 ≡ 16) ×
+      (margin (ordinary (two-energies 0 33 33)) 32 ≡ 31) × (allowance (ordinary (two-energies 0 33 64)) 64 ≡ 32)
   -- Document 02, note 6. "A below the period", of its own task: 1 and 3 with periods 2 and 4; 2 and 4 are "refusal 2".
   first-1 :
       SetAfter (idleChecks Ordinary (with-firsts 2 4 1 3) ▹ hyperCheck Ordinary (with-firsts 2 4 1 3)) Ordinary
@@ -349,13 +371,14 @@ pub record Cases : Type 0 where
   first-4 : Declined (with-firsts 2 4 1 4) (BadWord 13)
   -- "The planner still answers for a common release": with S's second task from 7 on, its plan; the walk of it to 60.
   pub planned-from : (plan work : List ℕ) → length plan ≡ 2 → length work ≡ 243
-      → PlannerGives (Table Ordinary) (S-from 0 7) plan work (2 ∷ 1 ∷ []) (replicate 243 0) (Planned 1 29 30 41)
+      → ByPlanner (S-from 0 7) plan work (2 ∷ 1 ∷ []) (replicate 243 0) (Planned 1 29 30 41)
   pub walk-from : WalkAnswers (S-from 0 7) (2 ∷ 1 ∷ []) (Kept 55 5 2)
   -- "it goes to 2 × L. If some A is above 0, 'kept' means just that stretch": periods 2 and 2, first releases 0 and 1, are
   -- kept with a load of 3, above L = 2, and the plan does not keep every deadline for ever, from there or together.
   walk-over-load : WalkAnswers (with-firsts 2 2 0 1) (1 ∷ 1 ∷ []) (Kept 4 0 0)
   over-load : (planLoad (problemOf Ordinary (with-firsts 2 2 0 1)) (1 ∷ 1 ∷ []) ≡ 3) × (hyperPeriod Ordinary (with-firsts 2 2 0 1) ≡ 2)
-  not-for-ever : (KeepsForEver (walkTasks Ordinary (with-firsts 2 2 0 1) (1 ∷ 1 ∷ [])) → ⊥) × (Keeps Ordinary (with-firsts 2 2 0 1) (1 ∷ 1 ∷ []) → ⊥)
+  not-for-ever : (KeepsForEver (walkTasks Ordinary (with-firsts 2 2 0 1) (1 ∷ 1 ∷ [])) → ⊥) ×
+      (Keeps Ordinary (with-firsts 2 2 0 1) (1 ∷ 1 ∷ []) → ⊥)
   -- 'Unfinished' is asked before the tick's releases: 2 preemptions, where it would be 3 after them. "If all are 0 it ends
   -- at L as before": in 4 ticks.
   walk-asked-before : WalkAnswers (with-firsts 2 4 1 1) (1 ∷ 1 ∷ []) (Kept 7 1 2)
@@ -364,12 +387,13 @@ pub record Cases : Type 0 where
   missed-together : WalkAnswers (with-firsts 2 2 0 0) (1 ∷ 1 ∷ []) (Missed 2 2)
   -- A chip's list: its plan, and the walk of it.
   pub planned-chip : (plan work : List ℕ) → length plan ≡ 2 → length work ≡ 51
-      → PlannerGives (Table Ordinary) chip-set plan work (2 ∷ 2 ∷ []) (replicate 51 0) (Planned 128 20 40 1680)
+      → ByPlanner chip-set plan work (2 ∷ 2 ∷ []) (replicate 51 0) (Planned 128 20 40 1680)
   pub walk-chip : WalkAnswers chip-set (2 ∷ 2 ∷ []) (Kept 20 20 0)
   -- Attempt 1, "A planner that gives every task the fastest rate": plan 3 3 for S has load 12 and energy 120. It fits;
   -- but plan 2 1 keeps every deadline for ever too, with 41, and demand 3's bound stops 120.
-  pub plan-3-3 : (planLoad (problemOf Ordinary (S 100)) (3 ∷ 3 ∷ []) ≡ 12) × (reportedEnergy Ordinary (S 100) (3 ∷ 3 ∷ []) ≡ 120) × Keeps Ordinary (S 100) (3 ∷ 3 ∷ [])
-  pub plan-3-3-stopped : (unit : ℕ) → PlanPromise (planning Ordinary (S 100)) (3 ∷ 3 ∷ []) unit 120 → ⊥
+  pub plan-3-3 : (planLoad (problemOf Ordinary (S 100)) (3 ∷ 3 ∷ []) ≡ 12) ×
+      (reportedEnergy Ordinary (S 100) (3 ∷ 3 ∷ []) ≡ 120) × Keeps Ordinary (S 100) (3 ∷ 3 ∷ [])
+  pub plan-3-3-stopped : (unit : ℕ) → PlanPromise (ordinary (S 100)) (3 ∷ 3 ∷ []) unit 120 → ⊥
   -- What C is given: 0 and the values, or the refusal's number and second number in one.
   returns : (code (WorkShort 243) ≡ 21474836723) × (code (BadPlan 1) ≡ 34359738369)
   values : (plannerValues (Planned 1 29 30 41) ≡ 1 ∷ 29 ∷ 30 ∷ 41 ∷ []) × (walkValues (Kept 29 1 1) ≡ 1 ∷ 29 ∷ 1 ∷ 1 ∷ []) × (walkValues (Missed 15 2) ≡ 0 ∷ 15 ∷ 2 ∷ 0 ∷ [])
@@ -466,7 +490,7 @@ cases =
       );
       unit-2 = by-3-4;
       unit-2-above =
-          let cheaper : IsLeast (planning Ordinary (two-energies 0 3 4)) (1 ∷ []) 3
+          let cheaper : IsLeast (ordinary (two-energies 0 3 4)) (1 ∷ []) 3
           = least-by-margin (two-energies 0 3 4) (2 ∷ []) 2 5 10 4 (le-by-compare _ _ tt) by-3-4 (1 ∷ []) 10 0 0 refl
           (walks (two-energies 0 3 4) 2 1 10 refl (1 ∷ []) refl, refl) refl in
           (cheaper, (λ l. let below : 4 ≤ 3 = l .least (1 ∷ []) (cheaper .keeps) in omega arith));

@@ -133,7 +133,8 @@ module _ (m : Planning) (cs : List Check) (plans : Plans m cs) where
   )
 
   -- So the number of any refusal is 7 in that case, then with 0, and in no other.
-  pub refusal-owes : (n k : ℕ) → Refuses (cs ▹ last) n k → (n ≡ 7 → Accepts cs × NoneKeeps m) × (Accepts cs × NoneKeeps m → (n ≡ 7) × (k ≡ 0))
+  pub refusal-owes : (n k : ℕ) → Refuses (cs ▹ last) n k
+      → (n ≡ 7 → Accepts cs × NoneKeeps m) × (Accepts cs × NoneKeeps m → (n ≡ 7) × (k ≡ 0))
   refusal-owes n k h = (
     λ e. refused-7 k (subst (λ (x : ℕ). Refuses (cs ▹ last) x k) e h),
     λ w. ⊎-elim (λ x. absurd (not-both cs n k (w .0) x)) (λ x. (x .1, x .2 .0)) (refuses-cases cs last n k h),
@@ -289,7 +290,8 @@ plan-of s P pass =
         (bool-cases (between 1 (rateCount Ordinary s) (getD P t 0)))
 
 -- And such a plan has no fault.
-pub sound-plan : (s P : List ℕ) → IsPlan (problemOf Ordinary s) P → (k : ℕ) → IsBadPlan (rateCount Ordinary s) (taskCount Ordinary s) P k → ⊥
+pub sound-plan : (s P : List ℕ) → IsPlan (problemOf Ordinary s) P → (k : ℕ)
+    → IsBadPlan (rateCount Ordinary s) (taskCount Ordinary s) P k → ⊥
 sound-plan s P p k bad =
     ⊎-elim
     (λ (x : (k < length P) × (between 1 (rateCount Ordinary s) (getD P k 0) ≡ false)).

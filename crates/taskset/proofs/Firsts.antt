@@ -210,7 +210,11 @@ module _ (layout : Layout) (s s′ : List ℕ) (a : Alike layout s s′) where
   plan-short lent k h = subst (λ (n : ℕ). IsShort n lent k) (a .task-counts) h
 
   none-fits : (k : ℕ) → NoneOk (Fitting (problemOf layout s)) k → NoneOk (Fitting (problemOf layout s′)) k
-  none-fits k h = (h .0, λ P f. h .1 P (fitting-same (problemOf layout s′) (problemOf layout s) (problem-same layout s′ s (alike-sym a)) P f))
+  none-fits k h = (
+    h .0,
+    λ P f. h .1 P (fitting-same (problemOf layout s′) (problemOf layout s)
+        (problem-same layout s′ s (alike-sym a)) P f),
+  )
 
 -- Where a cause goes over from either list to the other, the checks agree.
 agreeing : (layout : Layout) (n : ℕ) (cause : List ℕ → ℕ → Type 0)

@@ -90,7 +90,8 @@ module _ (layout : Layout) (s : List ℕ) (covered : Covered layout s) where
       → taskEnergy layout s t r ≡ taskNet layout s t r + idle s * taskLoad layout s t r
   task-energy-is t zero l a b = absurd (omega arith)
   task-energy-is t (suc r) l a b =
-      whole-energy (hyperPeriod layout s / period layout s t) (energy layout s t (suc r)) (idle s) (jobTime layout s t (suc r)) (covered t (suc r) l a b)
+      whole-energy (hyperPeriod layout s / period layout s t) (energy layout s t (suc r)) (idle s)
+      (jobTime layout s t (suc r)) (covered t (suc r) l a b)
 
   pub energies-are : (P : List ℕ) → ((t : ℕ) → t < taskCount layout s → 1 ≤ getD P t 0) → ((t : ℕ) → t < taskCount layout s → getD P t 0 ≤ rateCount layout s)
       → total (taskEnergy layout s) (taskCount layout s) P

@@ -112,7 +112,8 @@ module _ (layout : Layout) (s : List ℕ) where
     falling t r l a b =
         mul-le-mul-left _
         (rw (job-time-at layout s t (rateCount layout s) (omega arith), job-time-at layout s t r a)
-        (ceil-falls _ (rate layout s r) (rate layout s (rateCount layout s)) (set .whole .rate-range r a b .0) (rates-up (rateCount layout s - r) r (omega arith) a)))
+        (ceil-falls _ (rate layout s r) (rate layout s (rateCount layout s)) (set .whole .rate-range r a b .0)
+        (rates-up (rateCount layout s - r) r (omega arith) a)))
 
     -- Every job takes at least one tick.
     pub job-time-positive : (t r : ℕ) → t < taskCount layout s → 1 ≤ r → r ≤ rateCount layout s → 1 ≤ jobTime layout s t r
@@ -152,7 +153,8 @@ module _ (layout : Layout) (s : List ℕ) where
     energy-small P p free few =
         omega (
           arith,
-          total-bound (taskEnergy layout s) mostTaskEnergy (taskCount layout s) P (λ t l. task-energy-small t (getD P t 0) l (p .above t l) (p .below t l)),
+          total-bound (taskEnergy layout s) mostTaskEnergy (taskCount layout s) P
+              (λ t l. task-energy-small t (getD P t 0) l (p .above t l) (p .below t l)),
           set .whole .tasks-range .1,
           mul-le-mul {n₁ = idle s} {m₁ = free} {n₂ = mostIdle} {m₂ = hyperLimit} (idle-in layout s (set .whole))
               (omega (arith, set .hyper-range .1)),

@@ -45,13 +45,15 @@ module _ (layout : Layout) (s : List ℕ) where
 
     rates : (2 ≤ rateCount layout s) × (rateCount layout s ≤ 8)
     unfolding allows
-    rates = between-true _ _ _ (fine (headSize layout) RateCount (omega (arith, head-few layout)) (kind-rates layout s (headSize layout) refl))
+    rates = between-true _ _ _ (fine (headSize layout) RateCount (omega (arith, head-few layout))
+        (kind-rates layout s (headSize layout) refl))
 
     tasks : (1 ≤ taskCount layout s) × (taskCount layout s ≤ 32)
     unfolding allows
     tasks =
         between-true _ _ _
-        (fine (taskCountPlace layout (rateCount layout s)) TaskCount (omega (arith, rates .1, head-few layout)) (kind-tasks layout s _ refl))
+        (fine (taskCountPlace layout (rateCount layout s)) TaskCount (omega (arith, rates .1, head-few layout))
+        (kind-tasks layout s _ refl))
 
     short : wordCount layout s < q
     short = omega (arith, rates .1, head-few layout, task-words layout (rateCount layout s) (taskCount layout s) (rates .1) (tasks .1))
@@ -92,7 +94,14 @@ module _ (layout : Layout) (s : List ℕ) where
     too-long-small : (q : ℕ) → IsTooLong layout s q → q ≤ 1000
     too-long-small q h =
         let t = h .1 .here .0 in
-        omega (arith, h .2, whole .rates-range .1, head-few layout, task-words layout (rateCount layout s) (h .0) (whole .rates-range .1) (omega (arith, whole .tasks-range .1)))
+        omega (
+          arith,
+          h .2,
+          whole .rates-range .1,
+          head-few layout,
+          task-words layout (rateCount layout s) (h .0)
+              (whole .rates-range .1) (omega (arith, whole .tasks-range .1)),
+        )
 
     bad-plan-small : (P : List ℕ) (k : ℕ) → IsBadPlan (rateCount layout s) (taskCount layout s) P k → k ≤ 1000
     bad-plan-small P k h =

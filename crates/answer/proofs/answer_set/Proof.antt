@@ -49,7 +49,8 @@ ready c =
 -- What the planner gave.
 abbrev Call : tie.After-plan-checked → PlannerAnswer → Type 0
 Call p =
-    PlannerCall (Table Ordinary) (planned-set p) (replicate planLent 0) (replicate workLent 0) (p .plan-checked .last .1 .1 .0) (p .plan-checked .last .1 .1 .1 .0)
+    PlannerCall (Table Ordinary) (planned-set p) (replicate planLent 0) (replicate workLent 0)
+    (p .plan-checked .last .1 .1 .0) (p .plan-checked .last .1 .1 .1 .0)
 
 plan-of : (c : tie.After-unit) → let p = called (c .before .before) in
     PlannedSet (planned-set p) (take (checked p .rates .given .0 .1 .0) (p .plan-checked .last .1 .1 .0))

@@ -24,7 +24,8 @@ check-tasks-requires c κs =
     let sh = c .before in
     let a = sh .before .before .before .before .args in
     of-counts _ _
-    (subst (CountsAfter (wordChecks (a .layout) (a .s .now)) (a .layout) (a .s .now)) (sh .shape2 .given .1) (sh .before .before .check-words .ensures))
+    (subst (CountsAfter (wordChecks (a .layout) (a .s .now)) (a .layout) (a .s .now)) (sh .shape2 .given .1)
+    (sh .before .before .check-words .ensures))
 
 returns : tie.Need-returns
 returns c =

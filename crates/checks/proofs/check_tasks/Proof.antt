@@ -38,7 +38,8 @@ returns-2 c =
     let q = c .before .before .before in
     ⊎-elim
     (λ w. rw (w .0 .taken)
-    (after-idle (q .args .layout) (q .args .s .now) (none-below (q .pre) (w .1 .ensures) (w .2 .left)) (c .check-hyper .result) (c .check-hyper .ensures)))
+    (after-idle (q .args .layout) (q .args .s .now) (none-below (q .pre) (w .1 .ensures) (w .2 .left))
+    (c .check-hyper .result) (c .check-hyper .ensures)))
     (λ w. rw (w .left) (c .check-hyper .ensures))
     (c .before .if1 .came)
 

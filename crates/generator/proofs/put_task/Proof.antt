@@ -103,7 +103,8 @@ task-stored c =
     let three = s .next3 .ensures in
     let front = z .before .before .before-energies .ensures in (
       state-behind (a .state) _ _ _ one two three,
-      task-written _ _ _ _ (now (a .list)) _ _ (a .at) front (omega (arith, start k .pre)) (z .put-figures .ensures) (x .put-figures2 .ensures)
+      task-written _ _ _ _ (now (a .list)) _ _ (a .at) front (omega (arith, start k .pre)) (z .put-figures .ensures)
+          (x .put-figures2 .ensures)
           ∙ ap (λ (ws : List ℕ). written (a .at) ws (now (a .list)))
           (task-words (a .state) _ _ _ one two three _ _ _ _ (k .before .before .before .draw .ensures) (k .before .draw2 .ensures)
           (k .draw3 .ensures) (k .before .before .period .ensures)),

@@ -39,7 +39,8 @@ says : (p : tie.After-pose)
     → PosedFor (planning (layoutOf (start (laid p) .args .engine)) (start (laid p) .args .set .now)) (p .pose .last .0)
     (p .pose .last .1 .0) (p .pose .result)
 says p =
-    subst (λ (x : Layout). PosedFor (planning x (start (laid p) .args .set .now)) (p .pose .last .0) (p .pose .last .1 .0) (p .pose .result))
+    subst (λ (x : Layout). PosedFor (planning x (start (laid p) .args .set .now)) (p .pose .last .0)
+    (p .pose .last .1 .0) (p .pose .result))
     (laid p .layout-of .ensures) (p .pose .ensures .posed)
 
 -- What is asked, and for which arrays.
