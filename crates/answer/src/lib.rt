@@ -1,5 +1,7 @@
 // The program's whole job as a call, text in, text out: it reads the set, plans it, walks the plan, and gives the
 // lines, or the line of the refusal. Standard input and output are left to the program.
+#![tactic(auto)]
+
 ghost use Rattle.answer.specs.Answer.{Responds};
 ghost use Rattle.answer.specs.Steps.{PutAnswer, PutSet, PlannedSet};
 

@@ -1,5 +1,7 @@
 // Whole-number arithmetic in code: common divisors by halving and subtracting, the least power of two, the lesser of
 // two numbers, a range. What each one is, numbers defines; tasks, words and times are left to the crates above.
+#![tactic(auto)]
+
 ghost use Rattle.std.specs.Prelude.{◌≡◌, suc, ◌-◌, ◌*◌, ◌/◌, ◌^◌, ◌≤◌, ◌<◌, min};
 ghost use Rattle.numbers.specs.Numbers.{between, gcd, LeastPower};
 ghost use Rattle.numbers.specs.Halving.{common_power, is_even, step, steps, most_steps};

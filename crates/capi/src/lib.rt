@@ -1,6 +1,8 @@
 // The entries for C: word lists and numbers in, a number out, results in a lent byte list. Thin: each entry calls the
 // library's function and puts its answer into bytes. Pointers are not null and aligned, and lists lent together do not
 // overlap (include/seedspell.h).
+#![tactic(auto)]
+
 ghost use Rattle.std.specs.Prelude.{◌≡◌, ◌+◌, ◌<◌, ◌≤◌, ◌^◌, ltb, length};
 ghost use Rattle.layout.specs.declared.Layout.TheVariants.{Ordinary};
 ghost use Rattle.taskset.specs.declared.Engine.TheVariants.{Table};

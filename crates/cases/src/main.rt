@@ -1,6 +1,8 @@
 // Runs the calls on stored records: each line of standard input is a record, and gets a line of standard output.
 // README.md has the form of both. What is proved of the program is that it is safe and ends; what it prints is held to
 // the stored lines by comparison.
+#![tactic(auto)]
+
 mod input;
 mod items;
 mod print;

@@ -1,5 +1,7 @@
 // The checks of a task set in code, and the readers of its words and quantities. What each says is defined in
 // `taskset`; what stands where in a list, and what each word may be, is left to layout, and in code to places.
+#![tactic(auto)]
+
 ghost use Rattle.std.specs.Prelude.{◌≡◌, [], ◌∷◌, ◌++◌, ◌+◌, ◌*◌, ◌<◌, ◌≤◌, length};
 ghost use Rattle.numbers.specs.Search.{Found};
 ghost use Rattle.layout.specs.Words.{rate_place, task_count_place, tasks_place, most_rates, idle_place, slack, idle, rate};

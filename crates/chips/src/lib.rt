@@ -1,5 +1,7 @@
 // Two processors by name: constant tables of their rates, powers and idle energies, and what a job costs by them. How a
 // text names them is left to the crates above.
+#![tactic(auto)]
+
 ghost use Rattle.std.specs.Prelude.{◌≡◌, ◌+◌, ◌≤◌, length};
 ghost use Rattle.lists.specs.Writing.{written};
 ghost use Rattle.chips.specs.Chips.{chip_count, chip_rate, chip_power, chip_energy, chip_rates, chip_energies, idle_entry, chip_idle};

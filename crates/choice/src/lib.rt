@@ -1,6 +1,8 @@
 // The choice of unit and plan by document 01's rule, over arrays of loads and energies: the table, unit by unit, the
 // way back through it, the plan's sums, and zeros where the table was. Whose loads and energies these are is left to
 // others.
+#![tactic(auto)]
+
 ghost use Rattle.std.specs.Prelude.{◌≡◌, ◌+◌, ◌*◌, ◌≤◌, min, length};
 ghost use Rattle.engine.specs.Arrays.{Written};
 ghost use Rattle.selection.specs.Plan.{last_column};

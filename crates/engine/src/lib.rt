@@ -1,6 +1,8 @@
 // Loads and energies by task and rate number, in arrays of 512 words: the option of the task at place t with rate
 // number r stands at t * 16 + r. The sums and costs over them, the unit rule, and what an engine that chooses a plan by
 // them is asked and gives. Which plan, and how, is left to the engines.
+#![tactic(auto)]
+
 ghost use Rattle.std.specs.Prelude.{◌≡◌, ◌||◌, ◌-◌, ◌*◌, ◌/◌, ◌^◌, ◌≤◌, ◌<◌, eqb, leb, replicate};
 ghost use Rattle.numbers.specs.Numbers.{total};
 ghost use Rattle.engine.specs.Arrays.{option_at, Written, cost_of, load_bound, Small, RoundReady, SumReady};

@@ -2,6 +2,8 @@
 // all plans, in order of rate numbers with task 1 changing fastest, and applies document 01's choice directly at each
 // unit. It needs no working words, and goes through at most 1,000,000 plans. Whose loads and energies these are is left
 // to others.
+#![tactic(auto)]
+
 ghost use Rattle.std.specs.Prelude.{◌≡◌, suc, ◌+◌, ◌^◌, ◌≤◌, min, replicate};
 ghost use Rattle.selection.specs.Plan.{most_plans};
 ghost use Rattle.engine.specs.Arrays.{arrays, ChosenBy};

@@ -1,5 +1,7 @@
 // A set's figures in code: the two numbers of a refusal, and the job time. What they are, taskset defines; which
 // refusal is given is left to the crates above.
+#![tactic(auto)]
+
 ghost use Rattle.std.specs.Prelude.{◌≡◌, ◌≤◌};
 ghost use Rattle.taskset.specs.Quantities.{job_ticks};
 ghost use Rattle.taskset.specs.Refusals.{number, second};

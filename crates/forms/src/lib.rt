@@ -1,5 +1,7 @@
 // The forms of a text, one after the other, and the words that they say, to a list. What becomes of the list is left to
 // the reader.
+#![tactic(auto)]
+
 ghost use Rattle.std.specs.Prelude.{◌≡◌, ◌+◌, ◌≤◌, length, drop};
 ghost use Rattle.numbers.specs.Numbers.{joined};
 ghost use Rattle.layout.specs.Words.{most_rates, most_tasks, most_words, tasks_place, task_size, period_place};

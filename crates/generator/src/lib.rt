@@ -1,6 +1,8 @@
 // The generator of task sets for the bench: a seed and a task count in, a set's list of words out, the same on every
 // machine. It draws by a linear congruential generator of 32 bits. What its sets are planned or walked for is left to
 // others.
+#![tactic(auto)]
+
 ghost use Rattle.std.specs.Prelude.{◌≡◌, ◌+◌, ◌*◌, ◌/◌, ◌%◌, ◌^◌, ◌≤◌, length};
 ghost use Rattle.layout.specs.Words.{most_tasks, tasks_place, task_size, period_place};
 ghost use Rattle.layout.specs.declared.Layout.TheVariants.{Ordinary};

@@ -1,5 +1,7 @@
 // The lines that the program prints: of a plan, of its rates, of its walk, and of a refusal. What stands in them is
 // left to the caller.
+#![tactic(auto)]
+
 ghost use Rattle.std.specs.Prelude.{◌++◌, ◌+◌, ◌≤◌, length};
 ghost use Rattle.taskset.specs.Refusals.{number, second};
 ghost use Rattle.printer.specs.Puts.{Put, Added};

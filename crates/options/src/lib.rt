@@ -1,6 +1,8 @@
 // A set's options, laid out for whoever chooses among them: the load of each task at each rate, and the energy less what
 // idle ticks would draw in that time, by task and rate number, in two arrays; what an engine is asked for the set, or
 // that no plan fits; and from what it chose to the answer. Which plan is chosen, and how, is left to the engines.
+#![tactic(auto)]
+
 ghost use Rattle.std.specs.Prelude.{◌≡◌, ◌+◌, ◌*◌, ◌^◌, ◌<◌, length};
 ghost use Rattle.layout.specs.Words.{idle_place, idle};
 ghost use Rattle.taskset.specs.declared.PlannerAnswer.TheVariants.{Planned};

@@ -1,5 +1,7 @@
 // The list of words of a task set in code: how many words stand where, which kind each one is of, and whether it is in
 // its range. What a list is, layout defines; what is made of its words is left to the crates above.
+#![tactic(auto)]
+
 ghost use Rattle.std.specs.Prelude.{◌≡◌, ◌-◌, ◌^◌, ◌<◌, ◌≤◌, length};
 ghost use Rattle.layout.specs.Words.{head_size, extra_size, most_rates, most_tasks, rate_place, task_count_place};
 ghost use Rattle.layout.specs.Words.{tasks_place, task_size, period_place, cycles_place, first_place, energy_place};

@@ -1,6 +1,8 @@
 // The calls that plan a list, the planner's and the dull engine's (document 02, note 7): the checks in their order, then
 // the choice among the set's options by an engine. How options are laid out is left to the crate options, how the choice
 // is made to the crates choice, by the table, and exhaustive, through all plans.
+#![tactic(auto)]
+
 ghost use Rattle.std.specs.Prelude.{◌≡◌, ◌+◌, ◌≤◌, length};
 ghost use Rattle.selection.specs.Plan.{work_words};
 ghost use Rattle.taskset.specs.declared.Checked.TheVariants.{Good};

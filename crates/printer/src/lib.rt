@@ -1,6 +1,8 @@
 // Bytes of a text, part by part: fixed strings and numbers, to a buffer from a place on, or only counted. What the
 // parts make together is left to the crates above. Each part's writer is lent the rest of the buffer that is not yet
 // written.
+#![tactic(auto)]
+
 ghost use Rattle.std.specs.Prelude.{◌≡◌, ◌++◌, ◌+◌, ◌^◌, ◌≤◌, ◌<◌, length};
 ghost use Rattle.text.specs.Text.{decimal};
 ghost use Rattle.printer.specs.Puts.{Put, Added};

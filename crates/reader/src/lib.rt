@@ -1,6 +1,8 @@
 // The reader of the bracketed text: the set's list of words; or the first byte at which the text departs from the form;
 // or, where a chip's tables give the energies, the first task with one over the largest. One pass over the text into a
 // list of its own; the list lent is changed only when all of it is read and fits. Ranges are not judged here.
+#![tactic(auto)]
+
 ghost use Rattle.std.specs.Prelude.{◌≡◌, suc, ◌+◌, ◌≤◌, length};
 ghost use Rattle.numbers.specs.Search.{Found};
 ghost use Rattle.text.specs.Calls.{ReaderGives};

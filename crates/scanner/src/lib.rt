@@ -1,5 +1,7 @@
 // The reader's steps: the class of the next byte, fixed strings, and numbers. Which of them make a text is left to the
 // crates above.
+#![tactic(auto)]
+
 ghost use Rattle.std.specs.Prelude.{◌≡◌, false, ◌-◌, ◌≤◌, length, drop};
 ghost use Rattle.text.specs.Reading;
 ghost use Rattle.text.specs.Reading.{read_at, map_res, ext, starts};

@@ -7,6 +7,8 @@
 // write go, no contract can say: read, write and errno are taken at their word. The program always returns, however
 // often a signal interrupts it. Where it ends by itself its exit status is 0, so that an input that cannot be read, or
 // an answer that cannot be written, shows on standard error only.
+#![tactic(auto)]
+
 mod input;
 mod output;
 

@@ -1,42 +1,34 @@
 -- Which plan is selected (document 01, 'A task set' and 'Which plan'), over any loads and energies.
--- Tasks stand at places from 0 here; rates count from 1, and rate number 0, where it is allowed, is no rate.
+-- Tasks stand at places from 0 here; rate numbers count from 1.
 use Rattle.std.specs.Prelude.{ℕ, zero, suc, ◌+◌, ◌*◌, ◌/◌, ◌^◌, ◌≤◌, ◌<◌, ◌≡◌, List, ◌⊎◌, length, get_or, replicate}
 use Rattle.numbers.specs.Numbers.{ceil, total, LeastPower}
 
--- A task set as far as the choice goes: N tasks, rate numbers from a lowest one to M, the limit L, and "Task load at a
--- rate" and "Task energy at a rate" by the task's place and the rate number; and a second budget, of so much room, with
--- the slots that a task takes of it at a rate number. Document 01's rate numbers begin at 1, and no task takes a slot.
+-- A task set as far as the choice goes: N tasks, M rates, the limit L, and "Task load at a rate" and "Task energy at a
+-- rate" by the task's place and the rate number.
 pub record Problem : Type 0 where
   pub count : ℕ
-  pub lowest : ℕ
   pub rates : ℕ
   pub limit : ℕ
-  pub room : ℕ
   pub load : ℕ → ℕ → ℕ
   pub energy : ℕ → ℕ → ℕ
-  pub slots : ℕ → ℕ → ℕ
 
 -- "A plan is a rate number for each task."
 pub record IsPlan (p : Problem) (P : List ℕ) : Type 0 where
   pub size : length P ≡ p.count
-  pub above : (t : ℕ) → t < p.count → p.lowest ≤ get_or P t 0
+  pub above : (t : ℕ) → t < p.count → 1 ≤ get_or P t 0
   pub below : (t : ℕ) → t < p.count → get_or P t 0 ≤ p.rates
 
--- "Its load and energy are the sums." So are the slots that it takes.
+-- "Its load and energy are the sums."
 abbrev pub plan_load : Problem → List ℕ → ℕ
 plan_load p P = total p.load p.count P
 
 abbrev pub plan_energy : Problem → List ℕ → ℕ
 plan_energy p P = total p.energy p.count P
 
-abbrev pub plan_slots : Problem → List ℕ → ℕ
-plan_slots p P = total p.slots p.count P
-
--- "It fits when its load is at most L.", and "when also the slots taken are at most" the room (document 02, note 8).
+-- "It fits when its load is at most L."
 pub record Fitting (p : Problem) (P : List ℕ) : Type 0 where
   pub plan : IsPlan p P
   pub fits : plan_load p P ≤ p.limit
-  pub roomy : plan_slots p P ≤ p.room
 
 -- "For a unit d, a rounded task energy is the task energy divided by d, rounded up."
 abbrev pub rounded_task : Problem → ℕ → ℕ → ℕ → ℕ
@@ -102,13 +94,12 @@ pub record IsPlannedOf (Ok : List ℕ → Type 0) (p : Problem) (G a : ℕ) (P :
 abbrev pub IsPlanned : Problem → ℕ → ℕ → List ℕ → Type 0
 IsPlanned p = IsPlannedOf (Fitting p) p
 
--- "Working words needed: W = (N + 1) × (F + 1), where F is 4,000 × N / G rounded down.", and with so much room "W is
--- multiplied by" the room + 1 (document 02, note 8).
+-- "Working words needed: W = (N + 1) × (F + 1), where F is 4,000 × N / G rounded down."
 abbrev pub last_column : ℕ → ℕ → ℕ
 last_column n g = 4000 * n / g
 
-abbrev pub work_words : ℕ → ℕ → ℕ → ℕ
-work_words n g room = (n + 1) * (last_column n g + 1) * (room + 1)
+abbrev pub work_words : ℕ → ℕ → ℕ
+work_words n g = (n + 1) * (last_column n g + 1)
 
 -- "M to the power N is over 1,000,000" (document 02, note 7): so many plans the dull engine goes through at most.
 abbrev pub most_plans : ℕ

@@ -2,6 +2,8 @@
 // it, are left to others. Options stand by task and rate number: the one of the task at place t with rate number r at
 // t * 16 + r, so that no number is shifted by one and a place is found without a product. Loads are cut at cap, which
 // stands for 'none', so that every sum of two words fits.
+#![tactic(auto)]
+
 ghost use Rattle.std.specs.Prelude.{◌≡◌, ◌+◌, ◌≤◌, length};
 ghost use Rattle.numbers.specs.Search.{Found};
 ghost use Rattle.engine.specs.Arrays.{Written};

@@ -2,6 +2,7 @@
 // that plans goes by; specs/ defines what document
 // 01 says of each, proofs/ has the theory. What stands where in a set's list is left to the crate layout, all code, the
 // checks among it, to the crates above.
+#![tactic(auto)]
 
 use layout::Layout;
 

@@ -1,5 +1,7 @@
 // The walk over arrays of periods, job times and first releases: the state, the ticks of it, and the loop over the ticks.
 // Whose periods and job times these are, and what was checked before, are left to others.
+#![tactic(auto)]
+
 ghost use Rattle.std.specs.Prelude.{◌≡◌, not, ◌&&◌, ltb, eqb};
 ghost use Rattle.schedule.specs.Counted.{count};
 ghost use Rattle.ticks.specs.Arrays.{Early, IsPick, Begun, TickReady, Ticked, RunReady, Says};

@@ -1,6 +1,8 @@
 // The walk: a set and a plan, from tick 0 to the hyper-period, or from first releases to twice that, under the rule of
 // the earliest deadline. Its answer is the definition's walk, which goes tick by tick, with what that says of the endless
 // walk. Which plan is selected, and texts, are left to others.
+#![tactic(auto)]
+
 ghost use Rattle.std.specs.Prelude.{◌≡◌, cond, ◌*◌, ◌≤◌, get_or};
 ghost use Rattle.layout.specs.Words.{most_tasks};
 ghost use Rattle.layout.specs.declared.Layout.TheVariants.{Ordinary};

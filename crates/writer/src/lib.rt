@@ -2,6 +2,8 @@
 // them is it written to. Each form has a writer, which is lent the rest of the buffer that is not yet written, and
 // beside it a counter, which is the writer without the buffer: the same parts in the same order.
 // A list's text names no chip: it has a line of rates, and each task's line has its energies.
+#![tactic(auto)]
+
 ghost use Rattle.std.specs.Prelude.{◌≡◌, ◌+◌, ◌^◌, ◌≤◌, ◌<◌, length};
 ghost use Rattle.numbers.specs.Numbers.{joined};
 ghost use Rattle.layout.specs.Words.{slack_place, idle_place};

@@ -1,0 +1,9 @@
+use Rattle.std.specs.Prelude.{◌+◌}
+use Rattle.numbers.proofs.Reached.{Reached}
+use Rattle.arithmetic.proofs.common_divisor.Given as goal
+
+abbrev pub invariant-loop-p : goal.invariant-loop-p
+invariant-loop-p l = Reached l.x l.y l.p.a l.p.b l.p.steps
+
+abbrev pub decreases-loop-p : goal.decreases-loop-p
+decreases-loop-p l = l.p.a + l.p.b
