@@ -1,25 +1,22 @@
-use Rattle.std.proofs.Common.{rules, ◌≡◌, suc, ◌-◌, ◌*◌, ◌/◌, ◌^◌, ◌≤◌, ◌<◌, min, ℕ, ◌+◌, length, ◌%◌, Bool, true, false, nat_eq, nat_lt, List, [], ◌∷◌, ◌++◌, slice_index_or, slice_set, bit_and, bit_or, Fits, w8, w32, w64, Bor, MutBor}
-use Rattle.numbers.specs.Numbers.{between, gcd, LeastPower}
-use Rattle.numbers.specs.Halving.{common_power, is_even, step, steps, most_steps}
-use Rattle.numbers.specs.Power.{IsPower}
+use Prim.Native.Nat.{◌-◌}
+use mathlib.Core.Path.{refl}
+use native.Mathlib.Omega.{arith}
+use borrow.Author.Rules.{rules}
+use Rattle.numbers.proofs.Powers.{Doubled, doubled_positive, doubled_turn, doubled_end}
 use Rattle.arithmetic.proofs.least_power.Goals as goal
 
--- src/lib.rt:158:5
 pub loop-v-init : goal.loop-v-init
-loop-v-init c = ?
+loop-v-init c = record { power = refl; smallest = λ b h. omega arith }
 
--- src/lib.rt:160:9
+-- x is at most 2 ^ 63, so no exponent is higher.
 pub overflow_add-a : goal.overflow_add-a
-overflow_add-a c = ?
+overflow_add-a c = omega (arith, c.loop-v.invariant.smallest 63 c.requires)
 
--- src/lib.rt:158:5
 pub loop-v-smaller : goal.loop-v-smaller
-loop-v-smaller c = ?
+loop-v-smaller c = omega (arith, doubled_positive c.loop-v.invariant)
 
--- src/lib.rt:158:5
 pub loop-v-preserved : goal.loop-v-preserved
-loop-v-preserved c = ?
+loop-v-preserved c = doubled_turn c.loop-v.invariant (omega arith)
 
--- src/lib.rt:152:1
 pub returns : goal.returns
-returns c = ?
+returns c = doubled_end c.loop-v.invariant (omega arith)

@@ -1,12 +1,12 @@
-use Rattle.std.proofs.Common.{◌-◌, ◌≡◌, suc, ◌*◌, ◌/◌, ◌^◌, ◌≤◌, ◌<◌, min, ℕ, ◌+◌, length}
-use Rattle.numbers.specs.Numbers.{between, gcd, LeastPower}
-use Rattle.numbers.specs.Halving.{common_power, is_even, step, steps, most_steps}
-use Rattle.numbers.specs.Power.{IsPower}
+use Prim.Native.Nat.{◌-◌}
+use mathlib.Core.Path.{refl}
+use native.Mathlib.Omega.{arith}
+use borrow.Author.Rules.{rules}
+use Rattle.numbers.proofs.Powers.{Doubled, doubled_positive, doubled_turn, doubled_end}
 use Rattle.arithmetic.proofs.least_power.Given as goal
 
 abbrev pub invariant-loop-v : goal.invariant-loop-v
-invariant-loop-v l = ?
+invariant-loop-v l = Doubled l.x l.a l.v
 
--- proposed from the loop's first test
 abbrev pub decreases-loop-v : goal.decreases-loop-v
 decreases-loop-v l = l.x - l.v
