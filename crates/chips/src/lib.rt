@@ -8,14 +8,14 @@ ghost use Rattle.chips.specs.Chips.{chip_count, chip_rate, chip_power, chip_ener
 ghost use Rattle.chips.specs.Steps.{chip_figure, chip_figures};
 
 // The chips that a text can name.
-#[derive(Drop)]
+#[derive(Clone, Copy)]
 pub enum Chip {
     Xscale,
     Ppc405lp,
 }
 
 // Which figure of a chip: its rate, or the energy of a job of so many cycles.
-#[derive(Drop)]
+#[derive(Clone, Copy)]
 enum Figure {
     Rate,
     Energy(u32),

@@ -4,7 +4,7 @@
 #![tactic(auto)]
 
 // What a word of a set's list stands for.
-#[derive(Drop)]
+#[derive(Clone, Copy)]
 pub enum Kind {
     Slack,
     Idle,
@@ -19,7 +19,7 @@ pub enum Kind {
 }
 
 // Which list: document 01's own is the ordinary one.
-#[derive(Drop)]
+#[derive(Clone, Copy)]
 pub enum Layout {
     Ordinary,
 }

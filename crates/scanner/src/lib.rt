@@ -9,7 +9,7 @@ ghost use Rattle.scanner.specs.Steps.{Stands, of_read, no_value, taken};
 
 // What stands at a place of the text: the end, or a byte by the classes that document 01 names for the step. A line's
 // end stands in fixed strings alone, so that no form asks for it by its class.
-#[derive(Drop)]
+#[derive(Clone, Copy)]
 pub enum Class {
     End,
     Digit(u32),
@@ -22,7 +22,7 @@ pub enum Class {
 
 // What reading gives: a value and the place after it, or the offset at which the text departs. The value is the number
 // that was read, how many items a list has, and 0 where there is none to give.
-#[derive(Drop)]
+#[derive(Clone, Copy)]
 pub enum Read {
     Got(u32, usize),
     Bad(usize),

@@ -8,7 +8,7 @@ use layout::Layout;
 
 // What a call that plans goes by: the table of least loads, for a list of a layout; or all plans, one by one, for the
 // ordinary list (document 02, note 7).
-#[derive(Drop)]
+#[derive(Clone, Copy)]
 pub enum Engine {
     Table(Layout),
     Exhaustive,
@@ -16,7 +16,7 @@ pub enum Engine {
 
 // Why a call declines: a case for each row of document 01's table, numbers 1 to 8 in this order, and then for those of
 // document 02's notes, with what is returned beside the number.
-#[derive(Drop)]
+#[derive(Clone, Copy)]
 pub enum Refusal {
     // The text departs from the form: offset.
     TextDeparts(usize),
@@ -43,14 +43,14 @@ pub enum Refusal {
 }
 
 // What checks answer that do not look at periods: rate count and task count of a list, or a refusal.
-#[derive(Drop)]
+#[derive(Clone, Copy)]
 pub enum Shape {
     Whole { rates: usize, tasks: usize },
     Refused(Refusal),
 }
 
 // What checks answer with check 4 among them: rate count, task count and hyper-period of a set, or a refusal.
-#[derive(Drop)]
+#[derive(Clone, Copy)]
 pub enum Checked {
     Good {
         rates: usize,
@@ -61,7 +61,7 @@ pub enum Checked {
 }
 
 // What a call that plans answers.
-#[derive(Drop)]
+#[derive(Clone, Copy)]
 pub enum PlannerAnswer {
     Planned {
         unit: u64,
@@ -73,7 +73,7 @@ pub enum PlannerAnswer {
 }
 
 // What the walk answers.
-#[derive(Drop)]
+#[derive(Clone, Copy)]
 pub enum WalkAnswer {
     Kept {
         busy: u64,
@@ -88,7 +88,7 @@ pub enum WalkAnswer {
 }
 
 // What the reader and the writer answer: how many words or bytes they wrote, or a refusal.
-#[derive(Drop)]
+#[derive(Clone, Copy)]
 pub enum CopyAnswer {
     Wrote(usize),
     Refused(Refusal),

@@ -1,0 +1,7 @@
+use native.Mathlib.Omega.{arith}
+use Rattle.layout.proofs.Layouts.{head_few, extra_few, task-words}
+use borrow.Author.Rules.{rules}
+use Rattle.places.proofs.cycles_place.Goals as goal
+
+pub overflow_add-result : goal.overflow_add-result
+overflow_add-result c = omega (arith, head_few c.args.layout, extra_few c.args.layout, task-words c.args.layout c.args.m c.args.t (omega arith) (omega arith))
