@@ -11,9 +11,9 @@ loop-p-init c = reached_start c.args.x c.args.y c.requires.0 c.requires.1
 
 pub step-p-requires : goal.step-p-requires
 step-p-requires c = let k = common_is_power _ _ in (
-      (k.0, c.common_power-u.ensures ∙ k.1),
-      omega (arith, reached_before c.loop-p.invariant c.loop-p-test.true, steps_most c.args.x c.args.y c.requires.0 c.requires.1 c.requires.2),
-    )
+  (k.0, c.common_power-u.ensures ∙ k.1),
+  omega (arith, reached_before c.loop-p.invariant c.loop-p-test.true, steps_most c.args.x c.args.y c.requires.0 c.requires.1 c.requires.2),
+)
 
 pub loop-p-smaller : goal.loop-p-smaller
 loop-p-smaller c = reached_falls c.loop-p.invariant c.loop-p-test.true c.common_power-u.result c.step-p.ensures.0
