@@ -1,0 +1,44 @@
+-- The options of the set, and check 7.
+-- Assumes nothing.
+use native.Mathlib.Omega.{arith}
+use Rattle.options.specs.Posed.{SetGiven}
+use Rattle.options.proofs.Posing.{hyper_fits, some_words, tasks_given, sum_given, none_fits, posed}
+use Rattle.options.proofs.pose.Goals as goal
+
+pub put_tasks-requires : goal.put_tasks-requires
+put_tasks-requires c =
+    let given : SetGiven c.args.layout c.args.set.now c.args.rates c.args.tasks c.args.hyper = c.requires.0 in
+    (tasks_given given, c.requires.1)
+
+pub fastest_sum-fastest-requires : goal.fastest_sum-fastest-requires
+fastest_sum-fastest-requires c =
+    let given : SetGiven c.args.layout c.args.set.now c.args.rates c.args.tasks c.args.hyper = c.requires.0 in
+    sum_given given c.put_tasks.ensures
+
+pub returns-then-hyper-fastest : goal.returns-then-hyper-fastest
+returns-then-hyper-fastest c =
+    let given : SetGiven c.args.layout c.args.set.now c.args.rates c.args.tasks c.args.hyper = c.requires.0 in
+    record {
+      laid = c.put_tasks.ensures;
+      posed = none_fits given c.put_tasks.ensures c.fastest_sum-fastest.ensures c.if-hyper-fastest.true;
+    }
+
+pub overflow_cast-limit : goal.overflow_cast-limit
+overflow_cast-limit c =
+    let given : SetGiven c.args.layout c.args.set.now c.args.rates c.args.tasks c.args.hyper = c.requires.0 in
+    omega (arith, hyper_fits given)
+
+pub slack_of-requires : goal.slack_of-requires
+slack_of-requires c =
+    let given : SetGiven c.args.layout c.args.set.now c.args.rates c.args.tasks c.args.hyper = c.requires.0 in
+    some_words given
+
+pub returns : goal.returns
+returns c =
+    let given : SetGiven c.args.layout c.args.set.now c.args.rates c.args.tasks c.args.hyper = c.requires.0 in
+    record {
+      laid = c.put_tasks.ensures;
+      posed =
+          posed given c.put_tasks.ensures c.fastest_sum-fastest.ensures c.if-hyper-fastest.false
+          c.slack_of.ensures;
+    }
