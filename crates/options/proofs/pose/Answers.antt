@@ -7,17 +7,17 @@ use Rattle.options.proofs.pose.Goals as goal
 
 pub put_tasks-requires : goal.put_tasks-requires
 put_tasks-requires c =
-    let given : SetGiven c.args.layout c.args.set.now c.args.rates c.args.tasks c.args.hyper = c.requires.0 in
-    (tasks_given given, c.requires.1)
+    let given : SetGiven c.args.layout c.args.set.now c.args.rates c.args.tasks c.args.hyper = c.requires.set_given in
+    record { tasks_given = tasks_given given; laid_both = c.requires.laid_both }
 
 pub fastest_sum-fastest-requires : goal.fastest_sum-fastest-requires
 fastest_sum-fastest-requires c =
-    let given : SetGiven c.args.layout c.args.set.now c.args.rates c.args.tasks c.args.hyper = c.requires.0 in
+    let given : SetGiven c.args.layout c.args.set.now c.args.rates c.args.tasks c.args.hyper = c.requires.set_given in
     sum_given given c.put_tasks.ensures
 
 pub returns-then-hyper-fastest : goal.returns-then-hyper-fastest
 returns-then-hyper-fastest c =
-    let given : SetGiven c.args.layout c.args.set.now c.args.rates c.args.tasks c.args.hyper = c.requires.0 in
+    let given : SetGiven c.args.layout c.args.set.now c.args.rates c.args.tasks c.args.hyper = c.requires.set_given in
     record {
       laid = c.put_tasks.ensures;
       posed = none_fits given c.put_tasks.ensures c.fastest_sum-fastest.ensures c.if-hyper-fastest.true;
@@ -25,17 +25,17 @@ returns-then-hyper-fastest c =
 
 pub overflow_cast-limit : goal.overflow_cast-limit
 overflow_cast-limit c =
-    let given : SetGiven c.args.layout c.args.set.now c.args.rates c.args.tasks c.args.hyper = c.requires.0 in
+    let given : SetGiven c.args.layout c.args.set.now c.args.rates c.args.tasks c.args.hyper = c.requires.set_given in
     omega (arith, hyper_fits given)
 
 pub slack_of-requires : goal.slack_of-requires
 slack_of-requires c =
-    let given : SetGiven c.args.layout c.args.set.now c.args.rates c.args.tasks c.args.hyper = c.requires.0 in
+    let given : SetGiven c.args.layout c.args.set.now c.args.rates c.args.tasks c.args.hyper = c.requires.set_given in
     some_words given
 
 pub returns : goal.returns
 returns c =
-    let given : SetGiven c.args.layout c.args.set.now c.args.rates c.args.tasks c.args.hyper = c.requires.0 in
+    let given : SetGiven c.args.layout c.args.set.now c.args.rates c.args.tasks c.args.hyper = c.requires.set_given in
     record {
       laid = c.put_tasks.ensures;
       posed =

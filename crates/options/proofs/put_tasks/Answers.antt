@@ -6,10 +6,10 @@ use borrow.Author.Rules.{rules}
 use Rattle.options.proofs.put_tasks.Goals as goal
 
 pub loop-t-init : goal.loop-t-init
-loop-t-init c = (omega arith, c.requires.1)
+loop-t-init c = (omega arith, c.requires.laid_both)
 
 pub put_task-requires : goal.put_task-requires
-put_task-requires c = (c.requires.0.each c.loop-t.t (omega arith), c.loop-t.invariant.1)
+put_task-requires c = record { task_given = c.requires.tasks_given.each c.loop-t.t (omega arith); laid_both = c.loop-t.invariant.1 }
 
 pub loop-t-preserved : goal.loop-t-preserved
 loop-t-preserved c = (omega arith, c.put_task.ensures)
