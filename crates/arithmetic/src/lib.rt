@@ -39,7 +39,7 @@ fn is_even(u: u64, n: u64) -> bool
 }
 
 // A number, and the halvings and subtractions that were made to come to it.
-#[derive(Drop)]
+#[derive(Clone, Copy)]
 struct Counted {
     number: u64,
     steps: u32,
@@ -68,7 +68,7 @@ fn subtract(larger: u64, smaller: u64, made: u32) -> Counted
 }
 
 // Two numbers on the way to their greatest common divisor, and the halvings and subtractions made so far.
-#[derive(Drop)]
+#[derive(Clone, Copy)]
 struct Pair {
     a: u64,
     b: u64,
@@ -114,7 +114,7 @@ fn step(u: u64, p: Pair) -> Pair
 }
 
 // A greatest common divisor, and the halvings and subtractions that it took.
-#[derive(Drop)]
+#[derive(Clone, Copy)]
 pub struct Divisor {
     pub value: u64,
     pub steps: u32,
@@ -142,7 +142,7 @@ pub fn common_divisor(x: u64, y: u64) -> Divisor
 }
 
 // A power of two.
-#[derive(Drop)]
+#[derive(Clone, Copy)]
 pub struct Power {
     pub exponent: u32,
     pub value: u64,

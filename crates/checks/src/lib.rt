@@ -20,7 +20,7 @@ const HYPER_LIMIT: u64 = 10_000_000;
 
 // How far the running multiple was followed: the tasks before the first at which it passes the limit, and the multiple
 // of these.
-#[derive(Drop)]
+#[derive(Clone, Copy)]
 struct Multiple {
     tasks: usize,
     value: u64,

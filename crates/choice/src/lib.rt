@@ -15,7 +15,7 @@ use engine::{Choice, Request};
 use table::Frame;
 
 // The unit used, the columns of its table, and the least rounded energy of a plan that fits.
-#[derive(Drop)]
+#[derive(Clone, Copy)]
 struct Used {
     unit: u64,
     columns: usize,

@@ -10,7 +10,7 @@ ghost use Rattle.engine.specs.Arrays.{option_at, Written, cost_of, load_bound, S
 use arithmetic::Power;
 
 // What a plan is chosen for: so many tasks and rates, the limit of the plan's load, and the slack.
-#[derive(Drop)]
+#[derive(Clone, Copy)]
 pub struct Request {
     pub tasks: usize,
     pub rates: usize,
@@ -19,7 +19,7 @@ pub struct Request {
 }
 
 // What was chosen: the unit, and the plan's load and energy.
-#[derive(Drop)]
+#[derive(Clone, Copy)]
 pub struct Choice {
     pub unit: u64,
     pub load: u64,

@@ -21,14 +21,14 @@ pub const MOST_PLANS: usize = 1_000_000;
 const NO_COST: usize = 18_446_744_073_709_551_615;
 
 // A plan's load, and its cost: its rounded energy.
-#[derive(Drop)]
+#[derive(Clone, Copy)]
 struct Sums {
     load: u64,
     cost: usize,
 }
 
 // The best of the plans looked at so far: its cost, load and place in the order, counted from 0.
-#[derive(Drop)]
+#[derive(Clone, Copy)]
 struct Best {
     cost: usize,
     load: u64,
@@ -36,7 +36,7 @@ struct Best {
 }
 
 // The unit used, and the plan chosen by it.
-#[derive(Drop)]
+#[derive(Clone, Copy)]
 struct Used {
     unit: u64,
     best: Best,

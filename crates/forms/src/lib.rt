@@ -18,21 +18,21 @@ use layout::Layout;
 use scanner::{Class, Read};
 
 // The idle line: the number that it says, or that there is none.
-#[derive(Drop)]
+#[derive(Clone, Copy)]
 enum Idle {
     Given(u32),
     Absent,
 }
 
 // The lines of the head.
-#[derive(Drop)]
+#[derive(Clone, Copy)]
 struct Head {
     slack: u32,
     idle: Idle,
 }
 
 // What stands behind the head: so many rates, or a chip by its name.
-#[derive(Drop)]
+#[derive(Clone, Copy)]
 pub enum Clock {
     Rates(usize),
     Named(Chip),
@@ -40,32 +40,32 @@ pub enum Clock {
 
 // What reading the idle line gives, the head, a chip's name, and the line behind the head: it and the place after it, or
 // the offset at which the text departs.
-#[derive(Drop)]
+#[derive(Clone, Copy)]
 enum IdleRead {
     Got(Idle, usize),
     Bad(usize),
 }
 
-#[derive(Drop)]
+#[derive(Clone, Copy)]
 enum HeadRead {
     Got(Head, usize),
     Bad(usize),
 }
 
-#[derive(Drop)]
+#[derive(Clone, Copy)]
 enum ChipRead {
     Got(Chip, usize),
     Bad(usize),
 }
 
-#[derive(Drop)]
+#[derive(Clone, Copy)]
 enum ClockRead {
     Got(Clock, usize),
     Bad(usize),
 }
 
 // What a text says, beside its words in the list: the clock, and how many rates, tasks and words there are.
-#[derive(Drop)]
+#[derive(Clone, Copy)]
 pub struct Said {
     pub clock: Clock,
     pub rates: usize,
@@ -74,7 +74,7 @@ pub struct Said {
 }
 
 // What reading a set gives.
-#[derive(Drop)]
+#[derive(Clone, Copy)]
 pub enum SetRead {
     Got(Said, usize),
     Bad(usize),

@@ -16,7 +16,7 @@ use layout::Layout;
 use taskset::{CopyAnswer, Refusal};
 
 // What the checks answer: the words that a set needs, or a refusal.
-#[derive(Drop)]
+#[derive(Clone, Copy)]
 pub enum Room {
     Enough(usize),
     Refused(Refusal),
@@ -24,7 +24,7 @@ pub enum Room {
 
 // Figures that are put one behind the other, and count from 1: zeros, for the words of a layout that the rule of the
 // draws does not name; rates; or the energies that a draw gives.
-#[derive(Drop)]
+#[derive(Clone, Copy)]
 enum Figure {
     // In the head that is the idle energy; between a task's cycles and its energies its first release.
     Zero,

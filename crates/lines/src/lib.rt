@@ -79,7 +79,7 @@ fn add_walk(buf: &mut [u8], at: usize, busy: u64, idle: u64, preempted: u64) -> 
 }
 
 // The numbers of a plan's own line, and those of its walk's.
-#[derive(Drop)]
+#[derive(Clone, Copy)]
 pub struct PlanFigures {
     pub unit: u64,
     pub load: u64,
@@ -87,7 +87,7 @@ pub struct PlanFigures {
     pub energy: u64,
 }
 
-#[derive(Drop)]
+#[derive(Clone, Copy)]
 pub struct WalkFigures {
     pub busy: u64,
     pub idle: u64,

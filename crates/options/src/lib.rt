@@ -14,7 +14,7 @@ use layout::Layout;
 use taskset::PlannerAnswer;
 
 // What an engine is asked for a set: no plan fits, or a request.
-#[derive(Drop)]
+#[derive(Clone, Copy)]
 pub enum Posed {
     NoneFits,
     For(Request),

@@ -19,7 +19,7 @@ use options::Posed;
 use taskset::{Checked, Engine, PlannerAnswer, Refusal};
 
 // What the check that is an engine's own answers.
-#[derive(Drop)]
+#[derive(Clone, Copy)]
 enum Own {
     Passed,
     Failed(Refusal),

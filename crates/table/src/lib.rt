@@ -12,7 +12,7 @@ ghost use Rattle.table.specs.Rows.{Defined, RateReady, rate_of};
 
 // The size of a table: a row for no task and one more for each task, so many columns a row, and the rate numbers 1 to
 // `rates` of each task; and the cap of its loads.
-#[derive(Drop)]
+#[derive(Clone, Copy)]
 pub struct Frame {
     pub tasks: usize,
     pub rates: usize,

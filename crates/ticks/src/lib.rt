@@ -7,7 +7,7 @@ ghost use Rattle.schedule.specs.Counted.{count};
 ghost use Rattle.ticks.specs.Arrays.{Early, IsPick, Begun, TickReady, Ticked, RunReady, Says};
 
 // How a walk ends: kept, with its busy ticks, idle ticks and preemptions; or missed, at a tick by a task's number.
-#[derive(Drop)]
+#[derive(Clone, Copy)]
 pub enum WalkEnd {
     Kept(u64, u64, u64),
     Missed(u64, u64),
@@ -18,7 +18,7 @@ pub enum WalkEnd {
 // its job's deadline, which is its next release: before its first job that first release. The ticks left of the job that
 // runs are held in `rest`, and its entry in the list is written after the call: so a tick changes no list; and the
 // numbers stand between the two lists: so the compiler copies neither.
-#[derive(Drop)]
+#[derive(Clone, Copy)]
 struct State {
     left: [u32; 32],
     busy: u32,
@@ -31,7 +31,7 @@ struct State {
 }
 
 // The job that runs next: its place and its ticks left; n and 0 where all jobs are finished.
-#[derive(Drop)]
+#[derive(Clone, Copy)]
 struct Picked {
     place: usize,
     left: u32,

@@ -18,7 +18,7 @@ use taskset::{Checked, Refusal, WalkAnswer};
 use ticks::WalkEnd;
 
 // Check 8's answer: its second number, or that the plan is sound.
-#[derive(Drop)]
+#[derive(Clone, Copy)]
 enum PlanCheck {
     At(usize),
     Sound,
