@@ -20,12 +20,12 @@ overflow_add-i c = let g = c.requires in
 
 pub loop-r-preserved : goal.loop-r-preserved
 loop-r-preserved c = (
-      omega arith,
-      omega arith,
-      omega arith,
-      block_turn c.requires c.loop-r.r c.loop-r.invariant.0 (omega arith) c.loop-r.invariant.2 c.change.ensures
-          c.loop-r.invariant.3 c.look-best.ensures,
-    )
+  omega arith,
+  omega arith,
+  omega arith,
+  block_turn c.requires c.loop-r.r c.loop-r.invariant.0 (omega arith) c.loop-r.invariant.2 c.change.ensures
+      c.loop-r.invariant.3 c.look-best.ensures,
+)
 
 pub returns : goal.returns
 returns c = let e : c.loop-r.i ≡ c.args.rank + c.args.q.rates = omega arith in

@@ -11,16 +11,6 @@ use Rattle.exhaustive.proofs.Chosen.{best_least}
 use borrow.Author.Rules.{rules}
 use Rattle.exhaustive.proofs.find_unit.Goals as goal
 
-ready : (p : tie.After-least-power invariant-loop decreases-loop) (unit : Power)
-    → let a = (start p).args in
-    Tried (arrays a.q a.loads.now a.energies.now) a.q.slack p.least-power.result.exponent unit
-    → UnitReady a.q a.loads.now a.energies.now unit a.plans
-ready p unit w =
-    let g = (start p).requires in
-    let a = (start p).args in
-    let low = first_low a.q a.loads.now a.energies.now g.energies_fit g.asked.tasks w.is_first in
-    record { all = g; power = w.power; low = omega (arith, w.tried) }
-
 pub fastest_sum-requires : goal.fastest_sum-requires
 fastest_sum-requires c = (c.requires.asked.tasks, c.requires.asked.rates.1, as_loads c.args.energies.now c.requires.energies_fit)
 
@@ -31,7 +21,11 @@ pub best_at-best-requires : goal.best_at-best-requires
 best_at-best-requires c =
     let tried-first : let a = c.args in Tried (arrays a.q a.loads.now a.energies.now) a.q.slack c.least_power-unit.result.exponent c.least_power-unit.result = let a = c.args in
     tried_start a.q a.loads.now a.energies.now c.fastest_sum.ensures c.least_power-unit.ensures in
-    ready c c.least_power-unit.result tried-first
+    let ready : (unit : Power) → let a = c.args in Tried (arrays a.q a.loads.now a.energies.now) a.q.slack c.least_power-unit.result.exponent unit → UnitReady a.q a.loads.now a.energies.now unit a.plans = λ unit. λ w. let g = c.requires in
+    let a = c.args in
+    let low = first_low a.q a.loads.now a.energies.now g.energies_fit g.asked.tasks w.is_first in
+    record { all = g; power = w.power; low = omega (arith, w.tried) } in
+    ready c.least_power-unit.result tried-first
 
 pub loop-q-init : goal.loop-q-init
 loop-q-init c =
@@ -46,13 +40,13 @@ stops-requires c = let g = c.requires.asked in
 
 pub returns-then-stops : goal.returns-then-stops
 returns-then-stops c = record {
-      exponent = c.loop-q.unit.exponent;
-      unit_is = c.loop-q.invariant.0.power;
-      used =
-          tried_used c.loop-q.invariant.0 (best_least c.loop-q.invariant.1)
-          (stops_true _ _ _ (rw c.stops.ensures at c.if-stops.true));
-      best = c.loop-q.invariant.1;
-    }
+  exponent = c.loop-q.unit.exponent;
+  unit_is = c.loop-q.invariant.0.power;
+  used =
+      tried_used c.loop-q.invariant.0 (best_least c.loop-q.invariant.1)
+      (stops_true _ _ _ (rw c.stops.ensures at c.if-stops.true));
+  best = c.loop-q.invariant.1;
+}
 
 pub halved-unit-requires : goal.halved-unit-requires
 halved-unit-requires c =
@@ -61,10 +55,14 @@ halved-unit-requires c =
 
 pub best_at-best-requires-in-loop-q : goal.best_at-best-requires-in-loop-q
 best_at-best-requires-in-loop-q c =
+    let ready : (unit : Power) → let a = c.args in Tried (arrays a.q a.loads.now a.energies.now) a.q.slack c.least_power-unit.result.exponent unit → UnitReady a.q a.loads.now a.energies.now unit a.plans = λ unit. λ w. let g = c.requires in
+    let a = c.args in
+    let low = first_low a.q a.loads.now a.energies.now g.energies_fit g.asked.tasks w.is_first in
+    record { all = g; power = w.power; low = omega (arith, w.tried) } in
     let goes_on : (0 < c.loop-q.unit.exponent) × (c.args.q.slack * c.loop-q.best.cost < 2000 * c.args.q.tasks) = stops_false _ _ _ (rw c.stops.ensures at c.if-stops.false) in
     let halved-next : let a = c.args in Tried (arrays a.q a.loads.now a.energies.now) a.q.slack c.least_power-unit.result.exponent c.halved-unit.result = let on = goes_on in
     tried_turn c.loop-q.invariant.0 (best_least c.loop-q.invariant.1) on.0 on.1 c.halved-unit.ensures in
-    ready c c.halved-unit.result halved-next
+    ready c.halved-unit.result halved-next
 
 pub loop-q-smaller : goal.loop-q-smaller
 loop-q-smaller c =

@@ -54,10 +54,10 @@ overflow_add-whole-in-loop-t c = let g = c.requires in
 
 pub loop-t-preserved : goal.loop-t-preserved
 loop-t-preserved c = let few : c.loop-t.t < 32 = omega (arith, c.requires.tasks.1) in (
-      omega arith,
-      ones_turn c.args.loads.now c.loop-t.t few c.loop-t.invariant.1,
-      ones_turn c.args.cost.now c.loop-t.t few c.loop-t.invariant.2,
-    )
+  omega arith,
+  ones_turn c.args.loads.now c.loop-t.t few c.loop-t.invariant.1,
+  ones_turn c.args.cost.now c.loop-t.t few c.loop-t.invariant.2,
+)
 
 pub returns : goal.returns
 returns c = let e : c.loop-t.t ≡ c.args.q.tasks = omega (arith, c.loop-t.invariant.0) in

@@ -15,9 +15,9 @@ overflow_mul-plans c = omega (arith, mul-le-mul_left c.loop-t.plans c.requires.1
 
 pub loop-t-preserved : goal.loop-t-preserved
 loop-t-preserved c = (
-      omega arith,
-      c.counted-plans.ensures ∙ count_turn c.args.rates c.loop-t.t (suc most_plans) c.requires.0 c.loop-t.invariant.1,
-    )
+  omega arith,
+  c.counted-plans.ensures ∙ count_turn c.args.rates c.loop-t.t (suc most_plans) c.requires.0 c.loop-t.invariant.1,
+)
 
 pub returns : goal.returns
 returns c = c.loop-t.invariant.1 ∙ ap (λ (x : ℕ). min (c.args.rates ^ x) (suc most_plans)) (omega arith)
