@@ -1,6 +1,6 @@
 use Prim.Native.Nat.{◌≤◌, ◌-◌}
 use mathlib.Core.Path.{◌≡◌, sym, ◌∙◌}
-use mathlib.Core.Logic.{inl, inr, ⊎_elim}
+use mathlib.Core.Logic.{inl, inr}
 use native.Mathlib.Omega.{arith}
 use borrow.Author.Rules.{rules}
 use Rattle.schedule.specs.Counted.{left_at}
@@ -8,6 +8,7 @@ use Rattle.ticks.specs.Arrays.{jobs_from, blank, picked}
 use Rattle.ticks.proofs.Jobs.{left_jobs, none_left}
 use Rattle.ticks.proofs.Scan.{scanned, scanned-first, scanned-end, scanned-take, scanned_pass}
 use Rattle.ticks.proofs.pick.Goals as goal
+use Rattle.ticks.proofs.pick.Goals.{then-l-gt0+then-d-when, then-l-gt0+else-d-when, else-l-gt0}
 
 pub loop-i-init : goal.loop-i-init
 loop-i-init c = (omega arith, scanned-first _ _ _ _ c.requires.low, sym (none_left c.args.left.now c.args.due.now c.args.n))
@@ -16,34 +17,23 @@ pub loop-i-preserved : goal.loop-i-preserved
 loop-i-preserved c = let k = c.loop-i in
     let lt = c.loop-i-test.true in
     let v = k.invariant.1 in
-    ⊎_elim
-    (λ better.
-    let best-is = better.2 in
-    let had-is = better.3 in
-    let when-is = better.4 in (
-      omega arith,
-      rw (best-is, when-is) (sym (scanned-take _ _ _ k.best k.when k.i lt better.0.taken better.1.taken) ∙ v),
-      rw (best-is, had-is) (sym (left_jobs blank _ _ _ k.i lt)),
-    ))
-    (λ y. ⊎_elim
-    (λ later.
-    let best-is = later.2 in
-    let had-is = later.3 in
-    let when-is = later.4 in (
-      omega arith,
-      rw (best-is, when-is) (sym (scanned_pass _ _ _ k.best k.when k.i lt (inr later.1.left)) ∙ v),
-      rw (best-is, had-is) k.invariant.2,
-    ))
-    (λ finished.
-    let best-is = finished.1 in
-    let had-is = finished.2 in
-    let when-is = finished.3 in (
-      omega arith,
-      rw (best-is, when-is) (sym (scanned_pass _ _ _ k.best k.when k.i lt (inl finished.0.left)) ∙ v),
-      rw (best-is, had-is) k.invariant.2,
-    ))
-    y)
-    c.if-l-gt0.branch
+    elim c.if-l-gt0.branch [
+      | then-l-gt0+then-d-when w ↦ (
+        omega arith,
+        rw (w.best-is, w.when-is) (sym (scanned-take _ _ _ k.best k.when k.i lt w.if-l-gt0.true w.if-d-when.true) ∙ v),
+        rw (w.best-is, w.had-is) (sym (left_jobs blank _ _ _ k.i lt)),
+      )
+      | then-l-gt0+else-d-when w ↦ (
+        omega arith,
+        rw (w.best-is, w.when-is) (sym (scanned_pass _ _ _ k.best k.when k.i lt (inr w.if-d-when.false)) ∙ v),
+        rw (w.best-is, w.had-is) k.invariant.2,
+      )
+      | else-l-gt0 w ↦ (
+        omega arith,
+        rw (w.best-is, w.when-is) (sym (scanned_pass _ _ _ k.best k.when k.i lt (inl w.if-l-gt0.false)) ∙ v),
+        rw (w.best-is, w.had-is) k.invariant.2,
+      )
+    ]
 
 pub returns : goal.returns
 returns c = let v = c.loop-i.invariant in

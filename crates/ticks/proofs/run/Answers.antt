@@ -1,7 +1,6 @@
 use Prim.Native.Nat.{ℕ, ◌+◌, ◌-◌, ◌≤◌, ◌<◌}
 use mathlib.Core.Path.{◌≡◌, refl, sym, ap, ◌∙◌}
 use mathlib.Core.Bool.{false}
-use mathlib.Core.Logic.{⊎_elim}
 use native.Mathlib.Omega.{arith}
 use lib.ListN.{length, get_or}
 use lib.Seq.{get_or-set_other}
@@ -16,6 +15,43 @@ use Rattle.ticks.proofs.Stretches.{InStretch, made_fits, stretch_ready, stretch_
 use Rattle.ticks.proofs.Loops.{AtTick, AtTask, steady, first_tick, turns_come, turn_over, stretch_comes, next_tick}
 use borrow.Author.Rules.{rules}
 use Rattle.ticks.proofs.run.Goals as goal
+use Rattle.ticks.proofs.run.Goals.{else-ticks-test, then-ticks-test+then-loop-i-test+then-s-i+then-s-i-gt0, then-ticks-test+else-loop-i-test+then-t-end, then-s-i+else-s-i-gt0, else-s-i, then-job-gt0, else-job-gt0, Joined-job-gt0, Else-late-gt0}
+
+-- Where no task was late, the loop over the ticks was left at `end`, after all turns.
+record Over (k : ℕ → Task) (n end t : ℕ) (s : State) : Type 0 where
+  here : t ≡ end
+  on_time : misses (tasks_from k 0 n) t ≡ false
+  counts : Counted k n t s
+
+at_end : (c : Else-late-gt0) →
+    Over (task_at c.args.p.now c.args.c.now c.args.first.now) c.args.n c.args.end c.ticks.t c.ticks-test.s
+at_end c =
+    elim c.ticks-test.branch [
+      | else-ticks-test w ↦ absurd (omega (arith, c.ticks.invariant.reached, w.ticks-test.false))
+      | then-ticks-test+then-loop-i-test+then-s-i+then-s-i-gt0 w ↦ absurd (omega (arith, w.late-is, c.if-late-gt0.false))
+      | then-ticks-test+else-loop-i-test+then-t-end w ↦
+          let v = w.loop-i.invariant in
+          rw w.s-is
+          (record {
+            here = w.if-t-end.true;
+            on_time = (part_end (omega (arith, v.inside, w.loop-i-test.false)) v.part).on_time;
+            counts = v.counts;
+          })
+    ]
+
+-- After a call, and with the list written: the stretch goes on.
+goes_on : (c : Joined-job-gt0) →
+    (c.if-job-gt0.s.made ≤ c.loop-i.next - c.loop-t.t) × (0 < c.if-job-gt0.s.made) ×
+    InStretch c.args.n c.ticks.t c.loop-i.next (c.loop-t.t + c.if-job-gt0.s.made) c.loop-i.s c.if-job-gt0.s
+goes_on c =
+    let job = c.pick-job.result in
+    let w = c.tick-s.ensures in
+    let on = stretch_on c.loop-t.invariant c.loop-t-test.true w in
+    let made = made_fits (omega (arith, c.loop-t-test.true)) w in
+    elim c.if-job-gt0.branch [
+      | then-job-gt0 b ↦ rw b.s-is (made.1, made.0, rw (lt-ltb 0 job.left b.if-job-gt0.true) at on)
+      | else-job-gt0 b ↦ rw b.s-is (made.1, made.0, rw (le-ltb 0 job.left b.if-job-gt0.false) at on)
+    ]
 
 pub ticks-init : goal.ticks-init
 ticks-init c = first_tick c.requires c.new-s.ensures
@@ -36,21 +72,16 @@ loop-i-preserved c =
     let v = c.loop-i.invariant in
     let i = c.loop-i.i in
     let lt = c.loop-i-test.true in
-    ⊎_elim
-    (λ released.
-    let due-now = released.0.taken in
-    let none_left = released.2.left in
-    let state-is = released.5 in
-    rw state-is (turn_over v lt
-    (part_take lt v.part (omega (arith, v.early)) (omega (arith, v.early)) (steady c.requires i lt)
-    due-now (omega (arith, none_left)))
-    (counted_on v.counts _ _) (early_set _ _ _ i _ _ (omega (arith, v.early)) (deadline lt) v.early)
-    (λ j x. get_or-set_other c.loop-i.s.due i j _ 0 (λ e. absurd (omega arith))) (rw state-is at c.lesser-next.ensures)))
-    (λ passed.
-    let not-due = passed.0.left in
-    let state-is = passed.1 in
-    rw state-is (turn_over v lt (part_pass lt v.part not-due) v.counts v.early (λ j x. refl) (rw state-is at c.lesser-next.ensures)))
-    c.if-s-i.branch
+    elim c.if-s-i.branch [
+      | then-s-i+else-s-i-gt0 b ↦
+          rw b.s-is (turn_over v lt
+          (part_take lt v.part (omega (arith, v.early)) (omega (arith, v.early)) (steady c.requires i lt)
+          b.if-s-i.true (omega (arith, b.if-s-i-gt0.false)))
+          (counted_on v.counts _ _) (early_set _ _ _ i _ _ (omega (arith, v.early)) (deadline lt) v.early)
+          (λ j x. get_or-set_other c.loop-i.s.due i j _ 0 (λ e. absurd (omega arith))) (rw b.s-is at c.lesser-next.ensures))
+      | else-s-i b ↦
+          rw b.s-is (turn_over v lt (part_pass lt v.part b.if-s-i.false) v.counts v.early (λ j x. refl) (rw b.s-is at c.lesser-next.ensures))
+    ]
 
 pub loop-t-init : goal.loop-t-init
 loop-t-init c =
@@ -89,45 +120,15 @@ bounds-s-at c =
 
 pub overflow_add-t : goal.overflow_add-t
 overflow_add-t c =
-    let goes_on : (c.if-job-gt0.s.made ≤ c.loop-i.next - c.loop-t.t) × (0 < c.if-job-gt0.s.made) × InStretch c.args.n c.ticks.t c.loop-i.next (c.loop-t.t + c.if-job-gt0.s.made) c.loop-i.s c.if-job-gt0.s = let job = c.pick-job.result in
-    let w = c.tick-s.ensures in
-    let on = stretch_on c.loop-t.invariant c.loop-t-test.true w in
-    let made = made_fits (omega (arith, c.loop-t-test.true)) w in
-    ⊎_elim
-    (λ ran. let job-left = ran.0.taken in let state-is = ran.1 in
-    rw state-is (made.1, made.0, rw (lt-ltb 0 job.left job-left) at on))
-    (λ idle. let none_left = idle.0.left in let state-is = idle.1 in
-    rw state-is (made.1, made.0, rw (le-ltb 0 job.left none_left) at on))
-    c.if-job-gt0.branch in
-    omega (arith, goes_on.0, c.loop-t-test.true, c.loop-i.invariant.within, c.requires.ends)
+    omega (arith, (goes_on c).0, c.loop-t-test.true, c.loop-i.invariant.within, c.requires.ends)
 
 pub loop-t-smaller : goal.loop-t-smaller
 loop-t-smaller c =
-    let goes_on : (c.if-job-gt0.s.made ≤ c.loop-i.next - c.loop-t.t) × (0 < c.if-job-gt0.s.made) × InStretch c.args.n c.ticks.t c.loop-i.next (c.loop-t.t + c.if-job-gt0.s.made) c.loop-i.s c.if-job-gt0.s = let job = c.pick-job.result in
-    let w = c.tick-s.ensures in
-    let on = stretch_on c.loop-t.invariant c.loop-t-test.true w in
-    let made = made_fits (omega (arith, c.loop-t-test.true)) w in
-    ⊎_elim
-    (λ ran. let job-left = ran.0.taken in let state-is = ran.1 in
-    rw state-is (made.1, made.0, rw (lt-ltb 0 job.left job-left) at on))
-    (λ idle. let none_left = idle.0.left in let state-is = idle.1 in
-    rw state-is (made.1, made.0, rw (le-ltb 0 job.left none_left) at on))
-    c.if-job-gt0.branch in
-    omega (arith, goes_on.0, goes_on.1, c.loop-t-test.true)
+    omega (arith, (goes_on c).0, (goes_on c).1, c.loop-t-test.true)
 
 pub loop-t-preserved : goal.loop-t-preserved
 loop-t-preserved c =
-    let goes_on : (c.if-job-gt0.s.made ≤ c.loop-i.next - c.loop-t.t) × (0 < c.if-job-gt0.s.made) × InStretch c.args.n c.ticks.t c.loop-i.next (c.loop-t.t + c.if-job-gt0.s.made) c.loop-i.s c.if-job-gt0.s = let job = c.pick-job.result in
-    let w = c.tick-s.ensures in
-    let on = stretch_on c.loop-t.invariant c.loop-t-test.true w in
-    let made = made_fits (omega (arith, c.loop-t-test.true)) w in
-    ⊎_elim
-    (λ ran. let job-left = ran.0.taken in let state-is = ran.1 in
-    rw state-is (made.1, made.0, rw (lt-ltb 0 job.left job-left) at on))
-    (λ idle. let none_left = idle.0.left in let state-is = idle.1 in
-    rw state-is (made.1, made.0, rw (le-ltb 0 job.left none_left) at on))
-    c.if-job-gt0.branch in
-    goes_on.2
+    (goes_on c).2
 
 pub overflow_cast-result : goal.overflow_cast-result
 overflow_cast-result c =
@@ -136,91 +137,34 @@ overflow_cast-result c =
 
 pub returns-then-late-gt0 : goal.returns-then-late-gt0
 returns-then-late-gt0 c = let v = c.ticks.invariant in
-    ⊎_elim
-    (λ past_end. absurd (omega (arith, v.on_time)))
-    (λ y. ⊎_elim
-    (λ late.
-    let at = late.1 in
-    let in-turn = late.2.taken in
-    let due-now = late.4.taken in
-    let work-left = late.6.taken in
-    let number_is = late.8 in
-    let m = part_miss in-turn at.inv.part (steady c.requires at.i in-turn) due-now work-left in
-    sym v.rest ∙ walk_from_miss _ c.ticks.t (c.args.end - c.ticks.t) m.0 ∙ ap (missed c.ticks.t) (m.1 ∙ sym number_is))
-    (λ at-end. absurd (omega (arith, at-end.1.inv.on_time)))
-    y)
-    c.ticks-test.branch
+    elim c.ticks-test.branch [
+      | else-ticks-test w ↦ absurd (omega (arith, v.on_time, w.ticks-test.false))
+      | then-ticks-test+then-loop-i-test+then-s-i+then-s-i-gt0 w ↦
+          let here = w.loop-i in
+          let lt = w.loop-i-test.true in
+          let m = part_miss lt here.invariant.part (steady c.requires here.i lt) w.if-s-i.true w.if-s-i-gt0.true in
+          sym v.rest ∙ walk_from_miss _ c.ticks.t (c.args.end - c.ticks.t) m.0 ∙ ap (missed c.ticks.t) (m.1 ∙ sym w.late-is)
+      | then-ticks-test+else-loop-i-test+then-t-end w ↦ absurd (omega (arith, w.loop-i.invariant.on_time))
+    ]
 
 pub overflow_cast-result-2 : goal.overflow_cast-result-2
 overflow_cast-result-2 c =
-    let tasks : ℕ → Task = task_at c.args.p.now c.args.c.now c.args.first.now in
     let small : c.ticks.t ≤ 200000000 = omega (arith, c.ticks.invariant.reached, c.requires.ends) in
-    let at-end : Over tasks c.args.n c.args.end c.ticks.t c.ticks-test.s = ⊎_elim
-    (λ past_end. let past = past_end.0.left in absurd (omega (arith, c.ticks.invariant.reached, past)))
-    (λ y. ⊎_elim
-    (λ late. let number_is = late.8 in absurd (omega (arith, number_is, c.if-late-gt0.false)))
-    (λ ended.
-    let v = ended.1.inv in
-    let all-turns = ended.2.left in
-    let here = ended.3.taken in
-    let state-is = ended.4 in
-    rw state-is (record { here = here; on_time = (part_end (omega (arith, v.inside, all-turns)) v.part).on_time; counts = v.counts }))
-    y)
-    c.ticks-test.branch in
-    omega (arith, small, (counted_fit at-end.counts).busy)
+    omega (arith, small, (counted_fit (at_end c).counts).busy)
 
 pub overflow_cast-result-3 : goal.overflow_cast-result-3
 overflow_cast-result-3 c =
-    let tasks : ℕ → Task = task_at c.args.p.now c.args.c.now c.args.first.now in
     let small : c.ticks.t ≤ 200000000 = omega (arith, c.ticks.invariant.reached, c.requires.ends) in
-    let at-end : Over tasks c.args.n c.args.end c.ticks.t c.ticks-test.s = ⊎_elim
-    (λ past_end. let past = past_end.0.left in absurd (omega (arith, c.ticks.invariant.reached, past)))
-    (λ y. ⊎_elim
-    (λ late. let number_is = late.8 in absurd (omega (arith, number_is, c.if-late-gt0.false)))
-    (λ ended.
-    let v = ended.1.inv in
-    let all-turns = ended.2.left in
-    let here = ended.3.taken in
-    let state-is = ended.4 in
-    rw state-is (record { here = here; on_time = (part_end (omega (arith, v.inside, all-turns)) v.part).on_time; counts = v.counts }))
-    y)
-    c.ticks-test.branch in
-    omega (arith, small, (counted_fit at-end.counts).idle)
+    omega (arith, small, (counted_fit (at_end c).counts).idle)
 
 pub overflow_cast-result-4 : goal.overflow_cast-result-4
 overflow_cast-result-4 c =
-    let tasks : ℕ → Task = task_at c.args.p.now c.args.c.now c.args.first.now in
     let small : c.ticks.t ≤ 200000000 = omega (arith, c.ticks.invariant.reached, c.requires.ends) in
-    let at-end : Over tasks c.args.n c.args.end c.ticks.t c.ticks-test.s = ⊎_elim
-    (λ past_end. let past = past_end.0.left in absurd (omega (arith, c.ticks.invariant.reached, past)))
-    (λ y. ⊎_elim
-    (λ late. let number_is = late.8 in absurd (omega (arith, number_is, c.if-late-gt0.false)))
-    (λ ended.
-    let v = ended.1.inv in
-    let all-turns = ended.2.left in
-    let here = ended.3.taken in
-    let state-is = ended.4 in
-    rw state-is (record { here = here; on_time = (part_end (omega (arith, v.inside, all-turns)) v.part).on_time; counts = v.counts }))
-    y)
-    c.ticks-test.branch in
-    omega (arith, small, (counted_fit at-end.counts).preempted)
+    omega (arith, small, (counted_fit (at_end c).counts).preempted)
 
 pub returns : goal.returns
 returns c =
-    let tasks : ℕ → Task = task_at c.args.p.now c.args.c.now c.args.first.now in
-    let at-end : Over tasks c.args.n c.args.end c.ticks.t c.ticks-test.s = ⊎_elim
-    (λ past_end. let past = past_end.0.left in absurd (omega (arith, c.ticks.invariant.reached, past)))
-    (λ y. ⊎_elim
-    (λ late. let number_is = late.8 in absurd (omega (arith, number_is, c.if-late-gt0.false)))
-    (λ ended.
-    let v = ended.1.inv in
-    let all-turns = ended.2.left in
-    let here = ended.3.taken in
-    let state-is = ended.4 in
-    rw state-is (record { here = here; on_time = (part_end (omega (arith, v.inside, all-turns)) v.part).on_time; counts = v.counts }))
-    y)
-    c.ticks-test.branch in
-    let o = at-end in
+    let o = at_end c in
     let z : c.args.end - c.ticks.t ≡ 0 = omega (arith, o.here) in
     rw (o.counts.busy, o.counts.idle, o.counts.preempted)
     (sym c.ticks.invariant.rest ∙ ap (walk_from _ c.ticks.t) z ∙ walk_from_kept _ c.ticks.t o.on_time)
