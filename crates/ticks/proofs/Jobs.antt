@@ -1,7 +1,7 @@
 -- The jobs that the arrays hold.
 -- Assumes nothing.
 use Prim.Native.Nat.{ℕ, zero, suc, ◌+◌, ◌-◌, ◌≤◌, ◌<◌}
-use mathlib.Core.Path.{◌≡◌, refl, sym, ap, ◌∙◌}
+use mathlib.Core.Path.{◌≡◌, refl, sym, ap, ◌∙◌, subst}
 use mathlib.Core.List.{List}
 use mathlib.Core.Logic.{⊎_elim}
 use native.Mathlib.Omega.{arith}
@@ -58,7 +58,7 @@ work_from : (k : ℕ → Task) (l d : List ℕ) (v b i n : ℕ) → b < n → i 
     jobs_from k (set l (i + b) (get_or l (i + b) 0 - v)) d i n ≡ work_for v (jobs_from k l d i n) b
 work_from k l d v b i zero h q = absurd (omega arith)
 work_from k l d v zero i (suc n) h q =
-    rw (add-zero i)
+    subst (λ (p : ℕ). jobs_from k (set l p (get_or l p 0 - v)) d i (suc n) ≡ work_for v (jobs_from k l d i (suc n)) zero) (sym (add-zero i))
     (let e = get_or-set_same l i (get_or l i 0 - v) 0 (omega arith) in
     rw (
       e,
@@ -66,8 +66,8 @@ work_from k l d v zero i (suc n) h q =
           (λ j a c. (get_or-set_other l i j (get_or l i 0 - v) 0 (λ z. absurd (omega arith)), refl)),
     ) refl)
 work_from k l d v (suc b) i (suc n) h q =
-    let e : i + suc b ≡ suc i + b = omega arith in
-    rw e
+    let e : suc i + b ≡ i + suc b = omega arith in
+    subst (λ (p : ℕ). jobs_from k (set l p (get_or l p 0 - v)) d i (suc n) ≡ work_for v (jobs_from k l d i (suc n)) (suc b)) e
     (let w = get_or l (suc i + b) 0 - v in
     rw (get_or-set_other l (suc i + b) i w 0 (λ z. absurd (omega arith)), work_from k l d v b (suc i) n (omega arith) (omega arith)) refl)
 

@@ -1,0 +1,6 @@
+use Rattle.choice.proofs.Trying.{unit_tabled}
+use borrow.Author.Rules.{rules}
+use Rattle.choice.proofs.least_energy.Goals as goal
+
+pub returns : goal.returns
+returns c = unit_tabled c.requires c.round_up.ensures c.table.ensures c.least_column.ensures

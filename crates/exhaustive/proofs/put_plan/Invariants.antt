@@ -1,0 +1,15 @@
+-- The rank's digits, from the lowest up.
+-- Assumes nothing.
+use Prim.Native.Nat.{◌-◌, ◌%◌, ◌<◌}
+use mathlib.Core.Path.{refl}
+use native.Mathlib.Nat.{mod-lt}
+use native.Mathlib.Omega.{arith}
+use Rattle.exhaustive.proofs.Counting.{Put, put_start, put_turn, put_end}
+use borrow.Author.Rules.{rules}
+use Rattle.exhaustive.proofs.put_plan.Given as goal
+
+abbrev pub invariant-loop-t : goal.invariant-loop-t
+invariant-loop-t l = Put l.rates l.tasks l.rank l.initial.plan l.plan l.left l.t
+
+abbrev pub decreases-loop-t : goal.decreases-loop-t
+decreases-loop-t l = l.tasks - l.t
