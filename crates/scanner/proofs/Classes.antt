@@ -10,15 +10,12 @@ use lib.ListN.{length, get_or, drop, drop_of_length-le}
 use lib.Seq.{drop-cons}
 use lib.Dec.{eqb}
 use borrow.Author.Tests.{ne_eqb}
-use types.Run.{OneOf, miss}
-use denote.Enum.Declared.{tag_of}
 use Rattle.numbers.proofs.Tests.{lt_or_le, between_true}
 use Rattle.text.specs.Reading.{within, starts}
 use Rattle.text.proofs.Digits.{NoDigit}
 use Rattle.scanner.specs.Steps.{Outside, Stands}
 use Rattle.scanner.specs.declared.Class.{Class}
 use Rattle.scanner.specs.declared.Class.TheVariants.{End, Digit, Bracket, Space, LineEnd, Letter, Other}
-use Rattle.scanner.specs.contracts.Class as enum
 
 outside : (low high b : ℕ) → Outside low high b → within low high b ≡ false
 outside low high b h = go (within low high b) refl
@@ -46,39 +43,38 @@ module _ (s : List ℕ) (i : ℕ) where
   there c b l e = rw (drop-cons s i 0 l, e)
 
   -- What the arm of a match on a class tells that stands for every class but one.
-  pub not_digit : (r : Class) → Stands r s i → OneOf (0 ∷ 2 ∷ 3 ∷ 4 ∷ 5 ∷ 6 ∷ []) (tag_of enum.the_type r) → Clear 48 57
+  pub not_digit : (r : Class) → Stands r s i → ((x : ℕ) → r ≡ Digit x → ⊥) → Clear 48 57
   not_digit End e h l a b = omega arith
-  not_digit (Digit d) e h l a b = absurd (miss (0 ∷ 2 ∷ 3 ∷ 4 ∷ 5 ∷ 6 ∷ []) 1 tt h)
+  not_digit (Digit d) e h l a b = absurd (h d refl)
   not_digit (Bracket x) e h l a b = omega arith
   not_digit Space e h l a b = omega arith
   not_digit LineEnd e h l a b = omega arith
   not_digit (Letter x) e h l a b = omega arith
   not_digit Other e h l a b = e.no_digit a b
 
-  pub not_space : (r : Class) → Stands r s i → OneOf (0 ∷ 1 ∷ 2 ∷ 4 ∷ 5 ∷ 6 ∷ []) (tag_of enum.the_type r) → Clear 32 32
+  pub not_space : (r : Class) → Stands r s i → (r ≡ Space → ⊥) → Clear 32 32
   not_space End e h l a b = omega arith
   not_space (Digit d) e h l a b = omega arith
   not_space (Bracket x) e h l a b = omega arith
-  not_space Space e h l a b = absurd (miss (0 ∷ 1 ∷ 2 ∷ 4 ∷ 5 ∷ 6 ∷ []) 3 tt h)
+  not_space Space e h l a b = absurd (h refl)
   not_space LineEnd e h l a b = omega arith
   not_space (Letter x) e h l a b = omega arith
   not_space Other e h l a b = e.no_space a b
 
-  pub not_bracket : (r : Class) → Stands r s i → OneOf (0 ∷ 1 ∷ 3 ∷ 4 ∷ 5 ∷ 6 ∷ []) (tag_of enum.the_type r) → Clear 40 40
+  pub not_bracket : (r : Class) → Stands r s i → ((x : ℕ) → r ≡ Bracket x → ⊥) → Clear 40 40
   not_bracket End e h l a b = omega arith
   not_bracket (Digit d) e h l a b = omega arith
-  not_bracket (Bracket x) e h l a b = absurd (miss (0 ∷ 1 ∷ 3 ∷ 4 ∷ 5 ∷ 6 ∷ []) 2 tt h)
+  not_bracket (Bracket x) e h l a b = absurd (h x refl)
   not_bracket Space e h l a b = omega arith
   not_bracket LineEnd e h l a b = omega arith
   not_bracket (Letter x) e h l a b = omega arith
   not_bracket Other e h l a b = e.no_bracket a (omega arith)
 
-  pub not_letter : (c : ℕ) → 97 ≤ c → c ≤ 122 → (r : Class) → Stands r s i → OneOf (0 ∷ 1 ∷ 2 ∷ 3 ∷ 4 ∷ 6 ∷ [])
-      (tag_of enum.the_type r) → Clear c c
+  pub not_letter : (c : ℕ) → 97 ≤ c → c ≤ 122 → (r : Class) → Stands r s i → ((x : ℕ) → r ≡ Letter x → ⊥) → Clear c c
   not_letter c x y End e h l a b = omega arith
   not_letter c x y (Digit d) e h l a b = omega arith
   not_letter c x y (Bracket z) e h l a b = omega arith
   not_letter c x y Space e h l a b = omega arith
   not_letter c x y LineEnd e h l a b = omega arith
-  not_letter c x y (Letter z) e h l a b = absurd (miss (0 ∷ 1 ∷ 2 ∷ 3 ∷ 4 ∷ 6 ∷ []) 5 tt h)
+  not_letter c x y (Letter z) e h l a b = absurd (h z refl)
   not_letter c x y Other e h l a b = e.no_letter (omega arith) (omega arith)

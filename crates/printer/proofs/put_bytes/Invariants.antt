@@ -1,0 +1,18 @@
+-- Copies a fixed string. The loop's invariant: the first `i` bytes are in place.
+-- Assumes nothing.
+use Prim.Native.Nat.{ℕ, ◌≤◌, ◌<◌, ◌-◌}
+use mathlib.Core.List.{List}
+use mathlib.Core.Path.{◌≡◌, refl, ap, ◌∙◌}
+use native.Mathlib.Omega.{arith}
+use native.Mathlib.Numerals.{add-one}
+use lib.ListN.{length, get_or, set, take, length-set}
+use lib.Seq.{length-take-le, take-suc, take-length}
+use Rattle.lists.specs.Writing.{placed}
+use Rattle.lists.proofs.Writing.{placed-none, placed_one}
+use Rattle.printer.proofs.put_bytes.Given as goal
+
+abbrev pub invariant-loop-i : goal.invariant-loop-i
+invariant-loop-i l = (l.i ≤ length l.l) × (length l.buf ≡ length l.initial.buf) × (l.buf ≡ placed (take l.i l.l) l.initial.buf)
+
+abbrev pub decreases-loop-i : goal.decreases-loop-i
+decreases-loop-i l = length l.l - l.i

@@ -1,0 +1,20 @@
+-- A fixed string with room for it. The invariant: the string stands there if the bytes passed agree, and what is left of
+-- it stands behind them.
+-- Assumes nothing.
+use Prim.Native.Nat.{◌+◌, ◌-◌}
+use mathlib.Core.Path.{◌≡◌, sym, ap, ◌∙◌}
+use mathlib.Core.Bool.{Bool, false, cond}
+use native.Mathlib.Omega.{arith}
+use native.Mathlib.Nat.{add-zero, add_assoc}
+use lib.ListN.{length, drop}
+use Rattle.scanner.specs.Steps.{taken}
+use Rattle.text.specs.Reading.{literal, read_at}
+use Rattle.scanner.proofs.Places.{literal_done}
+use Rattle.scanner.proofs.Strings.{one_more, cond_self}
+use Rattle.scanner.proofs.agrees.Given as goal
+
+abbrev pub invariant-loop-j : goal.invariant-loop-j
+invariant-loop-j l = taken (read_at (literal l.l) l.s l.at) ≡ cond l.same (taken (read_at (literal (drop l.j l.l)) l.s (l.at + l.j))) false
+
+abbrev pub decreases-loop-j : goal.decreases-loop-j
+decreases-loop-j l = length l.l - l.j

@@ -1,0 +1,20 @@
+-- The digits after the first. The invariant: the digits from the place in hand on, after the value so far, give the
+-- whole answer.
+-- Assumes nothing.
+use Prim.Native.Nat.{◌-◌, ◌<◌, ◌^◌}
+use mathlib.Core.Path.{◌≡◌, refl, sym, ◌∙◌}
+use native.Mathlib.Omega.{arith}
+use borrow.Author.Rules.{rules}
+use lib.ListN.{length}
+use Rattle.text.specs.Reading.{more, read_at}
+use Rattle.scanner.specs.Steps.{Stands}
+use Rattle.scanner.specs.declared.Class.TheVariants.{Digit}
+use Rattle.scanner.proofs.Classes.{no_digit, not_digit}
+use Rattle.scanner.proofs.Places as laws
+use Rattle.scanner.proofs.more.Given as goal
+
+abbrev pub invariant-loop-d : goal.invariant-loop-d
+invariant-loop-d l = (l.v < 2 ^ 32) × (read_at (more l.first) l.s l.at ≡ read_at (more l.v) l.s l.i)
+
+abbrev pub decreases-loop-d : goal.decreases-loop-d
+decreases-loop-d l = length l.s - l.i
