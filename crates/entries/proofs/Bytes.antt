@@ -11,6 +11,11 @@ use lib.Seq.{take-suc-set, drop-set-lt, take-append_seam, drop-append-add, drop-
 use Rattle.entries.specs.Entry.{bytes_of, result_bytes, value_of, result_at}
 use Rattle.entries.specs.Put.{placed, Placed, Four}
 
+-- "lowest byte first": 258 is 2 and 1 × 256.
+lowest_first : result_bytes (258 ∷ []) ≡ 2 ∷ 1 ∷ 0 ∷ 0 ∷ 0 ∷ 0 ∷ 0 ∷ 0 ∷ []
+unfolding bytes_of result_bytes
+lowest_first = refl
+
 pub length-bytes : (k v : ℕ) → length (bytes_of k v) ≡ k
 unfolding bytes_of
 length-bytes zero v = refl
