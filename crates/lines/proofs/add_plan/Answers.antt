@@ -1,0 +1,34 @@
+-- The plan's line: each part goes behind those before it.
+-- Assumes nothing.
+use native.Mathlib.Omega.{arith}
+use lib.ListN.{length-append}
+use Rattle.printer.proofs.Puts.{then}
+use Rattle.lines.specs.Lines.{plan_line}
+use borrow.Author.Rules.{rules}
+use Rattle.lines.proofs.add_plan.Goals as goal
+
+-- The line that they make. It stands before what the calls ask, so that a part in a wrong place is refused here.
+pub returns : goal.returns
+unfolding plan_line
+returns c = then c.add_field-a.ensures
+    (then c.add_field-b.ensures (then c.add_field-c.ensures (then c.add_field-d.ensures c.add_bytes.ensures)))
+
+pub add_field-a-requires : goal.add_field-a-requires
+unfolding plan_line
+add_field-a-requires c = omega (arith, simp length-append at c.requires)
+
+pub add_field-b-requires : goal.add_field-b-requires
+unfolding plan_line
+add_field-b-requires c = omega (arith, simp length-append at c.requires)
+
+pub add_field-c-requires : goal.add_field-c-requires
+unfolding plan_line
+add_field-c-requires c = omega (arith, simp length-append at c.requires)
+
+pub add_field-d-requires : goal.add_field-d-requires
+unfolding plan_line
+add_field-d-requires c = omega (arith, simp length-append at c.requires)
+
+pub add_bytes-requires : goal.add_bytes-requires
+unfolding plan_line
+add_bytes-requires c = omega (arith, simp length-append at c.requires)
