@@ -24,11 +24,18 @@ while IFS= read -r line; do
     said[${BASH_REMATCH[1]}]=${BASH_REMATCH[2]}
 done <"$1"
 
-# function_at CRATE FILE LINE: the function of the crate's source that the line is in. An edit puts one line for one, so
-# that the lines of its text are those of the file as it stands.
+# function_at CRATE FILE LINE: the function of the crate's source that the line is in, or that it is an attribute of. An
+# edit puts one line for one, so that the lines of its text are those of the file as it stands.
 function_at() {
-    [ -f "crates/$1/$2" ] && head -n "$3" "crates/$1/$2" | sed -n 's/^\([^/]*[ \t]\)\{0,1\}fn \([A-Za-z0-9_]*\).*/\2/p' |
-        tail -n 1
+    [ -f "crates/$1/$2" ] && awk -v at="$3" '
+        FNR == at && /^[ \t]*#\[/ { ahead = 1 }
+        !/^[ \t]*\/\// && match($0, /(^|[ \t])fn [A-Za-z0-9_]+/) {
+            name = substr($0, RSTART, RLENGTH)
+            sub(/.* /, "", name)
+            if (ahead) exit
+        }
+        FNR >= at && !ahead { exit }
+        END { print name }' "crates/$1/$2"
 }
 
 # is_named NAME CRATE TOLD: whether that is the name of what fails, by what rt has told of it: 160 characters at most, so
