@@ -6,10 +6,15 @@ use mathlib.Core.List.{List, [], ◌∷◌, ◌++◌, append_assoc, append-nil}
 use native.Mathlib.Nat.{add-zero, pow-succ', div-lt_iff_lt-mul}
 use native.Mathlib.Numerals.{add-one}
 use native.Mathlib.Omega.{arith}
-use lib.ListN.{length, get_or, take, drop, set, length-append, length-take, length-drop, take-append-drop}
+use lib.ListN.{length, get_or, take, drop, set, length-append, take-append-drop}
 use lib.Seq.{take-suc-set, drop-set-lt, take-append_seam, drop-append-add, drop-drop, take_at}
 use Rattle.entries.specs.Entry.{bytes_of, result_bytes, value_of, result_at}
 use Rattle.entries.specs.Put.{placed, Placed, Four}
+
+-- "lowest byte first": 258 is 2 and 1 × 256.
+lowest_first : result_bytes (258 ∷ []) ≡ 2 ∷ 1 ∷ 0 ∷ 0 ∷ 0 ∷ 0 ∷ 0 ∷ 0 ∷ []
+unfolding bytes_of result_bytes
+lowest_first = refl
 
 pub length-bytes : (k v : ℕ) → length (bytes_of k v) ≡ k
 unfolding bytes_of

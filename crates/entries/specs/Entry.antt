@@ -28,10 +28,6 @@ unfoldable pub result_bytes : List ℕ → List ℕ
 result_bytes [] = []
 result_bytes (v ∷ vs) = bytes_of 8 v ++ result_bytes vs
 
-lowest_first : result_bytes (258 ∷ []) ≡ 2 ∷ 1 ∷ 0 ∷ 0 ∷ 0 ∷ 0 ∷ 0 ∷ 0 ∷ []
-unfolding bytes_of result_bytes
-lowest_first = refl
-
 -- The value that bytes stand for, lowest first; the value at place k of a list of results.
 unfoldable pub value_of : List ℕ → ℕ
 value_of [] = 0

@@ -10,3 +10,4 @@ pub mod Overload
 pub mod Finite
 pub mod Stretch
 pub mod Alike
+pub mod Accounts

@@ -22,7 +22,7 @@ use Rattle.taskset.specs.declared.Checked.TheVariants.{Good, Refused as NotGood}
 use Rattle.taskset.specs.declared.WalkAnswer.{WalkAnswer}
 use Rattle.ticks.specs.declared.WalkEnd.{WalkEnd}
 use Rattle.ticks.specs.declared.WalkEnd.TheVariants.{Kept as EndsKept, Missed as EndsMissed}
-use Rattle.taskset.specs.declared.WalkAnswer.TheVariants.{Kept, Missed, Refused as NotWalked}
+use Rattle.taskset.specs.declared.WalkAnswer.TheVariants.{Refused as NotWalked}
 use Rattle.taskset.proofs.Checks.{accepts_next, refuses_next, refuses_before, passed}
 use Rattle.layout.proofs.Layouts.{head_few, extra_few, task-words}
 use Rattle.layout.proofs.Whole.{in_list, first_in}

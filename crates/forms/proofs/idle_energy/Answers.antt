@@ -1,0 +1,7 @@
+-- The line says it, or the clock.
+-- Assumes nothing.
+use borrow.Author.Rules.{rules}
+use Rattle.forms.proofs.idle_energy.Goals as goal
+
+pub returns-in-Named : goal.returns-in-Named
+returns-in-Named c = rw (c.in-Absent.is, c.in-Named.is) c.idle.ensures

@@ -1,0 +1,21 @@
+-- The idle line, where there is idle energy.
+-- Assumes nothing.
+use mathlib.Core.Path.{◌≡◌, ap}
+use native.Mathlib.Omega.{arith}
+use lib.ListN.{length}
+use Rattle.text.specs.Text.{bytes, shown, script_of}
+use Rattle.printer.proofs.Puts.{front}
+use Rattle.writer.specs.Lines.{optional_text, idle_line}
+use Rattle.writer.proofs.Lists.{idle_same}
+use borrow.Author.Rules.{rules}
+use Rattle.writer.proofs.put_idle.Goals as goal
+
+pub add_shown-requires : goal.add_shown-requires
+add_shown-requires c =
+    let same : optional_text (bytes "(idle ") (bytes ")\n") (shown c.idle_of-idle.result) ≡ idle_line (script_of c.args.w.now).idle = idle_same _ c.idle_of-idle.ensures in
+    omega (arith, ap length same, c.requires.1)
+
+pub returns : goal.returns
+returns c =
+    let same : optional_text (bytes "(idle ") (bytes ")\n") (shown c.idle_of-idle.result) ≡ idle_line (script_of c.args.w.now).idle = idle_same _ c.idle_of-idle.ensures in
+    rw (← same) (front c.add_shown.ensures)

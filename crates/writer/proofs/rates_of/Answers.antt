@@ -1,0 +1,15 @@
+-- The rates stand between their count and the task count.
+-- Assumes nothing.
+use native.Mathlib.Omega.{arith}
+use Rattle.writer.proofs.Lists.{rates_few, rates_inside, rates_are}
+use borrow.Author.Rules.{rules}
+use Rattle.writer.proofs.rates_of.Goals as goal
+
+pub task_count_place-end-requires : goal.task_count_place-end-requires
+task_count_place-end-requires c = omega (arith, rates_few c.requires)
+
+pub slice_bounds-result-end : goal.slice_bounds-result-end
+slice_bounds-result-end c = omega (arith, rates_inside c.requires)
+
+pub returns : goal.returns
+returns c = rates_are c.requires _ _ c.rate_place-start.ensures c.task_count_place-end.ensures
