@@ -1,8 +1,9 @@
 #!/usr/bin/env bash
 # Tries every bench: builds it and runs it by --once, in which all that is compared before timing is compared and no
 # time is judged: bash bench/check.sh
-# What each run prints stays in target/bench/once. One that takes over five minutes is ended, and has failed. Where
-# python3 or glpsol is missing, the runs that need it are left out, and it says so.
+# What each run prints stays in target/bench/once. One that takes over five minutes is ended, and has failed; what it
+# links with is built before, and takes the time that proving takes. Where python3 or glpsol is missing, the runs that
+# need it are left out, and it says so.
 set -u
 . -- "$(dirname -- "$0")/../scripts/root.sh" || exit 1
 
@@ -15,6 +16,22 @@ mkdir -p "$out" || exit 1
 runs=0
 left=0
 failures=0
+
+# ---- the archives
+build_archive || exit 1
+for entries in bench/*/entries.txt; do
+    name=${entries#*/}
+    name=${name%/*}
+    # (as a condition it would not end at the first thing that fails)
+    (set -e; build_entries "$name") >"$out/$name-entries" 2>&1
+    if [ $? -ne 0 ]; then
+        echo "bench: the entries of $name are not built; the last of what rt said, which is in $out/$name-entries:" >&2
+        tail -n 8 "$out/$name-entries" >&2
+        failures=$((failures + 1))
+    fi
+done
+
+# ---- the runs
 
 # try NAME [OPTION]: runs a bench, with an option of its own.
 try() {

@@ -13,31 +13,37 @@ need() {
     fi
 }
 
-# build_entries PLACE FOLDER CRATE DEP..: builds an archive of entries that the product's has not, for one benchmark,
-# unless it is up to date, and sets `archive` to where it is. A copy of the crates in PLACE/tree gets CRATE, made of
-# FOLDER and building on each DEP. FOLDER's files end in .in, since rt refuses Rattle files that no crate of the
-# repository has. What is proved already is taken over, not proved again.
+# build_entries NAME: builds an archive of entries that the product's has not, for the benchmark of that name, unless it
+# is up to date, and sets `archive` to where it is. bench/NAME/entries.txt is its line of crates.txt, and
+# bench/NAME/entries its crate; those files end in .in, since rt refuses Rattle files that no crate of the repository
+# has. So it is built outside the repository too, in a copy of the crates. What it builds on is proved here, and taken
+# over there, not proved again.
 build_entries() {
-    local place=$1 tree=$1/tree folder=$2 crate=$3 file
-    shift 3
-    archive=$tree/target/staticlib/lib$crate.a
-    ! up_to_date "$archive" crates crates.txt bench/common.sh "${folder%/*}/run.sh" "$folder" || return 0
-    touch "$place/began"
+    local name=$1 line crate uses used tree part file
+    line=$(cat "bench/$name/entries.txt")
+    crate=${line%% *} uses=${line#*:}
+    archive=target/bench/$name/lib$crate.a
+    ! is_built "$archive" bench/common.sh "bench/$name/entries.txt" "bench/$name/entries" || return 0
     need rt "the command of the Rattle kit, which builds the archive"
-    rt check "$@"
-    rm -rf "$tree"
-    mkdir -p "$tree/target"
-    cp -R crates crates.txt "$tree"
-    cp -R target/rlib target/stamp "$tree/target"
-    cp -R "$folder" "$tree/crates/$crate"
-    find "$tree/crates/$crate" -name '*.in' | while IFS= read -r file; do
-        mv "$file" "${file%.in}"
+    mkdir -p "target/bench/$name"
+    touch "target/bench/$name/began"
+    for used in $uses; do
+        (cd "crates/$used" && rt lib) </dev/null
     done
-    echo "$crate: $*" >>"$tree/crates.txt"
-    (cd "$tree" && rt staticlib "$crate")
-    if [ ! -f "$archive" ]; then
-        echo "bench: rt staticlib $crate left no $archive" >&2
-        exit 1
-    fi
-    touch -r "$place/began" "$archive"
+    (
+        tree=$(mktemp -d)
+        trap 'rm -rf -- "$tree"' EXIT
+        for part in crates/*/src crates/*/specs crates/*/proofs crates/*/out/rlib; do
+            mkdir -p "$tree/${part%/*}"
+            cp -R "$part" "$tree/$part"
+        done
+        cp -R "bench/$name/entries" "$tree/crates/$crate"
+        find "$tree/crates/$crate" -name '*.in' | while IFS= read -r file; do
+            mv "$file" "${file%.in}"
+        done
+        { cat crates.txt && echo "$line"; } >"$tree/crates.txt"
+        (cd "$tree/crates/$crate" && rt lib) </dev/null
+        cp "$tree/crates/$crate/out/lib$crate.a" "$archive"
+    )
+    touch -r "target/bench/$name/began" "$archive"
 }

@@ -6,12 +6,13 @@ set -u
 . -- "$(dirname -- "$0")/../scripts/root.sh" || exit 1
 
 . scripts/build.sh
-if ! up_to_date target/bin/seedspell crates crates.txt; then
+if ! is_built "$program_place"; then
     echo "tests/plan: the program is not built, or older than its source; ./plan FILE builds it" >&2
     exit 1
 fi
-out=target/tests/plan
-rm -rf "$out"
+# Outside the repository, since some cases need links and a second crates.txt, and rt ci refuses both below its folders.
+out=$(mktemp -d) || exit 1
+trap 'rm -rf -- "$out"' EXIT
 mkdir -p "$out/folder" || exit 1
 
 tried=0
@@ -165,9 +166,12 @@ try 'an odd name that is missing' 1 /dev/null "plan: there is no $out/$odd
 
 # lay_out ROOT: a copy of what ./plan is made of, with the program, which is then newer than its source.
 lay_out() {
-    mkdir -p "$1/crates/seedspell" "$1/target/bin" && cp -R plan scripts crates.txt "$1" &&
-        cp "$text" "$1/crates/seedspell" && cp target/bin/seedspell "$1/target/bin" &&
-        touch "$1/target/bin/seedspell" || exit 1
+    local part
+    for part in src specs proofs out; do
+        mkdir -p "$1/crates/seedspell/$part" || exit 1
+    done
+    cp -R plan scripts crates.txt "$1" && cp "$text" "$1/crates/seedspell" && cp "$program_place" "$1/$program_place" &&
+        touch "$1/$program_place" || exit 1
 }
 lay_out "$out/$odd"
 mkdir -p "$out/elsewhere/$odd/scripts" "$out/elsewhere/scripts" && ln -s -- "$odd" "$out/link" &&
@@ -178,16 +182,16 @@ try 'in an odd folder' 0 "$lines" '' within "$out/$odd" ./plan "$example"
 try 'an odd folder from above' 0 "$lines" '' within "$out" bash -- "$odd/plan" -- "$odd/$example"
 try 'a link to an odd folder' 0 "$lines" '' "$out/link/plan" "$text"
 try 'a link in another folder' 0 "$lines" '' "$out/linked" "$text"
-export CDPATH=$PWD/$out/elsewhere
+export CDPATH=$out/elsewhere
 try 'CDPATH' 0 "$lines" '' ./plan "$text"
-try 'CDPATH and an odd folder from above' 0 "$lines" '' within "$PWD/$out" bash -- "$odd/plan" -- "$odd/$example"
+try 'CDPATH and an odd folder from above' 0 "$lines" '' within "$out" bash -- "$odd/plan" -- "$odd/$example"
 unset CDPATH
 
 # ---- a program that fails
 # stand_in LINE: another program in its place.
 lay_out "$out/failing"
 stand_in() {
-    printf '#!/bin/sh\n%s\n' "$1" >"$out/failing/target/bin/seedspell"
+    printf '#!/bin/sh\n%s\n' "$1" >"$out/failing/$program_place"
 }
 failing() { "$out/failing/plan" "$text"; }
 stand_in 'exit 3'
@@ -206,7 +210,7 @@ plan: the program ended with status 4
 # What bash says of these has numbers of its own.
 for line in 'kill -9 $$' 'kill -SEGV $$' 'chmod'; do
     stand_in "$line"
-    [ "$line" != chmod ] || chmod -x "$out/failing/target/bin/seedspell"
+    [ "$line" != chmod ] || chmod -x "$out/failing/$program_place"
     status=0
     failing >"$out/printed" 2>"$out/said" || status=$?
     tried=$((tried + 1))

@@ -23,7 +23,7 @@ if [ -n "${SELFTEST:-}" ]; then
     archive=$out/standin.o
     gcc -Wall -Wextra -O3 -c bench/divisor/standin.c -o "$archive"
 else
-    build_entries "$out" bench/divisor/entries divisors numbers arithmetic layout taskset checks
+    build_entries divisor
 fi
 gcc "$out/bench.o" "$out/generated.o" "$out/generator.o" "$out/divisor.o" "$archive" -o "$out/bench"
 "$out/bench" "$@"

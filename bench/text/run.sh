@@ -21,7 +21,7 @@ if [ -n "${SELFTEST:-}" ]; then
     echo "bench: no archive; a copy of the plain calls stands for it"
     archive=$out/copy.o
 else
-    build_entries "$out" bench/text/entries texts taskset figures reader writer
+    build_entries text
 fi
 gcc "$out/bench.o" "$out/text.o" "$archive" -o "$out/bench"
 "$out/bench" "$@"

@@ -32,7 +32,7 @@ if [ -n "${SELFTEST:-}" ]; then
 else
     build_archive
     archives=("$archive")
-    build_entries "$out" bench/walk/entries walks numbers ticks
+    build_entries walk
     archives+=("$archive")
 fi
 gcc "$out/bench.o" "$out/generated.o" "$out/walk.o" "$out/events.o" "${archives[@]}" -o "$out/bench"

@@ -7,7 +7,7 @@ set -u
 example=chips
 . examples/common.sh
 . scripts/build.sh
-build "the program" target/bin/seedspell check seedspell || exit 1
+build_program || exit 1
 bash examples/build.sh sheet || exit 1
 program=./plan
 

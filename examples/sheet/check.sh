@@ -7,6 +7,8 @@ set -u
 
 example=sheet
 . examples/common.sh
+. scripts/build.sh
+build_archive || exit 1
 
 hold_cases
 
@@ -19,7 +21,7 @@ hold_room() {
     rm -rf "$cases"
     mkdir -p "$cases" && cp "$all"/*.* "$cases" && cp "$all/$1"/*.* "$cases" || exit 1
     awk '!seen[$1]++' "$all/$1/list" "$all/list" >"$cases/list" || exit 1
-    cc -Wall -Wextra -O2 "${@:2}" examples/sheet/sheet.c target/staticlib/libcapi.a -o "$program" || exit 1
+    cc -Wall -Wextra -O2 "${@:2}" examples/sheet/sheet.c "$archive" -o "$program" || exit 1
     hold_cases
 }
 echo 'void *__wrap_malloc(unsigned long size) { (void)size; return 0; }' >"$out/wrap.c"
@@ -52,7 +54,7 @@ plant() {
         return
     fi
     printf '%s\n' "${text/"$2"/"$3"}" >"$out/planted.c"
-    cc -w -Iinclude "${@:4}" "$out/planted.c" target/staticlib/libcapi.a -o "$out/planted" || exit 1
+    cc -w -Iinclude "${@:4}" "$out/planted.c" "$archive" -o "$out/planted" || exit 1
     while read -r name status tick; do
         [[ $name =~ $among ]] || continue
         if ! "$out/planted" "$tick" <"$cases/$name.in" 2>/dev/null | cmp -s - "$cases/$name.out"; then
