@@ -22,7 +22,7 @@ use Rattle.taskset.proofs.Checks.{accepts_next, passed}
 use Rattle.taskset.proofs.Cases.{S, S_from, chip_set, slow_or_fast, cases}
 use Rattle.taskset.proofs.DemandThree.{outcome_kept}
 use Rattle.chips.specs.declared.Chip.TheVariants.{Ppc405lp}
-use Rattle.text.specs.Text.{bytes, script_text, IsTextOf, words, script_of}
+use Rattle.text.specs.Text.{bytes, script_text, IsTextOf, script_of}
 use Rattle.text.proofs.Copies.{takes}
 use Rattle.text.proofs.Sizes.{words-length}
 use Rattle.text.proofs.Cases.{example, example_text, example-words, example_from, from_text, from_words, idle_910}

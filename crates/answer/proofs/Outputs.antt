@@ -2,7 +2,7 @@
 -- is printed keeps demand 3.
 -- Assumes nothing.
 use Prim.Native.Nat.{ℕ, suc, ◌≤◌, ◌<◌}
-use mathlib.Core.Path.{◌≡◌, refl, sym, ap, ◌∙◌, subst}
+use mathlib.Core.Path.{◌≡◌, sym, ap, ◌∙◌, subst}
 use mathlib.Core.List.{List, [], ◌∷◌, ◌++◌}
 use mathlib.Core.Logic.{◌↔◌, inl, ⊎_elim}
 use native.Mathlib.Omega.{arith}
@@ -18,14 +18,14 @@ use Rattle.taskset.specs.Calls.{Selected, Copied, walk_of}
 use Rattle.taskset.specs.DemandThree.{PlanPromise}
 use Rattle.taskset.specs.declared.CopyAnswer.{CopyAnswer}
 use Rattle.taskset.specs.declared.CopyAnswer.TheVariants.{Wrote, Refused as NotCopied}
-use Rattle.taskset.proofs.Checks.{accepts_but_last, accepts_next, refuses_unique, passed, not-both}
+use Rattle.taskset.proofs.Checks.{accepts_but_last, accepts_next, refuses_unique, not-both}
 use Rattle.taskset.specs.Sets.{IsSet}
 use Rattle.taskset.specs.Planning.{planning}
 use Rattle.taskset.specs.declared.Engine.TheVariants.{Table}
 use Rattle.layout.specs.declared.Layout.TheVariants.{Ordinary}
 use Rattle.taskset.proofs.Unique.{planner_single, selected_unique, short_single, single_next, refusal_unique}
 use Rattle.taskset.proofs.DemandThree.{plan_given_lem, walk_kept, engine_plans, list_plans, refusal_owes}
-use Rattle.taskset.proofs.Copied.{SameCopied, count_is, copied_one}
+use Rattle.taskset.proofs.Copied.{SameCopied, copied_one}
 use Rattle.text.specs.Text.{Script, WellFormed, FirstBad, words}
 use Rattle.text.proofs.Sizes.{text_length}
 use Rattle.text.specs.Calls.{reader_checks}

@@ -7,10 +7,9 @@ mod output;
 
 ghost use Rattle.seedspell.specs.Program.{Answered};
 
-use std::io::Write;
-
 use input::Input;
 use output::Output;
+use std::io::Write;
 use taskset::CopyAnswer;
 
 // The answer to a text, at the front of the output: how many bytes. No answer is longer than 2,048 bytes, so that the

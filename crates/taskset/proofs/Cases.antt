@@ -24,7 +24,7 @@ use Rattle.selection.proofs.Compute.{trace, least_energy_at, choose, used_from, 
 use Rattle.layout.specs.Words.{slack, rate_count, task_count, head_kinds, extra_kinds, kind_in, head_kind, task_kind, kind_at, allows}
 use Rattle.layout.specs.declared.Layout.TheVariants.{Ordinary}
 use Rattle.taskset.specs.Quantities.{hyper_period, problem_of, walk_tasks, jobs_energy, reported_energy, work_needed}
-use Rattle.taskset.specs.Refusals.{number, second, Check, Accepts}
+use Rattle.taskset.specs.Refusals.{Check, Accepts}
 use Rattle.taskset.specs.Refusals.{◌▹◌, word_checks, idle_checks, hyper_check}
 use Rattle.taskset.specs.Refusals.{work_check, room_check, none_check, plan_check, ready_checks, planner_checks}
 use Rattle.taskset.specs.Refusals.{walk_checks}

@@ -1,7 +1,7 @@
 -- Laws on the order of checks; that where a check passes its fault stands nowhere; and that every cause holds with at
 -- most one second number.
 -- Assumes nothing.
-use Prim.Native.Nat.{ℕ, ◌-◌}
+use Prim.Native.Nat.{ℕ}
 use mathlib.Core.Path.{◌≡◌, refl, sym, ap, subst, ◌∙◌}
 use mathlib.Core.Bool.{Bool, true, false, cond, not, ◌&&◌, true≢false}
 use mathlib.Core.Option.{Option, none, some}

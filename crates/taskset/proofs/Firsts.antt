@@ -16,7 +16,7 @@ use Rattle.selection.specs.Plan.{IsPlan, Fitting, work_words, most_plans}
 use Rattle.selection.specs.Same.{Same}
 use Rattle.selection.proofs.Same.{load_same, fitting_same}
 use Rattle.layout.specs.Words.{extra_size, head_size, word, slack, slack_place, idle, idle_place, rate_count, task_count}
-use Rattle.layout.specs.Words.{rate_place, task_count_place, task_size, period_place, energy_place, rate, period, cycles, energy}
+use Rattle.layout.specs.Words.{rate_place, task_count_place, task_size, period_place, energy_place, period, cycles, energy}
 use Rattle.layout.specs.Words.{first_place, task_kind, kind_at}
 use Rattle.layout.specs.declared.Kind.TheVariants.{First}
 use Rattle.layout.specs.declared.Layout.{Layout}

@@ -1,6 +1,6 @@
 -- Demand 3 of the order, of what is planned. Of a list it is judged by the endless walk: `KeepsForEver` of the set's tasks
 -- under a plan (specs/Planning.antt).
-use Rattle.std.specs.Prelude.{ℕ, ◌+◌, ◌-◌, ◌*◌, ◌≤◌, ◌<◌, ◌≡◌, true, false, List, ◌↔◌, take}
+use Rattle.std.specs.Prelude.{ℕ, ◌+◌, ◌-◌, ◌*◌, ◌≤◌, ◌≡◌, true, false, List, ◌↔◌, take}
 use Rattle.schedule.specs.Walk.{misses, KeepsForEver}
 use Rattle.selection.specs.Plan.{plan_load}
 use Rattle.layout.specs.Words.{task_count, first}

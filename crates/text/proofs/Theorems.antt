@@ -24,7 +24,7 @@ use Rattle.text.proofs.Numerals.{said}
 use Rattle.text.proofs.Pieces.{first_bad_one, no_first_bad}
 use Rattle.text.proofs.Grammar.{Answer, read_render, read_right}
 use Rattle.text.proofs.Sizes.{text_length}
-use Rattle.text.proofs.Copies.{reads, is_read, is_refused, refuses, one_script, list_text, list-words}
+use Rattle.text.proofs.Copies.{reads, is_read, one_script, list_text, list-words}
 use Rattle.text.proofs.Copies.{reader_unique, writer_unique}
 use Rattle.text.proofs.Written.{read_back, read_again}
 use Rattle.text.proofs.Expanded.{chip_script, line_at, over_iff, LineIn, IdleIn, passes_over, list_passes, own_passes}

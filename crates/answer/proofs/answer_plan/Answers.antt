@@ -5,7 +5,6 @@ use native.Mathlib.Omega.{arith}
 use Rattle.taskset.specs.declared.WalkAnswer.{WalkAnswer}
 use Rattle.walk.specs.Answers.{Walked}
 use Rattle.answer.proofs.Calls.{plan_room, plan_kept, not_missed, not_refused}
-use borrow.Author.Rules.{rules}
 use Rattle.answer.proofs.answer_plan.Goals as goal
 
 pub put_plan-requires : goal.put_plan-requires

@@ -19,7 +19,6 @@ use Rattle.answer.proofs.Calls.{set_refused, ready_refused, more_room, call_refu
 use Rattle.taskset.specs.Refusals.{number, second}
 use Rattle.taskset.specs.declared.Engine.TheVariants.{Table}
 use Rattle.lines.proofs.Lengths.{refused_short}
-use borrow.Author.Rules.{rules}
 use Rattle.answer.proofs.answer_set.Goals as goal
 
 pub put_refused-requires : goal.put_refused-requires

@@ -11,7 +11,6 @@ use Rattle.answer.specs.Answer.{set_lent}
 use Rattle.answer.proofs.Calls.{read_fits, read_set, text_refused}
 use Rattle.taskset.specs.Refusals.{number, second}
 use Rattle.lines.proofs.Lengths.{refused_short}
-use borrow.Author.Rules.{rules}
 use Rattle.answer.proofs.answer_text.Goals as goal
 
 pub slice_bounds-set-end : goal.slice_bounds-set-end

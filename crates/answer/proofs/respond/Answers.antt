@@ -6,7 +6,6 @@ use native.Mathlib.Omega.{arith}
 use lib.ListN.{length}
 use lib.Seq.{length-take-le}
 use Rattle.answer.proofs.Calls.{answer_fits, too_short, wrote}
-use borrow.Author.Rules.{rules}
 use Rattle.answer.proofs.respond.Goals as goal
 
 pub returns-then-output-n : goal.returns-then-output-n

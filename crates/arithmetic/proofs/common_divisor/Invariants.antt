@@ -3,11 +3,7 @@
 -- definition's.
 -- Assumes nothing.
 use Prim.Native.Nat.{◌+◌}
-use mathlib.Core.Path.{◌∙◌}
-use borrow.Author.Rules.{rules}
-use native.Mathlib.Omega.{arith}
-use Rattle.numbers.proofs.Halving.{steps_most, common_is_power}
-use Rattle.numbers.proofs.Reached.{Reached, reached_start, reached_end, reached_falls, reached_before, reached_next}
+use Rattle.numbers.proofs.Reached.{Reached}
 use Rattle.arithmetic.proofs.common_divisor.Given as goal
 
 abbrev pub invariant-loop-p : goal.invariant-loop-p

@@ -1,8 +1,6 @@
-use Prim.Native.Nat.{◌-◌}
 use mathlib.Core.Path.{refl}
 use native.Mathlib.Omega.{arith}
-use borrow.Author.Rules.{rules}
-use Rattle.numbers.proofs.Powers.{Doubled, doubled_positive, doubled_turn, doubled_end}
+use Rattle.numbers.proofs.Powers.{doubled_positive, doubled_turn, doubled_end}
 use Rattle.arithmetic.proofs.least_power.Goals as goal
 
 pub loop-v-init : goal.loop-v-init

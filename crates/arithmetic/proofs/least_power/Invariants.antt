@@ -1,8 +1,5 @@
 use Prim.Native.Nat.{◌-◌}
-use mathlib.Core.Path.{refl}
-use native.Mathlib.Omega.{arith}
-use borrow.Author.Rules.{rules}
-use Rattle.numbers.proofs.Powers.{Doubled, doubled_positive, doubled_turn, doubled_end}
+use Rattle.numbers.proofs.Powers.{Doubled}
 use Rattle.arithmetic.proofs.least_power.Given as goal
 
 abbrev pub invariant-loop-v : goal.invariant-loop-v

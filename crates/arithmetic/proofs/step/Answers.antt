@@ -1,6 +1,5 @@
 use mathlib.Core.Path.{◌≡◌, sym, ◌∙◌}
 use mathlib.Core.Bool.{false}
-use borrow.Author.Rules.{rules}
 use native.Mathlib.Omega.{arith}
 use Rattle.numbers.specs.Halving.{is_even}
 use Rattle.numbers.proofs.Halving.{step-halves-left, step-halves_right, step_takes_left, step_takes_right}

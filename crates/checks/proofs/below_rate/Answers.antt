@@ -1,4 +1,4 @@
-use Prim.Native.Nat.{ℕ, ◌+◌, ◌-◌, ◌*◌, ◌≤◌, ◌<◌}
+use Prim.Native.Nat.{◌*◌, ◌≤◌}
 use mathlib.Core.Path.{◌≡◌, ap₂}
 use native.Mathlib.Nat.{mul-le-mul}
 use native.Mathlib.Omega.{arith}
@@ -6,9 +6,7 @@ use Rattle.numbers.proofs.Searches.{found_here, found_end, none_more}
 use Rattle.layout.specs.Words.{most_idle, idle}
 use Rattle.taskset.specs.Quantities.{job_time}
 use Rattle.layout.proofs.Whole.{idle_in_lem}
-use Rattle.taskset.specs.Sets.{Below}
 use Rattle.checks.proofs.Access.{located}
-use borrow.Author.Rules.{rules}
 use Rattle.checks.proofs.below_rate.Goals as goal
 
 pub idle_of-idle-requires : goal.idle_of-idle-requires

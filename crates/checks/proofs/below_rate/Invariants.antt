@@ -1,16 +1,7 @@
 -- The first energy below what idle ticks draw. The invariant: none before the rate number in hand.
 -- Assumes nothing.
-use Prim.Native.Nat.{ℕ, ◌+◌, ◌-◌, ◌*◌, ◌≤◌, ◌<◌}
-use mathlib.Core.Path.{◌≡◌, ap₂}
-use native.Mathlib.Nat.{mul-le-mul}
-use native.Mathlib.Omega.{arith}
-use Rattle.numbers.proofs.Searches.{found_here, found_end, none_more}
-use Rattle.layout.specs.Words.{most_idle, idle}
-use Rattle.taskset.specs.Quantities.{job_time}
-use Rattle.layout.proofs.Whole.{idle_in_lem}
+use Prim.Native.Nat.{ℕ, ◌+◌, ◌-◌, ◌≤◌, ◌<◌}
 use Rattle.taskset.specs.Sets.{Below}
-use Rattle.checks.proofs.Access.{located}
-use borrow.Author.Rules.{rules}
 use Rattle.checks.proofs.below_rate.Given as goal
 
 abbrev pub invariant-loop-r : goal.invariant-loop-r

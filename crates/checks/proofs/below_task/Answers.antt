@@ -1,8 +1,5 @@
-use Prim.Native.Nat.{ℕ, ◌-◌, ◌≤◌, ◌<◌}
 use native.Mathlib.Omega.{arith}
 use Rattle.numbers.proofs.Searches.{found_here, found_end, none_more}
-use Rattle.checks.specs.Steps.{HasBelow}
-use borrow.Author.Rules.{rules}
 use Rattle.checks.proofs.below_task.Goals as goal
 
 pub loop-task-init : goal.loop-task-init

@@ -1,10 +1,7 @@
 -- The first task with an energy that is too low. The invariant: none before the task in hand.
 -- Assumes nothing.
 use Prim.Native.Nat.{ℕ, ◌-◌, ◌≤◌, ◌<◌}
-use native.Mathlib.Omega.{arith}
-use Rattle.numbers.proofs.Searches.{found_here, found_end, none_more}
 use Rattle.checks.specs.Steps.{HasBelow}
-use borrow.Author.Rules.{rules}
 use Rattle.checks.proofs.below_task.Given as goal
 
 abbrev pub invariant-loop-task : goal.invariant-loop-task

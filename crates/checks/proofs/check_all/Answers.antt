@@ -6,7 +6,6 @@ use Rattle.taskset.specs.Calls.{CountsAfter}
 use Rattle.taskset.proofs.Checks.{refuses_front}
 use Rattle.checks.specs.Steps.{task_checks}
 use Rattle.checks.proofs.Judging.{of_counts, after}
-use borrow.Author.Rules.{rules}
 use Rattle.checks.proofs.check_all.Goals as goal
 
 pub check_tasks-requires : goal.check_tasks-requires

@@ -4,7 +4,6 @@ use mathlib.Core.Path.{refl}
 use mathlib.Core.Logic.{inl}
 use native.Mathlib.Omega.{arith}
 use Rattle.checks.proofs.Judging.{below_places, below_idle, none_below, after-idle}
-use borrow.Author.Rules.{rules}
 use Rattle.checks.proofs.check_tasks.Goals as goal
 use Rattle.checks.proofs.check_tasks.Goals.{then-covered+else-task-n, else-covered}
 

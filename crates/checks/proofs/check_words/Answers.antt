@@ -10,7 +10,6 @@ use Rattle.layout.specs.Words.{most_rates, most_tasks, word, rate_count, task_co
 use Rattle.layout.specs.declared.Layout.{Layout}
 use Rattle.checks.specs.Steps.{Falls}
 use Rattle.checks.proofs.Judging.{Counts, counts_read, bad_word, missing_word, rates_range, tasks_range, not_above, is_shape}
-use borrow.Author.Rules.{rules}
 use Rattle.checks.proofs.check_words.Goals as goal
 
 pub returns-then-b-s : goal.returns-then-b-s

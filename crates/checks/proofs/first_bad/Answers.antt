@@ -3,7 +3,6 @@
 use native.Mathlib.Omega.{arith}
 use Rattle.checks.proofs.Fronts.{in_front, behind}
 use Rattle.checks.proofs.Judging.{Counts, counts_read}
-use borrow.Author.Rules.{rules}
 use Rattle.checks.proofs.first_bad.Goals as goal
 
 pub returns-then-front-head : goal.returns-then-front-head

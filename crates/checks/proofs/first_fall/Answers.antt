@@ -1,8 +1,5 @@
 use Rattle.numbers.proofs.Searches.{found_here, found_end, none_more}
-use Prim.Native.Nat.{ℕ, ◌≤◌, ◌<◌, ◌-◌}
 use native.Mathlib.Omega.{arith}
-use Rattle.checks.specs.Steps.{Falls}
-use borrow.Author.Rules.{rules}
 use Rattle.checks.proofs.first_fall.Goals as goal
 
 pub loop-q-init : goal.loop-q-init

@@ -1,10 +1,7 @@
 -- The first rate that is not above the one before it. The invariant: none before the place in hand.
 -- Assumes nothing.
-use Rattle.numbers.proofs.Searches.{found_here, found_end, none_more}
 use Prim.Native.Nat.{ℕ, ◌≤◌, ◌<◌, ◌-◌}
-use native.Mathlib.Omega.{arith}
 use Rattle.checks.specs.Steps.{Falls}
-use borrow.Author.Rules.{rules}
 use Rattle.checks.proofs.first_fall.Given as goal
 
 abbrev pub invariant-loop-q : goal.invariant-loop-q

@@ -1,10 +1,8 @@
 use mathlib.Core.Path.{sym}
 use lib.ListN.{get_or}
-use Prim.Native.Nat.{◌-◌}
 use native.Mathlib.Omega.{arith}
 use Rattle.numbers.proofs.Multiples.{running_none}
-use Rattle.checks.proofs.Following.{Turn, all_followed, task_in, divisor_asked, divisor_positive, passed_here, next_turn, product_fits}
-use borrow.Author.Rules.{rules}
+use Rattle.checks.proofs.Following.{all_followed, task_in, divisor_asked, divisor_positive, passed_here, next_turn, product_fits}
 use Rattle.checks.proofs.follow.Goals as goal
 
 pub tasks_place-at-requires : goal.tasks_place-at-requires

@@ -5,7 +5,6 @@ use native.Mathlib.Omega.{arith}
 use Rattle.layout.proofs.Places.{kind_head, kind_rates, kind_rate, kind_tasks}
 use Rattle.checks.proofs.Fronts.{front_in, front_past}
 use Rattle.checks.proofs.Judging.{Counts, counts_read}
-use borrow.Author.Rules.{rules}
 use Rattle.checks.proofs.front_kind.Goals as goal
 
 pub returns-then-q-head : goal.returns-then-q-head

@@ -4,7 +4,6 @@ use mathlib.Core.Path.{sym, ◌∙◌}
 use native.Mathlib.Omega.{arith}
 use Rattle.taskset.proofs.Sets.{job_time_at}
 use Rattle.checks.proofs.Access.{located}
-use borrow.Author.Rules.{rules}
 use Rattle.checks.proofs.job_time.Goals as goal
 
 pub job_ticks-requires : goal.job_ticks-requires

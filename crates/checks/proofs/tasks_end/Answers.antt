@@ -1,13 +1,10 @@
-use Prim.Native.Nat.{◌≤◌, ◌-◌}
+use Prim.Native.Nat.{◌≤◌}
 use mathlib.Core.Path.{◌≡◌, sym, ap, ◌∙◌}
 use mathlib.Core.Bool.{true≢false}
 use native.Mathlib.Omega.{arith}
-use lib.ListN.{length}
-use borrow.Author.Tests.{not-true, not-false}
 use Rattle.numbers.proofs.Searches.{found_here, found_end}
 use Rattle.layout.specs.Words.{tasks_place, task_size, kind_at, allows, OutOfRange}
-use Rattle.checks.proofs.Fronts.{InTask, first_task_lem, left_over, kind_here, next_word, next-task}
-use borrow.Author.Rules.{rules}
+use Rattle.checks.proofs.Fronts.{first_task_lem, left_over, kind_here, next_word, next-task}
 use Rattle.checks.proofs.tasks_end.Goals as goal
 
 pub task_size-size-requires : goal.task_size-size-requires

@@ -5,7 +5,6 @@ use mathlib.Core.Path.{◌≡◌}
 use native.Mathlib.Omega.{arith}
 use Rattle.chips.specs.Chips.{chip_energy}
 use Rattle.chips.proofs.Tables.{rate_range, energy-word}
-use borrow.Author.Rules.{rules}
 use Rattle.chips.proofs.energy.Goals as goal
 
 pub job_ticks-time-requires : goal.job_ticks-time-requires

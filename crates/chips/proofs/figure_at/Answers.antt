@@ -1,6 +1,5 @@
 -- Each figure is what its own function gives.
 -- Assumes nothing.
-use borrow.Author.Rules.{rules}
 use Rattle.chips.proofs.figure_at.Goals as goal
 
 pub returns-in-Rate : goal.returns-in-Rate

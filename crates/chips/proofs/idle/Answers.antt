@@ -6,7 +6,6 @@ use native.Mathlib.Omega.{arith}
 use lib.ListN.{get_or}
 use Rattle.chips.specs.Chips.{idle_figures}
 use Rattle.chips.proofs.Rising.{idle_inside}
-use borrow.Author.Rules.{rules}
 use Rattle.chips.proofs.idle.Goals as goal
 
 pub offset_bounds-idle_entry : goal.offset_bounds-idle_entry

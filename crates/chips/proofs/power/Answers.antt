@@ -5,7 +5,6 @@ use native.Mathlib.Omega.{arith}
 use Rattle.chips.specs.Chips.{milliwatts, chip_power}
 use Rattle.chips.specs.declared.Chip.{Chip}
 use Rattle.chips.proofs.Rising.{xscale_few, ppc405lp_few}
-use borrow.Author.Rules.{rules}
 use Rattle.chips.proofs.power.Goals as goal
 
 pub offset_bounds-r : goal.offset_bounds-r

@@ -1,14 +1,12 @@
-use Prim.Native.Nat.{◌-◌}
 use mathlib.Core.Path.{◌≡◌, refl}
 use native.Mathlib.Omega.{arith}
 use Rattle.numbers.specs.Numbers.{each}
-use Rattle.lists.proofs.Rows.{Row, row_none, row_more, row_all}
+use Rattle.lists.proofs.Rows.{row_none, row_more, row_all}
 use Rattle.chips.specs.Chips.{chip_count, chip_rates, chip_energies}
 use Rattle.chips.specs.Steps.{chip_figure, chip_figures}
 use Rattle.chips.specs.declared.Chip.{Chip}
 use Rattle.chips.specs.declared.Figure.{Figure}
 use Rattle.chips.specs.declared.Figure.TheVariants.{Rate, Energy}
-use borrow.Author.Rules.{rules}
 use Rattle.chips.proofs.put_figures.Goals as goal
 
 -- The definition's list of either figure is just this row.

@@ -8,7 +8,6 @@ use Rattle.chips.specs.Chips.{megahertz, chip_count, chip_rate, chip_rates}
 use Rattle.chips.specs.declared.Chip.{Chip}
 use Rattle.chips.proofs.Rising.{xscale_few, ppc405lp_few}
 use Rattle.chips.proofs.Tables.{rate-entry}
-use borrow.Author.Rules.{rules}
 use Rattle.chips.proofs.rate.Goals as goal
 
 -- Where the match has told that chip c is d, the rate stands in the list of d.

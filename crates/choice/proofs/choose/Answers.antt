@@ -7,7 +7,6 @@ use native.Mathlib.Omega.{arith}
 use Rattle.engine.specs.Arrays.{load_bound, Small, SumReady}
 use Rattle.engine.proofs.Adding.{as_loads}
 use Rattle.choice.proofs.Choosing.{search_ready, last_low, way_ready, own-words, plan_ready, chose}
-use borrow.Author.Rules.{rules}
 use Rattle.choice.proofs.choose.Goals as goal
 
 pub find_unit-used-requires : goal.find_unit-used-requires

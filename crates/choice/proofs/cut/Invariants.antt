@@ -1,9 +1,6 @@
 use Prim.Native.Nat.{◌≤◌, ◌-◌, ◌*◌}
-use native.Mathlib.Omega.{arith}
 use Rattle.engine.specs.Arrays.{Written}
-use Rattle.engine.proofs.Writing.{written_none, written-more, written_to}
 use Rattle.choice.specs.Units.{cut_of}
-use borrow.Author.Rules.{rules}
 use Rattle.choice.proofs.cut.Given as goal
 
 abbrev pub invariant-loop-k : goal.invariant-loop-k

@@ -3,8 +3,7 @@ use mathlib.Core.Path.{◌∙◌}
 use native.Mathlib.Omega.{arith}
 use Rattle.engine.proofs.Adding.{energies_low, as_loads}
 use Rattle.engine.proofs.Units.{stops_true, stops_false}
-use Rattle.choice.proofs.Trying.{Trying, trying_start, unit_ready, least_small, product_small, unit_used, trying_turn}
-use borrow.Author.Rules.{rules}
+use Rattle.choice.proofs.Trying.{trying_start, unit_ready, least_small, product_small, unit_used, trying_turn}
 use Rattle.choice.proofs.find_unit.Goals as goal
 
 pub fastest_sum-requires : goal.fastest_sum-requires

@@ -1,5 +1,4 @@
 use Rattle.choice.proofs.Trying.{unit_tabled}
-use borrow.Author.Rules.{rules}
 use Rattle.choice.proofs.least_energy.Goals as goal
 
 pub returns : goal.returns

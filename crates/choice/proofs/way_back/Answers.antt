@@ -2,8 +2,7 @@ use Prim.Native.Nat.{◌≤◌}
 use mathlib.Core.Path.{refl}
 use native.Mathlib.Omega.{arith}
 use Rattle.table.proofs.Rows.{next_row}
-use Rattle.choice.proofs.Ways.{OnWay, way_start, row_here, rate_ready, way_sound, way_small, way_turn, way_whole}
-use borrow.Author.Rules.{rules}
+use Rattle.choice.proofs.Ways.{way_start, row_here, rate_ready, way_sound, way_small, way_turn, way_whole}
 use Rattle.choice.proofs.way_back.Goals as goal
 
 pub overflow_mul-start : goal.overflow_mul-start

@@ -1,6 +1,5 @@
 use mathlib.Core.Path.{◌∙◌}
 use Rattle.engine.proofs.Adding.{fastest_same, fastest_ready}
-use borrow.Author.Rules.{rules}
 use Rattle.engine.proofs.fastest_sum.Goals as goal
 
 pub sum-requires : goal.sum-requires

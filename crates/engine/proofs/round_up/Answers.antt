@@ -1,9 +1,6 @@
-use Prim.Native.Nat.{◌≤◌, ◌-◌, ◌*◌}
 use native.Mathlib.Omega.{arith}
-use Rattle.engine.specs.Arrays.{Written, cost_of}
 use Rattle.engine.proofs.Writing.{written_none, written-more, written_to}
 use Rattle.engine.proofs.Adding.{unit_positive, unit_low, cost_is}
-use borrow.Author.Rules.{rules}
 use Rattle.engine.proofs.round_up.Goals as goal
 
 pub overflow_sub-less : goal.overflow_sub-less

@@ -1,11 +1,7 @@
 -- The invariant: the costs before the place in hand are rounded up.
 -- Assumes nothing.
 use Prim.Native.Nat.{◌≤◌, ◌-◌, ◌*◌}
-use native.Mathlib.Omega.{arith}
 use Rattle.engine.specs.Arrays.{Written, cost_of}
-use Rattle.engine.proofs.Writing.{written_none, written-more, written_to}
-use Rattle.engine.proofs.Adding.{unit_positive, unit_low, cost_is}
-use borrow.Author.Rules.{rules}
 use Rattle.engine.proofs.round_up.Given as goal
 
 abbrev pub invariant-loop-k : goal.invariant-loop-k

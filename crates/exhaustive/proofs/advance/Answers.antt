@@ -1,9 +1,8 @@
-use Prim.Native.Nat.{◌+◌, ◌-◌, ◌≤◌, ◌<◌}
+use Prim.Native.Nat.{◌+◌, ◌≤◌, ◌<◌}
 use mathlib.Core.Path.{refl}
 use native.Mathlib.Omega.{arith}
 use lib.ListN.{get_or}
-use Rattle.exhaustive.proofs.Hands.{change_ready, Carried, carry_start, carry_raise, carry_turn, carry_end}
-use borrow.Author.Rules.{rules}
+use Rattle.exhaustive.proofs.Hands.{change_ready, carry_start, carry_raise, carry_turn, carry_end}
 use Rattle.exhaustive.proofs.advance.Goals as goal
 
 pub loop-t-init : goal.loop-t-init

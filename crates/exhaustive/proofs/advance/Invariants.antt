@@ -1,11 +1,7 @@
 -- The carry from task to task: the invariant is what holds before a task is looked at.
 -- Assumes nothing.
-use Prim.Native.Nat.{◌+◌, ◌-◌, ◌≤◌, ◌<◌}
-use mathlib.Core.Path.{refl}
-use native.Mathlib.Omega.{arith}
-use lib.ListN.{get_or}
-use Rattle.exhaustive.proofs.Hands.{change_ready, Carried, carry_start, carry_raise, carry_turn, carry_end}
-use borrow.Author.Rules.{rules}
+use Prim.Native.Nat.{◌-◌}
+use Rattle.exhaustive.proofs.Hands.{Carried}
 use Rattle.exhaustive.proofs.advance.Given as goal
 
 abbrev pub invariant-loop-t : goal.invariant-loop-t

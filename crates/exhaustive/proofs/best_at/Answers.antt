@@ -1,7 +1,6 @@
 -- The costs of the unit, then the best of all plans by them.
 -- Assumes nothing.
 use Rattle.exhaustive.proofs.Chosen.{all_posed, all_chosen}
-use borrow.Author.Rules.{rules}
 use Rattle.exhaustive.proofs.best_at.Goals as goal
 
 pub best_plan-requires : goal.best_plan-requires

@@ -1,9 +1,7 @@
-use Prim.Native.Nat.{◌-◌}
 use mathlib.Core.Path.{refl}
 use native.Mathlib.Omega.{arith}
 use Rattle.exhaustive.proofs.Seeing.{seen_end}
-use Rattle.exhaustive.proofs.Hands.{Going, going_start, going_block, going_turn}
-use borrow.Author.Rules.{rules}
+use Rattle.exhaustive.proofs.Hands.{going_start, going_block, going_turn}
 use Rattle.exhaustive.proofs.best_plan.Goals as goal
 
 -- No plan was kept before.

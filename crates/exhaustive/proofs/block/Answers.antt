@@ -1,11 +1,8 @@
-use Prim.Native.Nat.{◌+◌, ◌-◌, ◌≤◌}
+use Prim.Native.Nat.{◌+◌}
 use mathlib.Core.Path.{◌≡◌}
 use native.Mathlib.Omega.{arith}
-use Rattle.engine.specs.Arrays.{arrays}
-use Rattle.exhaustive.specs.Engine.{Seen}
 use Rattle.exhaustive.proofs.Order.{rank_below}
 use Rattle.exhaustive.proofs.Hands.{block_change, block_turn}
-use borrow.Author.Rules.{rules}
 use Rattle.exhaustive.proofs.block.Goals as goal
 
 pub loop-r-init : goal.loop-r-init

@@ -2,12 +2,8 @@
 -- Assumes nothing.
 use Prim.Native.Nat.{◌+◌, ◌-◌, ◌≤◌}
 use mathlib.Core.Path.{◌≡◌}
-use native.Mathlib.Omega.{arith}
 use Rattle.engine.specs.Arrays.{arrays}
 use Rattle.exhaustive.specs.Engine.{Seen}
-use Rattle.exhaustive.proofs.Order.{rank_below}
-use Rattle.exhaustive.proofs.Hands.{block_change, block_turn}
-use borrow.Author.Rules.{rules}
 use Rattle.exhaustive.proofs.block.Given as goal
 
 abbrev pub invariant-loop-r : goal.invariant-loop-r

@@ -2,7 +2,6 @@
 -- Assumes nothing.
 use Rattle.engine.proofs.Adding.{as_loads}
 use Rattle.exhaustive.proofs.Chosen.{put_ready, plan_ready, engine_chosen}
-use borrow.Author.Rules.{rules}
 use Rattle.exhaustive.proofs.choose.Goals as goal
 
 pub put_plan-requires : goal.put_plan-requires

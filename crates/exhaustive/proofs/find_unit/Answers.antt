@@ -1,4 +1,4 @@
-use Prim.Native.Nat.{◌*◌, ◌^◌, ◌<◌}
+use Prim.Native.Nat.{◌*◌, ◌<◌}
 use native.Mathlib.Nat.{mul-le-mul_right}
 use native.Mathlib.Omega.{arith}
 use Rattle.arithmetic.specs.declared.Power.{Power}
@@ -6,9 +6,8 @@ use Rattle.engine.specs.Arrays.{arrays}
 use Rattle.engine.proofs.Adding.{energies_low, as_loads}
 use Rattle.engine.proofs.Units.{Tried, tried_start, first_low, tried_turn, tried_used, tried_low}
 use Rattle.engine.proofs.Units.{stops_true, stops_false}
-use Rattle.exhaustive.specs.Engine.{UnitReady, ChosenAt}
+use Rattle.exhaustive.specs.Engine.{UnitReady}
 use Rattle.exhaustive.proofs.Chosen.{best_least}
-use borrow.Author.Rules.{rules}
 use Rattle.exhaustive.proofs.find_unit.Goals as goal
 
 pub fastest_sum-requires : goal.fastest_sum-requires

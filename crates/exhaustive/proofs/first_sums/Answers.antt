@@ -1,12 +1,9 @@
-use Prim.Native.Nat.{◌-◌, ◌≤◌, ◌<◌}
+use Prim.Native.Nat.{◌<◌}
 use mathlib.Core.Path.{◌≡◌, sym}
 use native.Mathlib.Omega.{arith}
-use lib.ListN.{replicate}
-use Rattle.numbers.specs.Numbers.{total}
 use Rattle.numbers.proofs.Sums.{total-none}
-use Rattle.engine.specs.Arrays.{option_at, load_bound, energy_bound}
+use Rattle.engine.specs.Arrays.{load_bound, energy_bound}
 use Rattle.exhaustive.proofs.Hands.{ones_low, ones_turn, ones_hand}
-use borrow.Author.Rules.{rules}
 use Rattle.exhaustive.proofs.first_sums.Goals as goal
 
 pub loop-t-init : goal.loop-t-init

@@ -1,14 +1,10 @@
 -- The invariant: the sums of the tasks before the one in hand.
 -- Assumes nothing.
-use Prim.Native.Nat.{◌-◌, ◌≤◌, ◌<◌}
-use mathlib.Core.Path.{◌≡◌, sym}
-use native.Mathlib.Omega.{arith}
+use Prim.Native.Nat.{◌-◌, ◌≤◌}
+use mathlib.Core.Path.{◌≡◌}
 use lib.ListN.{replicate}
 use Rattle.numbers.specs.Numbers.{total}
-use Rattle.numbers.proofs.Sums.{total-none}
-use Rattle.engine.specs.Arrays.{option_at, load_bound, energy_bound}
-use Rattle.exhaustive.proofs.Hands.{ones_low, ones_turn, ones_hand}
-use borrow.Author.Rules.{rules}
+use Rattle.engine.specs.Arrays.{option_at}
 use Rattle.exhaustive.proofs.first_sums.Given as goal
 
 abbrev pub invariant-loop-t : goal.invariant-loop-t

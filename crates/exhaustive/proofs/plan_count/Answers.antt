@@ -1,10 +1,9 @@
-use Prim.Native.Nat.{ℕ, suc, ◌-◌, ◌^◌, ◌≤◌, min}
-use mathlib.Core.Path.{◌≡◌, ap, ◌∙◌}
+use Prim.Native.Nat.{ℕ, suc, ◌^◌, min}
+use mathlib.Core.Path.{ap, ◌∙◌}
 use native.Mathlib.Nat.{mul-le-mul_left, pow-zero}
 use native.Mathlib.Omega.{arith}
 use Rattle.selection.specs.Plan.{most_plans}
 use Rattle.exhaustive.proofs.Counting.{count_turn}
-use borrow.Author.Rules.{rules}
 use Rattle.exhaustive.proofs.plan_count.Goals as goal
 
 pub loop-t-init : goal.loop-t-init

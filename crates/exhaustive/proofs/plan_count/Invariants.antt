@@ -1,12 +1,8 @@
 -- The invariant: the plans of the tasks counted, up to one more than the most.
 -- Assumes nothing.
-use Prim.Native.Nat.{ℕ, suc, ◌-◌, ◌^◌, ◌≤◌, min}
-use mathlib.Core.Path.{◌≡◌, ap, ◌∙◌}
-use native.Mathlib.Nat.{mul-le-mul_left, pow-zero}
-use native.Mathlib.Omega.{arith}
+use Prim.Native.Nat.{suc, ◌-◌, ◌^◌, ◌≤◌, min}
+use mathlib.Core.Path.{◌≡◌}
 use Rattle.selection.specs.Plan.{most_plans}
-use Rattle.exhaustive.proofs.Counting.{count_turn}
-use borrow.Author.Rules.{rules}
 use Rattle.exhaustive.proofs.plan_count.Given as goal
 
 abbrev pub invariant-loop-t : goal.invariant-loop-t

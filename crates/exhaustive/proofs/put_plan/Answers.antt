@@ -1,9 +1,8 @@
-use Prim.Native.Nat.{◌-◌, ◌%◌, ◌<◌}
+use Prim.Native.Nat.{◌%◌, ◌<◌}
 use mathlib.Core.Path.{refl}
 use native.Mathlib.Nat.{mod-lt}
 use native.Mathlib.Omega.{arith}
-use Rattle.exhaustive.proofs.Counting.{Put, put_start, put_turn, put_end}
-use borrow.Author.Rules.{rules}
+use Rattle.exhaustive.proofs.Counting.{put_start, put_turn, put_end}
 use Rattle.exhaustive.proofs.put_plan.Goals as goal
 
 pub loop-t-init : goal.loop-t-init

@@ -1,11 +1,7 @@
 -- The rank's digits, from the lowest up.
 -- Assumes nothing.
-use Prim.Native.Nat.{◌-◌, ◌%◌, ◌<◌}
-use mathlib.Core.Path.{refl}
-use native.Mathlib.Nat.{mod-lt}
-use native.Mathlib.Omega.{arith}
-use Rattle.exhaustive.proofs.Counting.{Put, put_start, put_turn, put_end}
-use borrow.Author.Rules.{rules}
+use Prim.Native.Nat.{◌-◌}
+use Rattle.exhaustive.proofs.Counting.{Put}
 use Rattle.exhaustive.proofs.put_plan.Given as goal
 
 abbrev pub invariant-loop-t : goal.invariant-loop-t

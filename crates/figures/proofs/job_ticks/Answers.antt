@@ -2,7 +2,6 @@
 -- Assumes nothing.
 use native.Mathlib.Omega.{arith}
 use Rattle.numbers.proofs.Rounding.{ceil_small}
-use borrow.Author.Rules.{rules}
 use Rattle.figures.proofs.job_ticks.Goals as goal
 
 pub overflow_cast-result : goal.overflow_cast-result

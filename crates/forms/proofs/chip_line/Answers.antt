@@ -9,7 +9,6 @@ use Rattle.scanner.specs.Steps.{of_read, no_value}
 use Rattle.scanner.proofs.Places.{map_id, map_at, seq_at, took, lost}
 use Rattle.forms.specs.Forms.{of_chip}
 use Rattle.forms.proofs.Lists.{departs, departs_at, gives}
-use borrow.Author.Rules.{rules}
 use Rattle.forms.proofs.chip_line.Goals as goal
 
 pub returns-in_default : goal.returns-in_default

@@ -2,7 +2,6 @@
 -- Assumes nothing.
 use mathlib.Core.Path.{sym, ◌∙◌}
 use Rattle.scanner.proofs.Places.{either_first, either_second}
-use borrow.Author.Rules.{rules}
 use Rattle.forms.proofs.chip_name.Goals as goal
 
 pub returns-then-is_letter : goal.returns-then-is_letter

@@ -2,7 +2,6 @@
 -- Assumes nothing.
 use mathlib.Core.Path.{sym, ◌∙◌}
 use Rattle.scanner.proofs.Places.{either_first, either_second}
-use borrow.Author.Rules.{rules}
 use Rattle.forms.proofs.clock_line.Goals as goal
 
 pub returns-then-is_letter : goal.returns-then-is_letter

@@ -3,7 +3,6 @@
 use mathlib.Core.Path.{refl}
 use Rattle.forms.proofs.Lists.{gives}
 use Rattle.forms.proofs.Words.{no_energies}
-use borrow.Author.Rules.{rules}
 use Rattle.forms.proofs.energies.Goals as goal
 
 pub energy_form-requires : goal.energy_form-requires

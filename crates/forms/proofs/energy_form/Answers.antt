@@ -8,7 +8,6 @@ use Rattle.scanner.specs.Steps.{of_read, no_value}
 use Rattle.scanner.proofs.Places.{map_id, seq_at, took, lost}
 use Rattle.forms.proofs.Lists.{departs, closed}
 use Rattle.forms.proofs.Words.{some_energies}
-use borrow.Author.Rules.{rules}
 use Rattle.forms.proofs.energy_form.Goals as goal
 
 pub returns-in_default : goal.returns-in_default

@@ -11,7 +11,6 @@ use Rattle.scanner.proofs.Classes.{there, not_there, not_space}
 use Rattle.scanner.proofs.Places.{map_id}
 use Rattle.forms.proofs.Lists.{map-map}
 use Rattle.forms.proofs.Words.{optional-none, optional_some}
-use borrow.Author.Rules.{rules}
 use Rattle.forms.proofs.first_release.Goals as goal
 
 pub returns-in_default : goal.returns-in_default

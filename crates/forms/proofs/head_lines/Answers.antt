@@ -6,7 +6,6 @@ use Rattle.text.specs.Reading.{got, bad, ext, map_res, literal, field, both, rea
 use Rattle.scanner.specs.Steps.{of_read, no_value}
 use Rattle.scanner.proofs.Places.{map_id, seq_at, took, lost}
 use Rattle.forms.specs.Forms.{of_idle}
-use borrow.Author.Rules.{rules}
 use Rattle.forms.proofs.head_lines.Goals as goal
 
 pub returns-in_default : goal.returns-in_default

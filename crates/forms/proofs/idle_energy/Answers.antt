@@ -1,6 +1,5 @@
 -- The line says it, or the clock.
 -- Assumes nothing.
-use borrow.Author.Rules.{rules}
 use Rattle.forms.proofs.idle_energy.Goals as goal
 
 pub returns-in-Named : goal.returns-in-Named

@@ -2,13 +2,11 @@
 -- Assumes nothing.
 use mathlib.Core.Path.{◌≡◌, sym, ap, ◌∙◌}
 use mathlib.Core.Option.{some}
-use borrow.Author.Tests.{not-true, not-false}
 use Rattle.text.specs.Text.{bytes}
 use Rattle.text.specs.Reading.{got, bad, ext, map_res, literal, field, read_idle_line, read_idle, read_at}
 use Rattle.scanner.specs.Steps.{of_read, no_value}
 use Rattle.scanner.proofs.Places.{seq_at, took, lost}
 use Rattle.forms.proofs.Words.{optional-none, optional_some}
-use borrow.Author.Rules.{rules}
 use Rattle.forms.proofs.idle_line.Goals as goal
 
 pub returns-then-not-is_letter : goal.returns-then-not-is_letter

@@ -4,7 +4,6 @@ use mathlib.Core.Path.{ap}
 use Rattle.text.specs.Reading.{literal, read_at}
 use Rattle.scanner.specs.Steps.{of_read, no_value}
 use Rattle.scanner.proofs.Places.{map_at, took, lost}
-use borrow.Author.Rules.{rules}
 use Rattle.forms.proofs.named.Goals as goal
 
 pub returns-in-Got : goal.returns-in-Got

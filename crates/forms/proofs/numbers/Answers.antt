@@ -1,4 +1,4 @@
-use Prim.Native.Nat.{◌+◌, ◌-◌, ◌≤◌}
+use Prim.Native.Nat.{◌≤◌}
 use mathlib.Core.Path.{◌≡◌, refl, sym, ap, ◌∙◌}
 use mathlib.Core.Bool.{true}
 use native.Mathlib.Omega.{arith}
@@ -8,7 +8,7 @@ use Rattle.text.specs.Reading.{starts}
 use Rattle.scanner.specs.Steps.{of_read}
 use Rattle.scanner.proofs.Classes.{there, not_there, not_space}
 use Rattle.forms.specs.Forms.{spaced_number}
-use Rattle.forms.proofs.Lists.{departs, alone, SoFar, none_yet, one_more, refused, stopped, full, plainly}
+use Rattle.forms.proofs.Lists.{departs, alone, none_yet, one_more, refused, stopped, full, plainly}
 use Rattle.lists.proofs.Stores.{stored-alone}
 use borrow.Author.Rules.{rules}
 use Rattle.forms.proofs.numbers.Goals as goal

@@ -1,20 +1,9 @@
 -- The numbers of a list. The invariant: the numbers so far are in place, and with those that are left, read at the
 -- place in hand, they give the whole answer.
 -- Assumes nothing.
-use Prim.Native.Nat.{◌+◌, ◌-◌, ◌≤◌}
-use mathlib.Core.Path.{◌≡◌, refl, sym, ap, ◌∙◌}
-use mathlib.Core.Bool.{true}
-use mathlib.Core.Logic.{⊎_elim}
-use native.Mathlib.Omega.{arith}
-use native.Mathlib.Nat.{mul-one}
-use lib.ListN.{drop}
-use Rattle.text.specs.Reading.{starts}
-use Rattle.scanner.specs.Steps.{of_read}
-use Rattle.scanner.proofs.Classes.{there, not_there, not_space}
+use Prim.Native.Nat.{◌+◌, ◌-◌}
 use Rattle.forms.specs.Forms.{spaced_number}
-use Rattle.forms.proofs.Lists.{departs, alone, SoFar, none_yet, one_more, refused, stopped, full, plainly}
-use Rattle.lists.proofs.Stores.{stored-alone}
-use borrow.Author.Rules.{rules}
+use Rattle.forms.proofs.Lists.{alone, SoFar}
 use Rattle.forms.proofs.numbers.Given as goal
 
 abbrev pub invariant-loop-n : goal.invariant-loop-n

@@ -2,7 +2,6 @@
 -- Assumes nothing.
 use mathlib.Core.Path.{sym}
 use Rattle.scanner.proofs.Classes.{there, not_there, not_bracket}
-use borrow.Author.Rules.{rules}
 use Rattle.forms.proofs.opens.Goals as goal
 
 pub returns-in-Bracket : goal.returns-in-Bracket

@@ -2,7 +2,6 @@
 -- Assumes nothing.
 use mathlib.Core.Path.{sym, ap, ◌∙◌}
 use Rattle.forms.specs.Forms.{rates_in}
-use borrow.Author.Rules.{rules}
 use Rattle.forms.proofs.rate_count.Goals as goal
 
 pub returns-in-Named : goal.returns-in-Named

@@ -9,7 +9,6 @@ use Rattle.scanner.specs.Steps.{of_read, no_value}
 use Rattle.scanner.proofs.Places.{map_id, map_at, seq_at, Took, took, lost}
 use Rattle.forms.specs.declared.Clock.TheVariants.{Rates}
 use Rattle.forms.proofs.Lists.{departs, departs_at, gives}
-use borrow.Author.Rules.{rules}
 use Rattle.forms.proofs.rates_line.Goals as goal
 use Rattle.forms.proofs.rates_line.Goals.{In-Got-numbers}
 

@@ -22,7 +22,6 @@ use Rattle.forms.specs.declared.Head.{Head}
 use Rattle.forms.specs.declared.Said.{Said}
 use Rattle.forms.proofs.Lists.{departs_at, gives}
 use Rattle.forms.proofs.Words.{rates_in_lem, energies_in_lem, idle_in_lem, words_by_lem, fits, few_rates, set_words}
-use borrow.Author.Rules.{rules}
 use Rattle.forms.proofs.read_set.Goals as goal
 use Rattle.forms.proofs.read_set.Goals.{After-place_of, After-place_of-in_default-end, After-tasks-arg-1, After-place_of-in_default-lines, After-rate_count-m, After-task_count_place, After-idle_energy, After-period_place}
 

@@ -5,7 +5,6 @@ use Rattle.text.specs.Text.{bytes}
 use Rattle.text.specs.Reading.{got, literal, field, read_at}
 use Rattle.scanner.specs.Steps.{of_read, no_value}
 use Rattle.scanner.proofs.Places.{seq_at, took, lost}
-use borrow.Author.Rules.{rules}
 use Rattle.forms.proofs.release_form.Goals as goal
 
 pub returns-in_default : goal.returns-in_default

@@ -15,7 +15,6 @@ use Rattle.forms.specs.Forms.{energies_in, energies_by}
 use Rattle.forms.proofs.Lists.{departs, closed, map-map}
 use Rattle.lists.proofs.Stores.{stored, in_front}
 use Rattle.forms.proofs.Words.{task_front}
-use borrow.Author.Rules.{rules}
 use Rattle.forms.proofs.task.Goals as goal
 use Rattle.forms.proofs.task.Goals.{In_default-form, In_default-release, After-literal}
 

@@ -1,26 +1,12 @@
 -- The tasks. The invariant: the tasks so far are in place, and with those that are left, read at the place in hand,
 -- they give the whole answer.
 -- Assumes nothing.
-use Prim.Native.Nat.{ℕ, ◌-◌, ◌≤◌}
-use mathlib.Core.Path.{◌≡◌, sym, ap, ◌∙◌}
-use mathlib.Core.List.{List}
-use mathlib.Core.Bool.{true}
-use mathlib.Core.Logic.{⊎_elim}
-use native.Mathlib.Omega.{arith}
-use borrow.Author.Tests.{not-true, not-false}
-use lib.ListN.{length, drop}
-use Rattle.numbers.specs.Numbers.{joined}
-use Rattle.layout.specs.Words.{most_rates, most_tasks, tasks_place, task_size, period_place}
+use Prim.Native.Nat.{◌-◌}
+use Rattle.layout.specs.Words.{most_tasks, tasks_place, task_size}
 use Rattle.layout.specs.declared.Layout.TheVariants.{Ordinary}
-use Rattle.layout.proofs.Places.{before-end}
-use Rattle.text.specs.Text.{TaskLine}
-use Rattle.text.specs.Reading.{Res, read_task, starts, read_at}
-use Rattle.scanner.specs.Steps.{of_read, no_value}
-use Rattle.scanner.proofs.Places.{took, lost}
-use Rattle.forms.specs.Forms.{Gives, rates_in, energies_in, words_by}
-use Rattle.forms.proofs.Lists.{departs, SoFar, none_yet, one_more, refused, stopped, full}
-use Rattle.forms.proofs.Words.{few_rates, task-words}
-use borrow.Author.Rules.{rules}
+use Rattle.text.specs.Reading.{read_task}
+use Rattle.forms.specs.Forms.{energies_in, words_by}
+use Rattle.forms.proofs.Lists.{SoFar}
 use Rattle.forms.proofs.tasks.Given as goal
 
 abbrev pub invariant-loop-n : goal.invariant-loop-n

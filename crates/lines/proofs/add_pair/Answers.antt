@@ -4,7 +4,6 @@ use mathlib.Core.List.{append_assoc}
 use native.Mathlib.Omega.{arith}
 use lib.ListN.{length-append}
 use Rattle.printer.proofs.Puts.{then}
-use borrow.Author.Rules.{rules}
 use Rattle.lines.proofs.add_pair.Goals as goal
 
 -- A line of two numbers: each part goes behind those before it.

@@ -4,7 +4,6 @@ use native.Mathlib.Omega.{arith}
 use lib.ListN.{length-append}
 use Rattle.printer.proofs.Puts.{then}
 use Rattle.lines.specs.Lines.{plan_line}
-use borrow.Author.Rules.{rules}
 use Rattle.lines.proofs.add_plan.Goals as goal
 
 -- The line that they make. It stands before what the calls ask, so that a part in a wrong place is refused here.

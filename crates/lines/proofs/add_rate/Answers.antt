@@ -1,7 +1,6 @@
 -- A task's line is a line of two numbers.
 -- Assumes nothing.
 use Rattle.lines.specs.Lines.{rate_line}
-use borrow.Author.Rules.{rules}
 use Rattle.lines.proofs.add_rate.Goals as goal
 
 pub add_pair-requires : goal.add_pair-requires

@@ -1,13 +1,9 @@
-use Prim.Native.Nat.{◌-◌, ◌≤◌}
 use mathlib.Core.Path.{◌≡◌, refl, ◌∙◌}
 use native.Mathlib.Omega.{arith}
-use lib.ListN.{length, take}
+use lib.ListN.{length}
 use lib.Seq.{take-length}
-use Rattle.printer.specs.Puts.{Added}
 use Rattle.printer.proofs.Puts.{none_added, then}
-use Rattle.lines.specs.Lines.{rate_lines}
 use Rattle.lines.proofs.Lengths.{rates-more, rate-room}
-use borrow.Author.Rules.{rules}
 use Rattle.lines.proofs.add_rates.Goals as goal
 
 pub loop-i-init : goal.loop-i-init
@@ -22,10 +18,10 @@ add_rate-p-requires c = rate-room c.args.plan.now c.loop-i.i (omega arith) _ _ _
 
 pub loop-i-preserved : goal.loop-i-preserved
 loop-i-preserved c = (
-      omega arith,
-      c.add_rate-p.auto.buf ∙ c.loop-i.invariant.1,
-      rw (rates-more c.args.plan.now c.loop-i.i (omega arith)) (then c.loop-i.invariant.2 c.add_rate-p.ensures),
-    )
+  omega arith,
+  c.add_rate-p.auto.buf ∙ c.loop-i.invariant.1,
+  rw (rates-more c.args.plan.now c.loop-i.i (omega arith)) (then c.loop-i.invariant.2 c.add_rate-p.ensures),
+)
 
 pub shape_of-buf : goal.shape_of-buf
 shape_of-buf c = c.loop-i.invariant.1

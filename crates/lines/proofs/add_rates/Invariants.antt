@@ -1,15 +1,10 @@
 -- A line for each rate. The loop's invariant: those of the first `i` tasks are in place.
 -- Assumes nothing.
 use Prim.Native.Nat.{◌-◌, ◌≤◌}
-use mathlib.Core.Path.{◌≡◌, refl, ◌∙◌}
-use native.Mathlib.Omega.{arith}
+use mathlib.Core.Path.{◌≡◌}
 use lib.ListN.{length, take}
-use lib.Seq.{take-length}
 use Rattle.printer.specs.Puts.{Added}
-use Rattle.printer.proofs.Puts.{none_added, then}
 use Rattle.lines.specs.Lines.{rate_lines}
-use Rattle.lines.proofs.Lengths.{rates-more, rate-room}
-use borrow.Author.Rules.{rules}
 use Rattle.lines.proofs.add_rates.Given as goal
 
 abbrev pub invariant-loop-i : goal.invariant-loop-i

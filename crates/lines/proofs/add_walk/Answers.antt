@@ -4,7 +4,6 @@ use native.Mathlib.Omega.{arith}
 use lib.ListN.{length-append}
 use Rattle.printer.proofs.Puts.{then}
 use Rattle.lines.specs.Lines.{walk_line}
-use borrow.Author.Rules.{rules}
 use Rattle.lines.proofs.add_walk.Goals as goal
 
 pub returns : goal.returns

@@ -3,7 +3,6 @@
 use native.Mathlib.Omega.{arith}
 use lib.ListN.{length-append}
 use Rattle.printer.proofs.Puts.{then, front}
-use borrow.Author.Rules.{rules}
 use Rattle.lines.proofs.put_plan.Goals as goal
 
 -- The lines of a plan: each goes behind those before it.

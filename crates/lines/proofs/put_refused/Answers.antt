@@ -3,7 +3,6 @@
 use native.Mathlib.Omega.{arith}
 use Rattle.printer.proofs.Puts.{front}
 use Rattle.lines.specs.Lines.{refused_line}
-use borrow.Author.Rules.{rules}
 use Rattle.lines.proofs.put_refused.Goals as goal
 
 pub add_pair-requires : goal.add_pair-requires

@@ -2,7 +2,6 @@ use Prim.Native.Nat.{ℕ, ◌+◌, ◌*◌}
 use mathlib.Core.Path.{ap}
 use native.Mathlib.Omega.{arith}
 use Rattle.taskset.specs.declared.PlannerAnswer.TheVariants.{Planned}
-use borrow.Author.Rules.{rules}
 use Rattle.options.proofs.planned.Goals as goal
 
 pub overflow_mul-total : goal.overflow_mul-total

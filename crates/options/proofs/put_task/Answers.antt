@@ -1,9 +1,7 @@
-use Prim.Native.Nat.{◌+◌, ◌-◌, ◌*◌, ◌≤◌, ◌<◌}
+use Prim.Native.Nat.{◌*◌, ◌≤◌, ◌<◌}
 use native.Mathlib.Omega.{arith}
 use Rattle.layout.specs.Words.{most_rates, most_tasks}
-use Rattle.options.specs.Options.{LaidBoth}
 use Rattle.options.proofs.Filling.{both-next, task_few, rates_few, period_positive, load_fits, drawn_fits, energy_fits, both-more}
-use borrow.Author.Rules.{rules}
 use Rattle.options.proofs.put_task.Goals as goal
 
 pub period_of-requires : goal.period_of-requires

@@ -1,12 +1,8 @@
 -- The options of one task, rate by rate. The invariant: the arrays hold those of the tasks before, and of this task
 -- those of the rates before the one in hand.
 -- Assumes nothing.
-use Prim.Native.Nat.{◌+◌, ◌-◌, ◌*◌, ◌≤◌, ◌<◌}
-use native.Mathlib.Omega.{arith}
-use Rattle.layout.specs.Words.{most_rates, most_tasks}
+use Prim.Native.Nat.{◌+◌, ◌-◌, ◌≤◌}
 use Rattle.options.specs.Options.{LaidBoth}
-use Rattle.options.proofs.Filling.{both-next, task_few, rates_few, period_positive, load_fits, drawn_fits, energy_fits, both-more}
-use borrow.Author.Rules.{rules}
 use Rattle.options.proofs.put_task.Given as goal
 
 abbrev pub invariant-loop-r : goal.invariant-loop-r

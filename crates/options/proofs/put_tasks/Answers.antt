@@ -1,8 +1,7 @@
-use Prim.Native.Nat.{ℕ, ◌-◌, ◌≤◌}
+use Prim.Native.Nat.{ℕ}
 use mathlib.Core.Path.{subst}
 use native.Mathlib.Omega.{arith}
 use Rattle.options.specs.Options.{LaidBoth}
-use borrow.Author.Rules.{rules}
 use Rattle.options.proofs.put_tasks.Goals as goal
 
 pub loop-t-init : goal.loop-t-init

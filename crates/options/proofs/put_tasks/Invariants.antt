@@ -1,10 +1,7 @@
 -- The options of all tasks, task by task. The invariant: the arrays hold those of the tasks before the one in hand.
 -- Assumes nothing.
-use Prim.Native.Nat.{ℕ, ◌-◌, ◌≤◌}
-use mathlib.Core.Path.{subst}
-use native.Mathlib.Omega.{arith}
+use Prim.Native.Nat.{◌-◌, ◌≤◌}
 use Rattle.options.specs.Options.{LaidBoth}
-use borrow.Author.Rules.{rules}
 use Rattle.options.proofs.put_tasks.Given as goal
 
 abbrev pub invariant-loop-t : goal.invariant-loop-t

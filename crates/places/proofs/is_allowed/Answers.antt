@@ -3,7 +3,6 @@
 use mathlib.Core.Path.{refl}
 use native.Mathlib.Omega.{arith}
 use Rattle.layout.specs.Words.{allows}
-use borrow.Author.Rules.{rules}
 use Rattle.places.proofs.is_allowed.Goals as goal
 
 pub overflow_cast-w : goal.overflow_cast-w

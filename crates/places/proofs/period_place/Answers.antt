@@ -1,7 +1,6 @@
 use mathlib.Core.Path.{refl}
 use native.Mathlib.Omega.{arith}
 use Rattle.layout.proofs.Layouts.{head_few, task-words}
-use borrow.Author.Rules.{rules}
 use Rattle.places.proofs.period_place.Goals as goal
 
 pub overflow_mul-result : goal.overflow_mul-result

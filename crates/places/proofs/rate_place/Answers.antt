@@ -1,6 +1,5 @@
 use native.Mathlib.Omega.{arith}
 use Rattle.layout.proofs.Layouts.{head_few}
-use borrow.Author.Rules.{rules}
 use Rattle.places.proofs.rate_place.Goals as goal
 
 pub overflow_add-result : goal.overflow_add-result

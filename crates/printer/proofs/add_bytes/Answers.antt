@@ -2,7 +2,6 @@
 -- Assumes nothing.
 use native.Mathlib.Omega.{arith}
 use Rattle.printer.proofs.Puts.{none_added, then_lent}
-use borrow.Author.Rules.{rules}
 use Rattle.printer.proofs.add_bytes.Goals as goal
 
 pub returns : goal.returns

@@ -3,7 +3,6 @@
 use native.Mathlib.Omega.{arith}
 use lib.ListN.{length-append}
 use Rattle.printer.proofs.Puts.{then}
-use borrow.Author.Rules.{rules}
 use Rattle.printer.proofs.add_field.Goals as goal
 
 pub add_bytes-a-requires : goal.add_bytes-a-requires

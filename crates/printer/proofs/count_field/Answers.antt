@@ -2,7 +2,6 @@
 -- Assumes nothing.
 use native.Mathlib.Omega.{arith}
 use lib.ListN.{length-append}
-use borrow.Author.Rules.{rules}
 use Rattle.printer.proofs.count_field.Goals as goal
 
 pub count_bytes-requires : goal.count_bytes-requires

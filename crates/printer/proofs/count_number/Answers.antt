@@ -2,7 +2,6 @@
 -- Assumes nothing.
 use Prim.Native.Nat.{◌/◌, ◌^◌}
 use native.Mathlib.Omega.{arith}
-use borrow.Author.Rules.{rules}
 use Rattle.text.proofs.Sizes.{decimal-length}
 use Rattle.printer.proofs.Puts.{length_above}
 use Rattle.printer.proofs.count_number.Goals as goal

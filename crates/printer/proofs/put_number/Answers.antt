@@ -1,6 +1,5 @@
 use native.Mathlib.Omega.{arith}
-use Rattle.printer.proofs.Puts.{Filled, fill_none, fill_one, first_small, fill_all}
-use borrow.Author.Rules.{rules}
+use Rattle.printer.proofs.Puts.{fill_none, fill_one, first_small, fill_all}
 use Rattle.printer.proofs.put_number.Goals as goal
 
 pub loop-i-init : goal.loop-i-init

@@ -1,9 +1,7 @@
 -- The digits of a number, from the back. The loop's invariant, Filled: those behind the first `i` are in place, and the
 -- first `i` are those of what is left.
 -- Assumes nothing.
-use native.Mathlib.Omega.{arith}
-use Rattle.printer.proofs.Puts.{Filled, fill_none, fill_one, first_small, fill_all}
-use borrow.Author.Rules.{rules}
+use Rattle.printer.proofs.Puts.{Filled}
 use Rattle.printer.proofs.put_number.Given as goal
 
 abbrev pub invariant-loop-i : goal.invariant-loop-i

@@ -1,9 +1,6 @@
-use Prim.Native.Nat.{ℕ, ◌-◌, ◌≤◌, ◌<◌}
 use native.Mathlib.Omega.{arith}
 use Rattle.numbers.proofs.Searches.{found_here, found_end, none_more}
-use Rattle.reader.specs.Over.{OverIn}
 use Rattle.reader.proofs.Overs.{holds_each}
-use borrow.Author.Rules.{rules}
 use Rattle.reader.proofs.first_over.Goals as goal
 
 pub loop-t-init : goal.loop-t-init

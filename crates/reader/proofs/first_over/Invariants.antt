@@ -1,11 +1,7 @@
 -- The first task with an energy over the largest. The invariant: none before the task in hand.
 -- Assumes nothing.
 use Prim.Native.Nat.{ℕ, ◌-◌, ◌≤◌, ◌<◌}
-use native.Mathlib.Omega.{arith}
-use Rattle.numbers.proofs.Searches.{found_here, found_end, none_more}
 use Rattle.reader.specs.Over.{OverIn}
-use Rattle.reader.proofs.Overs.{holds_each}
-use borrow.Author.Rules.{rules}
 use Rattle.reader.proofs.first_over.Given as goal
 
 abbrev pub invariant-loop-t : goal.invariant-loop-t

@@ -1,13 +1,11 @@
-use Prim.Native.Nat.{ℕ, ◌+◌, ◌-◌, ◌≤◌, ◌<◌}
+use Prim.Native.Nat.{◌<◌}
 use mathlib.Core.Path.{◌≡◌, ap}
 use native.Mathlib.Omega.{arith}
 use lib.ListN.{length}
 use Rattle.numbers.proofs.Searches.{found_here, found_end, none_more}
 use Rattle.layout.specs.Words.{word, energy_place}
 use Rattle.layout.specs.declared.Layout.TheVariants.{Ordinary}
-use Rattle.reader.specs.Over.{OverAt}
 use Rattle.reader.proofs.Overs.{energy_inside}
-use borrow.Author.Rules.{rules}
 use Rattle.reader.proofs.over_rate.Goals as goal
 
 pub loop-r-init : goal.loop-r-init

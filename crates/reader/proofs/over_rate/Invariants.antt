@@ -1,15 +1,7 @@
 -- The first energy over the largest. The invariant: none before the rate number in hand.
 -- Assumes nothing.
 use Prim.Native.Nat.{ℕ, ◌+◌, ◌-◌, ◌≤◌, ◌<◌}
-use mathlib.Core.Path.{◌≡◌, ap}
-use native.Mathlib.Omega.{arith}
-use lib.ListN.{length}
-use Rattle.numbers.proofs.Searches.{found_here, found_end, none_more}
-use Rattle.layout.specs.Words.{word, energy_place}
-use Rattle.layout.specs.declared.Layout.TheVariants.{Ordinary}
 use Rattle.reader.specs.Over.{OverAt}
-use Rattle.reader.proofs.Overs.{energy_inside}
-use borrow.Author.Rules.{rules}
 use Rattle.reader.proofs.over_rate.Given as goal
 
 abbrev pub invariant-loop-r : goal.invariant-loop-r

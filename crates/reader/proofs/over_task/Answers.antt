@@ -4,7 +4,6 @@ use mathlib.Core.Path.{sym, subst}
 use native.Mathlib.Omega.{arith}
 use Rattle.reader.specs.Over.{NamesChip}
 use Rattle.reader.proofs.Overs.{numbered, none-numbered, never, with_fact}
-use borrow.Author.Rules.{rules}
 use Rattle.reader.proofs.over_task.Goals as goal
 
 -- The task's number.

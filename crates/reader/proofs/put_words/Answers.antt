@@ -1,11 +1,10 @@
-use Prim.Native.Nat.{ℕ, ◌≤◌, ◌<◌, ◌-◌}
+use Prim.Native.Nat.{ℕ, ◌<◌}
 use mathlib.Core.List.{List}
 use mathlib.Core.Path.{◌≡◌, refl, ap, ◌∙◌}
 use native.Mathlib.Omega.{arith}
 use native.Mathlib.Numerals.{add-one}
 use lib.ListN.{length, get_or, set, take, length-set}
 use lib.Seq.{length-take-le, take-suc, take-length}
-use Rattle.lists.specs.Writing.{placed}
 use Rattle.lists.proofs.Writing.{placed-none, placed_one}
 use Rattle.reader.proofs.put_words.Goals as goal
 

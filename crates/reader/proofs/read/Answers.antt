@@ -17,7 +17,6 @@ use Rattle.scanner.proofs.Places.{Took, took, lost}
 use Rattle.reader.specs.Over.{Holds, OverTask}
 use Rattle.reader.proofs.Answers as laws
 use Rattle.reader.proofs.Overs as overs
-use borrow.Author.Rules.{rules}
 use Rattle.reader.proofs.read.Goals as goal
 
 pub over_task-k-requires : goal.over_task-k-requires

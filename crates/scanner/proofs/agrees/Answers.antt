@@ -1,11 +1,9 @@
-use Prim.Native.Nat.{◌+◌, ◌-◌}
-use mathlib.Core.Path.{◌≡◌, sym, ap, ◌∙◌}
+use Prim.Native.Nat.{◌+◌}
+use mathlib.Core.Path.{sym, ap, ◌∙◌}
 use mathlib.Core.Bool.{Bool, false, cond}
 use native.Mathlib.Omega.{arith}
 use native.Mathlib.Nat.{add-zero, add_assoc}
-use lib.ListN.{length, drop}
 use Rattle.scanner.specs.Steps.{taken}
-use Rattle.text.specs.Reading.{literal, read_at}
 use Rattle.scanner.proofs.Places.{literal_done}
 use Rattle.scanner.proofs.Strings.{one_more, cond_self}
 use Rattle.scanner.proofs.agrees.Goals as goal

@@ -1,8 +1,8 @@
-use Prim.Native.Nat.{◌-◌, ◌<◌}
-use mathlib.Core.Path.{◌≡◌, refl, sym, ap, ◌∙◌}
+use Prim.Native.Nat.{◌<◌}
+use mathlib.Core.Path.{refl, sym, ap, ◌∙◌}
 use native.Mathlib.Omega.{arith}
-use lib.ListN.{length, drop}
-use Rattle.text.specs.Reading.{ext, literal, read_at}
+use lib.ListN.{length}
+use Rattle.text.specs.Reading.{ext}
 use Rattle.scanner.specs.Steps.{taken}
 use Rattle.scanner.proofs.Places.{literal_on, literal_departs, literal-ends}
 use Rattle.scanner.proofs.Strings.{left}

@@ -1,14 +1,10 @@
 -- Where a text departs from a fixed string that does not stand there. The invariant: what is left of the string, read at
 -- the place in hand, gives the whole answer.
 -- Assumes nothing.
-use Prim.Native.Nat.{◌-◌, ◌<◌}
-use mathlib.Core.Path.{◌≡◌, refl, sym, ap, ◌∙◌}
-use native.Mathlib.Omega.{arith}
+use Prim.Native.Nat.{◌-◌}
+use mathlib.Core.Path.{◌≡◌}
 use lib.ListN.{length, drop}
-use Rattle.text.specs.Reading.{ext, literal, read_at}
-use Rattle.scanner.specs.Steps.{taken}
-use Rattle.scanner.proofs.Places.{literal_on, literal_departs, literal-ends}
-use Rattle.scanner.proofs.Strings.{left}
+use Rattle.text.specs.Reading.{literal, read_at}
 use Rattle.scanner.proofs.departure.Given as goal
 
 abbrev pub invariant-loop-i : goal.invariant-loop-i

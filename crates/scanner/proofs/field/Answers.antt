@@ -4,7 +4,6 @@ use mathlib.Core.Path.{sym, ap, ◌∙◌}
 use Rattle.scanner.specs.Steps.{of_read, no_value}
 use Rattle.text.specs.Reading.{literal, read_at}
 use Rattle.scanner.proofs.Places.{seq_at, map_id, took, lost}
-use borrow.Author.Rules.{rules}
 use Rattle.scanner.proofs.field.Goals as goal
 
 pub returns-in_default : goal.returns-in_default

@@ -2,7 +2,6 @@
 -- Assumes nothing.
 use mathlib.Core.Path.{sym}
 use Rattle.scanner.proofs.Classes.{there, not_there, not_letter}
-use borrow.Author.Rules.{rules}
 use Rattle.scanner.proofs.is_letter.Goals as goal
 
 pub returns-in-Letter : goal.returns-in-Letter

@@ -3,7 +3,6 @@
 use mathlib.Core.Path.{sym}
 use native.Mathlib.Omega.{arith}
 use Rattle.scanner.proofs.Strings.{short}
-use borrow.Author.Rules.{rules}
 use Rattle.scanner.proofs.is_there.Goals as goal
 
 pub returns-then-room-l : goal.returns-then-room-l

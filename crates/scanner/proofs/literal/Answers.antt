@@ -5,7 +5,6 @@ use native.Mathlib.Omega.{arith}
 use Rattle.scanner.specs.Steps.{no_value}
 use Rattle.text.specs.Reading.{bad, literal, map_res, read_at}
 use Rattle.scanner.proofs.Strings.{fits, read_whole, not_taken}
-use borrow.Author.Rules.{rules}
 use Rattle.scanner.proofs.literal.Goals as goal
 
 pub overflow_add-result : goal.overflow_add-result

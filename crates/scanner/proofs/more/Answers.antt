@@ -1,9 +1,5 @@
-use Prim.Native.Nat.{◌-◌, ◌<◌, ◌^◌}
-use mathlib.Core.Path.{◌≡◌, refl, sym, ◌∙◌}
+use mathlib.Core.Path.{refl, sym, ◌∙◌}
 use native.Mathlib.Omega.{arith}
-use borrow.Author.Rules.{rules}
-use lib.ListN.{length}
-use Rattle.text.specs.Reading.{more, read_at}
 use Rattle.scanner.specs.Steps.{Stands}
 use Rattle.scanner.specs.declared.Class.TheVariants.{Digit}
 use Rattle.scanner.proofs.Classes.{no_digit, not_digit}

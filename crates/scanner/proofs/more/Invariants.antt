@@ -2,15 +2,9 @@
 -- whole answer.
 -- Assumes nothing.
 use Prim.Native.Nat.{◌-◌, ◌<◌, ◌^◌}
-use mathlib.Core.Path.{◌≡◌, refl, sym, ◌∙◌}
-use native.Mathlib.Omega.{arith}
-use borrow.Author.Rules.{rules}
+use mathlib.Core.Path.{◌≡◌}
 use lib.ListN.{length}
 use Rattle.text.specs.Reading.{more, read_at}
-use Rattle.scanner.specs.Steps.{Stands}
-use Rattle.scanner.specs.declared.Class.TheVariants.{Digit}
-use Rattle.scanner.proofs.Classes.{no_digit, not_digit}
-use Rattle.scanner.proofs.Places as laws
 use Rattle.scanner.proofs.more.Given as goal
 
 abbrev pub invariant-loop-d : goal.invariant-loop-d

@@ -6,7 +6,6 @@ use Rattle.scanner.specs.Steps.{Stands}
 use Rattle.scanner.specs.declared.Class.TheVariants.{Digit}
 use Rattle.scanner.proofs.Classes.{no_digit, not_digit}
 use Rattle.scanner.proofs.Places as laws
-use borrow.Author.Rules.{rules}
 use Rattle.scanner.proofs.number.Goals as goal
 
 pub returns-in_default : goal.returns-in_default

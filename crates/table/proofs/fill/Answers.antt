@@ -1,8 +1,5 @@
-use Prim.Native.Nat.{◌≤◌, ◌-◌}
 use native.Mathlib.Omega.{arith}
-use borrow.Author.Rules.{rules}
 use mathlib.Core.Path.{refl}
-use Rattle.engine.specs.Arrays.{Written}
 use Rattle.engine.proofs.Writing.{written_none, written-more, written_to}
 use Rattle.table.proofs.fill.Goals as goal
 

@@ -1,8 +1,5 @@
-use Prim.Native.Nat.{ℕ, ◌≤◌, ◌<◌, ◌-◌}
 use native.Mathlib.Omega.{arith}
 use Rattle.numbers.proofs.Searches.{found_here, found_end, none_more}
-use Rattle.table.specs.Rows.{Defined}
-use borrow.Author.Rules.{rules}
 use Rattle.table.proofs.least_column.Goals as goal
 
 pub loop-column-init : goal.loop-column-init

@@ -1,10 +1,7 @@
 -- The invariant: every column before the one in hand is 'none'.
 -- Assumes nothing.
 use Prim.Native.Nat.{ℕ, ◌≤◌, ◌<◌, ◌-◌}
-use native.Mathlib.Omega.{arith}
-use Rattle.numbers.proofs.Searches.{found_here, found_end, none_more}
 use Rattle.table.specs.Rows.{Defined}
-use borrow.Author.Rules.{rules}
 use Rattle.table.proofs.least_column.Given as goal
 
 abbrev pub invariant-loop-column : goal.invariant-loop-column

@@ -1,9 +1,6 @@
-use Prim.Native.Nat.{◌+◌, ◌-◌, ◌≤◌}
 use mathlib.Core.Path.{refl}
 use native.Mathlib.Omega.{arith}
-use Rattle.table.specs.Rows.{rate_of}
 use Rattle.table.proofs.Rates.{rate_from, rate_to, sum_fits, rate_pass, rate_hit}
-use borrow.Author.Rules.{rules}
 use Rattle.table.proofs.rate_at.Goals as goal
 use Rattle.table.proofs.rate_at.Goals.{then-c-column+else-d-start, else-c-column}
 

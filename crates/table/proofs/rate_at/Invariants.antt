@@ -1,12 +1,7 @@
 -- The invariant: the lowest rate number that makes the entry is not below the one in hand.
 -- Assumes nothing.
 use Prim.Native.Nat.{◌+◌, ◌-◌, ◌≤◌}
-use mathlib.Core.Logic.{⊎_elim}
-use mathlib.Core.Path.{refl}
-use native.Mathlib.Omega.{arith}
 use Rattle.table.specs.Rows.{rate_of}
-use Rattle.table.proofs.Rates.{rate_from, rate_to, sum_fits, rate_pass, rate_hit}
-use borrow.Author.Rules.{rules}
 use Rattle.table.proofs.rate_at.Given as goal
 
 abbrev pub invariant-loop-number : goal.invariant-loop-number

@@ -1,10 +1,6 @@
-use borrow.Author.Rules.{rules}
 use Prim.Native.Nat.{◌≤◌, ◌-◌}
-use native.Mathlib.Omega.{arith}
 use Rattle.engine.specs.Arrays.{Written}
-use Rattle.engine.proofs.Writing.{written_none, written-more, written_to}
 use Rattle.table.specs.Rows.{relaxed}
-use Rattle.table.proofs.Relaxing.{relax_sum, relax_turn}
 use Rattle.table.proofs.relax.Given as goal
 
 abbrev pub invariant-loop-p : goal.invariant-loop-p

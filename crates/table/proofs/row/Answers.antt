@@ -1,8 +1,6 @@
-use Prim.Native.Nat.{◌≤◌, ◌-◌, ◌+◌}
 use mathlib.Core.Path.{refl, ◌∙◌}
 use native.Mathlib.Omega.{arith}
-use Rattle.table.proofs.Rows.{RowTo, row_start, row_skip, row_relaxable, row_turn, row_end}
-use borrow.Author.Rules.{rules}
+use Rattle.table.proofs.Rows.{row_start, row_skip, row_relaxable, row_turn, row_end}
 use Rattle.table.proofs.row.Goals as goal
 use Rattle.table.proofs.row.Goals.{then-c-columns, else-c-columns}
 

@@ -1,10 +1,7 @@
-use Prim.Native.Nat.{◌≤◌, ◌-◌, ◌*◌}
-use mathlib.Core.Path.{◌≡◌, sym, ◌∙◌}
+use mathlib.Core.Path.{sym, ◌∙◌}
 use native.Mathlib.Nat.{zero-mul}
 use native.Mathlib.Omega.{arith}
-use Rattle.table.specs.Rows.{Tabled}
 use Rattle.table.proofs.Rows.{next_row, row_within, row_ready, table_start, table_more, table_end, ready_after}
-use borrow.Author.Rules.{rules}
 use Rattle.table.proofs.table.Goals as goal
 
 pub fill-requires : goal.fill-requires

@@ -1,12 +1,8 @@
 -- The invariant: the rows up to the one before the task in hand are the table's, and where that one begins.
 -- Assumes nothing.
 use Prim.Native.Nat.{◌≤◌, ◌-◌, ◌*◌}
-use mathlib.Core.Path.{◌≡◌, sym, ◌∙◌}
-use native.Mathlib.Nat.{zero-mul}
-use native.Mathlib.Omega.{arith}
+use mathlib.Core.Path.{◌≡◌}
 use Rattle.table.specs.Rows.{Tabled}
-use Rattle.table.proofs.Rows.{next_row, row_within, row_ready, table_start, table_more, table_end, ready_after}
-use borrow.Author.Rules.{rules}
 use Rattle.table.proofs.table.Given as goal
 
 abbrev pub invariant-loop-task : goal.invariant-loop-task

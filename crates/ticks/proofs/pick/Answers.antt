@@ -1,12 +1,9 @@
-use Prim.Native.Nat.{◌≤◌, ◌-◌}
-use mathlib.Core.Path.{◌≡◌, sym, ◌∙◌}
+use mathlib.Core.Path.{sym, ◌∙◌}
 use mathlib.Core.Logic.{inl, inr}
 use native.Mathlib.Omega.{arith}
-use borrow.Author.Rules.{rules}
-use Rattle.schedule.specs.Counted.{left_at}
-use Rattle.ticks.specs.Arrays.{jobs_from, blank, picked}
+use Rattle.ticks.specs.Arrays.{blank}
 use Rattle.ticks.proofs.Jobs.{left_jobs, none_left}
-use Rattle.ticks.proofs.Scan.{scanned, scanned-first, scanned-end, scanned-take, scanned_pass}
+use Rattle.ticks.proofs.Scan.{scanned-first, scanned-end, scanned-take, scanned_pass}
 use Rattle.ticks.proofs.pick.Goals as goal
 use Rattle.ticks.proofs.pick.Goals.{then-l-gt0+then-d-when, then-l-gt0+else-d-when, else-l-gt0}
 

@@ -1,14 +1,10 @@
 -- The pick by a scan: what is left of it ends with the pick.
 -- Assumes nothing.
 use Prim.Native.Nat.{◌≤◌, ◌-◌}
-use mathlib.Core.Path.{◌≡◌, sym, ◌∙◌}
-use mathlib.Core.Logic.{inl, inr, ⊎_elim}
-use native.Mathlib.Omega.{arith}
-use borrow.Author.Rules.{rules}
+use mathlib.Core.Path.{◌≡◌}
 use Rattle.schedule.specs.Counted.{left_at}
 use Rattle.ticks.specs.Arrays.{jobs_from, blank, picked}
-use Rattle.ticks.proofs.Jobs.{left_jobs, none_left}
-use Rattle.ticks.proofs.Scan.{scanned, scanned-first, scanned-end, scanned-take, scanned_pass}
+use Rattle.ticks.proofs.Scan.{scanned}
 use Rattle.ticks.proofs.pick.Given as goal
 
 abbrev pub invariant-loop-i : goal.invariant-loop-i

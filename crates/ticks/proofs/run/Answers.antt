@@ -12,8 +12,7 @@ use Rattle.ticks.specs.declared.State.{State}
 use Rattle.ticks.proofs.Releases.{Counted, counted_on, counted_fit, part_pass, part_take, part_miss, part_end, walk_from_miss, walk_from_kept}
 use Rattle.ticks.proofs.Jobs.{pick_some, early_set}
 use Rattle.ticks.proofs.Stretches.{InStretch, made_fits, stretch_ready, stretch_on}
-use Rattle.ticks.proofs.Loops.{AtTick, AtTask, steady, first_tick, turns_come, turn_over, stretch_comes, next_tick}
-use borrow.Author.Rules.{rules}
+use Rattle.ticks.proofs.Loops.{steady, first_tick, turns_come, turn_over, stretch_comes, next_tick}
 use Rattle.ticks.proofs.run.Goals as goal
 use Rattle.ticks.proofs.run.Goals.{else-ticks-test, then-ticks-test+then-loop-i-test+then-s-i+then-s-i-gt0, then-ticks-test+else-loop-i-test+then-t-end, then-s-i+else-s-i-gt0, else-s-i, then-job-gt0, else-job-gt0, Joined-job-gt0, Else-late-gt0}
 

@@ -1,22 +1,9 @@
 -- The walk: what its loops hold is `AtTick`, `AtTask` and `InStretch`.
 -- Assumes nothing.
-use Prim.Native.Nat.{ℕ, ◌+◌, ◌-◌, ◌≤◌, ◌<◌}
-use mathlib.Core.Path.{◌≡◌, refl, sym, ap, ◌∙◌}
-use mathlib.Core.Bool.{false}
-use mathlib.Core.Logic.{⊎_elim}
-use native.Mathlib.Omega.{arith}
-use lib.ListN.{length, get_or}
-use lib.Seq.{get_or-set_other}
-use borrow.Author.Tests.{lt-ltb, le-ltb}
-use Rattle.schedule.specs.Walk.{Task, tasks_from, misses}
-use Rattle.schedule.specs.Counted.{walk_from, missed}
+use Prim.Native.Nat.{◌-◌}
 use Rattle.ticks.specs.Arrays.{task_at}
-use Rattle.ticks.specs.declared.State.{State}
-use Rattle.ticks.proofs.Releases.{Counted, counted_on, counted_fit, part_pass, part_take, part_miss, part_end, walk_from_miss, walk_from_kept}
-use Rattle.ticks.proofs.Jobs.{pick_some, early_set}
-use Rattle.ticks.proofs.Stretches.{InStretch, made_fits, stretch_ready, stretch_on}
-use Rattle.ticks.proofs.Loops.{AtTick, AtTask, steady, first_tick, turns_come, turn_over, stretch_comes, next_tick}
-use borrow.Author.Rules.{rules}
+use Rattle.ticks.proofs.Stretches.{InStretch}
+use Rattle.ticks.proofs.Loops.{AtTick, AtTask}
 use Rattle.ticks.proofs.run.Given as goal
 
 abbrev pub invariant-loop-i : goal.invariant-loop-i

@@ -1,11 +1,8 @@
-use Prim.Native.Nat.{◌-◌, ◌≤◌}
 use mathlib.Core.Path.{◌≡◌, refl, ◌∙◌}
 use native.Mathlib.Omega.{arith}
-use lib.ListN.{length, take}
+use lib.ListN.{length}
 use lib.Seq.{take-length}
-use Rattle.numbers.specs.Numbers.{joined}
 use Rattle.text.specs.Text.{spaced}
-use Rattle.printer.specs.Puts.{Added}
 use Rattle.printer.proofs.Puts.{none_added, then}
 use Rattle.writer.proofs.Rows.{one_more, one-room}
 use Rattle.writer.proofs.add_numbers.Goals as goal

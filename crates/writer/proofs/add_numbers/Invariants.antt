@@ -1,15 +1,11 @@
 -- Numbers in a row. The loop's invariant: the first `i` are in place.
 -- Assumes nothing.
 use Prim.Native.Nat.{◌-◌, ◌≤◌}
-use mathlib.Core.Path.{◌≡◌, refl, ◌∙◌}
-use native.Mathlib.Omega.{arith}
+use mathlib.Core.Path.{◌≡◌}
 use lib.ListN.{length, take}
-use lib.Seq.{take-length}
 use Rattle.numbers.specs.Numbers.{joined}
 use Rattle.text.specs.Text.{spaced}
 use Rattle.printer.specs.Puts.{Added}
-use Rattle.printer.proofs.Puts.{none_added, then}
-use Rattle.writer.proofs.Rows.{one_more, one-room}
 use Rattle.writer.proofs.add_numbers.Given as goal
 
 abbrev pub invariant-loop-i : goal.invariant-loop-i

@@ -9,7 +9,6 @@ use Rattle.text.specs.Text.{decimal, shown}
 use Rattle.printer.proofs.Puts.{none_added, then}
 use Rattle.writer.specs.Lines.{optional_text}
 use Rattle.writer.proofs.Lists.{shown-none, shown_some}
-use borrow.Author.Rules.{rules}
 use Rattle.writer.proofs.add_shown.Goals as goal
 
 pub add_field-a-requires : goal.add_field-a-requires

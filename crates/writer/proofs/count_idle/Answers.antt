@@ -6,7 +6,6 @@ use lib.ListN.{length}
 use Rattle.text.specs.Text.{bytes, shown, script_of}
 use Rattle.writer.specs.Lines.{optional_text, idle_line}
 use Rattle.writer.proofs.Lists.{idle_same}
-use borrow.Author.Rules.{rules}
 use Rattle.writer.proofs.count_idle.Goals as goal
 
 pub count_shown-requires : goal.count_shown-requires

@@ -1,9 +1,7 @@
-use Prim.Native.Nat.{◌+◌, ◌-◌, ◌≤◌}
 use mathlib.Core.Path.{◌≡◌}
 use native.Mathlib.Omega.{arith}
-use lib.ListN.{length, take, length-append}
+use lib.ListN.{length, length-append}
 use lib.Seq.{take-length}
-use Rattle.numbers.specs.Numbers.{joined}
 use Rattle.text.specs.Text.{spaced}
 use Rattle.writer.proofs.Rows.{one_more, one-room}
 use Rattle.writer.proofs.count_numbers.Goals as goal

@@ -2,12 +2,9 @@
 -- Assumes nothing.
 use Prim.Native.Nat.{◌+◌, ◌-◌, ◌≤◌}
 use mathlib.Core.Path.{◌≡◌}
-use native.Mathlib.Omega.{arith}
-use lib.ListN.{length, take, length-append}
-use lib.Seq.{take-length}
+use lib.ListN.{length, take}
 use Rattle.numbers.specs.Numbers.{joined}
 use Rattle.text.specs.Text.{spaced}
-use Rattle.writer.proofs.Rows.{one_more, one-room}
 use Rattle.writer.proofs.count_numbers.Given as goal
 
 abbrev pub invariant-loop-i : goal.invariant-loop-i

@@ -6,7 +6,6 @@ use native.Mathlib.Omega.{arith}
 use lib.ListN.{length, length-append}
 use Rattle.text.specs.Text.{list_rates}
 use Rattle.writer.specs.Lines.{rates_text}
-use borrow.Author.Rules.{rules}
 use Rattle.writer.proofs.count_rates.Goals as goal
 
 pub rates_of-rates-requires : goal.rates_of-rates-requires

@@ -6,7 +6,6 @@ use native.Mathlib.Omega.{arith}
 use lib.ListN.{length, length-append}
 use Rattle.text.specs.Text.{script_of}
 use Rattle.writer.specs.Lines.{slack_text}
-use borrow.Author.Rules.{rules}
 use Rattle.writer.proofs.count_slack.Goals as goal
 
 pub count_field-a-requires : goal.count_field-a-requires

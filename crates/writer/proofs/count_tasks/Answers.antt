@@ -1,10 +1,8 @@
-use Prim.Native.Nat.{◌-◌, ◌≤◌}
 use mathlib.Core.Path.{◌≡◌}
 use native.Mathlib.Omega.{arith}
-use lib.ListN.{length, take, length-append}
+use lib.ListN.{length, length-append}
 use lib.Seq.{take-length}
-use Rattle.numbers.specs.Numbers.{joined}
-use Rattle.text.specs.Text.{task_text, script_of}
+use Rattle.text.specs.Text.{script_of}
 use Rattle.writer.proofs.Lists.{tasks-count, task_of, lines_more, lines_room}
 use Rattle.writer.proofs.count_tasks.Goals as goal
 

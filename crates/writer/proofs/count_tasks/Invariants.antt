@@ -2,12 +2,9 @@
 -- Assumes nothing.
 use Prim.Native.Nat.{◌-◌, ◌≤◌}
 use mathlib.Core.Path.{◌≡◌}
-use native.Mathlib.Omega.{arith}
-use lib.ListN.{length, take, length-append}
-use lib.Seq.{take-length}
+use lib.ListN.{length, take}
 use Rattle.numbers.specs.Numbers.{joined}
 use Rattle.text.specs.Text.{task_text, script_of}
-use Rattle.writer.proofs.Lists.{tasks-count, task_of, lines_more, lines_room}
 use Rattle.writer.proofs.count_tasks.Given as goal
 
 abbrev pub invariant-loop-t : goal.invariant-loop-t

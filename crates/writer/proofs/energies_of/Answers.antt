@@ -3,7 +3,6 @@
 use mathlib.Core.Path.{refl}
 use native.Mathlib.Omega.{arith}
 use Rattle.writer.proofs.Lists.{task_few, task_inside, energies_are}
-use borrow.Author.Rules.{rules}
 use Rattle.writer.proofs.energies_of.Goals as goal
 
 pub energy_place-start-requires : goal.energy_place-start-requires

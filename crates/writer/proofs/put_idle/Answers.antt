@@ -7,7 +7,6 @@ use Rattle.text.specs.Text.{bytes, shown, script_of}
 use Rattle.printer.proofs.Puts.{front}
 use Rattle.writer.specs.Lines.{optional_text, idle_line}
 use Rattle.writer.proofs.Lists.{idle_same}
-use borrow.Author.Rules.{rules}
 use Rattle.writer.proofs.put_idle.Goals as goal
 
 pub add_shown-requires : goal.add_shown-requires

@@ -7,7 +7,6 @@ use lib.ListN.{length, length-append}
 use Rattle.text.specs.Text.{list_rates}
 use Rattle.printer.proofs.Puts.{front, then}
 use Rattle.writer.specs.Lines.{rates_text}
-use borrow.Author.Rules.{rules}
 use Rattle.writer.proofs.put_rates.Goals as goal
 
 pub rates_of-rates-requires : goal.rates_of-rates-requires

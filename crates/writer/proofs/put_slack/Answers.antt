@@ -7,7 +7,6 @@ use lib.ListN.{length, length-append}
 use Rattle.text.specs.Text.{script_of}
 use Rattle.printer.proofs.Puts.{front, then}
 use Rattle.writer.specs.Lines.{slack_text}
-use borrow.Author.Rules.{rules}
 use Rattle.writer.proofs.put_slack.Goals as goal
 
 pub add_field-a-requires : goal.add_field-a-requires

@@ -8,7 +8,6 @@ use lib.ListN.{length, length-append}
 use Rattle.text.specs.Text.{task_text, line_of}
 use Rattle.printer.proofs.Puts.{front, then}
 use Rattle.writer.proofs.Lists.{line_text, line_same}
-use borrow.Author.Rules.{rules}
 use Rattle.writer.proofs.put_task.Goals as goal
 
 pub period_of-period-requires : goal.period_of-period-requires

@@ -1,14 +1,11 @@
-use Prim.Native.Nat.{◌+◌, ◌-◌, ◌≤◌}
+use Prim.Native.Nat.{◌+◌, ◌≤◌}
 use mathlib.Core.Path.{◌≡◌, refl}
 use native.Mathlib.Omega.{arith}
-use lib.ListN.{length, take, length-take, length-drop}
+use lib.ListN.{length, length-take, length-drop}
 use lib.Seq.{take-length}
-use Rattle.numbers.specs.Numbers.{joined}
 use Rattle.text.specs.Text.{task_text, line_of, script_of}
-use Rattle.printer.specs.Puts.{Added}
 use Rattle.printer.proofs.Puts.{none_added, then_lent, added_length, front}
 use Rattle.writer.proofs.Lists.{tasks-count, task_of, lines_more, lines_room}
-use borrow.Author.Rules.{rules}
 use Rattle.writer.proofs.put_tasks.Goals as goal
 
 pub loop-t-init : goal.loop-t-init

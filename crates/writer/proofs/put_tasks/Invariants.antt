@@ -1,16 +1,11 @@
 -- The tasks' lines. The loop's invariant: the first `t` are in place.
 -- Assumes nothing.
-use Prim.Native.Nat.{◌+◌, ◌-◌, ◌≤◌}
-use mathlib.Core.Path.{◌≡◌, refl}
-use native.Mathlib.Omega.{arith}
-use lib.ListN.{length, take, length-take, length-drop}
-use lib.Seq.{take-length}
+use Prim.Native.Nat.{◌-◌, ◌≤◌}
+use mathlib.Core.Path.{◌≡◌}
+use lib.ListN.{length, take}
 use Rattle.numbers.specs.Numbers.{joined}
-use Rattle.text.specs.Text.{task_text, line_of, script_of}
+use Rattle.text.specs.Text.{task_text, script_of}
 use Rattle.printer.specs.Puts.{Added}
-use Rattle.printer.proofs.Puts.{none_added, then_lent, added_length, front}
-use Rattle.writer.proofs.Lists.{tasks-count, task_of, lines_more, lines_room}
-use borrow.Author.Rules.{rules}
 use Rattle.writer.proofs.put_tasks.Given as goal
 
 abbrev pub invariant-loop-t : goal.invariant-loop-t

@@ -8,7 +8,6 @@ use Rattle.text.specs.Text.{task_text, list_rates, script_of}
 use Rattle.printer.proofs.Puts.{front, from_front, then_lent}
 use Rattle.writer.specs.Lines.{slack_text, idle_line, rates_text}
 use Rattle.writer.proofs.Lists.{slack_inside, idle_inside, cut, cut_length}
-use borrow.Author.Rules.{rules}
 use Rattle.writer.proofs.put_text.Goals as goal
 
 pub put_slack-a-requires : goal.put_slack-a-requires

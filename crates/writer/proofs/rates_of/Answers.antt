@@ -2,7 +2,6 @@
 -- Assumes nothing.
 use native.Mathlib.Omega.{arith}
 use Rattle.writer.proofs.Lists.{rates_few, rates_inside, rates_are}
-use borrow.Author.Rules.{rules}
 use Rattle.writer.proofs.rates_of.Goals as goal
 
 pub task_count_place-end-requires : goal.task_count_place-end-requires

@@ -4,7 +4,6 @@ use mathlib.Core.Path.{subst}
 use native.Mathlib.Omega.{arith}
 use Rattle.taskset.specs.declared.Shape.TheVariants.{Whole}
 use Rattle.writer.proofs.Calls.{Checked, counted, set_refused, too_short, wrote}
-use borrow.Author.Rules.{rules}
 use Rattle.writer.proofs.write.Goals as goal
 
 pub count_text-needed-requires : goal.count_text-needed-requires

@@ -5,7 +5,6 @@ use lib.Dec.{ltb, eqb}
 use native.Mathlib.Omega.{arith}
 use Rattle.schedule.proofs.Stretch.{count_few}
 use Rattle.ticks.proofs.Stretches.{ticked-idle, ticked_busy}
-use borrow.Author.Rules.{rules}
 use Rattle.ticks.proofs.State.tick.Goals as goal
 
 pub returns-then-job-eq0 : goal.returns-then-job-eq0
