@@ -18,7 +18,7 @@ pub enum WalkEnd {
 // its job's deadline, which is its next release: before its first job that first release. The ticks left of the job that
 // runs are held in `rest`, and its entry in the list is written after the call: so a tick changes no list; and the
 // numbers stand between the two lists: so the compiler copies neither.
-#[derive(Clone, Copy)]
+#[derive(Drop)]
 struct State {
     left: [u32; 32],
     busy: u32,
@@ -95,16 +95,16 @@ impl State {
 
     // One tick or more, with no release after the first of them: the job that is picked runs to its finish or to the
     // bound. Where there is none, all ticks up to the bound are idle.
-    fn tick(mut self, n: usize, room: u32, job: Picked) -> State
-        requires { TickReady n room job self }
-        ensures { Ticked n room job self result }
+    fn tick(&mut self, n: usize, room: u32, job: Picked)
+        requires { TickReady n room job self.old }
+        ensures { Ticked n room job self.old self.new }
     {
         if job.left == 0 {
             self.idle += room;
             self.rest = 0;
             self.at = n;
             self.made = room;
-            return self;
+            return;
         }
         let ran = arithmetic::lesser(job.left, room);
         let cut = preempts(job.place, self.at, self.rest);
@@ -113,7 +113,6 @@ impl State {
         self.rest = job.left - ran;
         self.at = job.place;
         self.made = ran;
-        self
     }
 }
 
@@ -149,7 +148,7 @@ pub fn run(p: &[u32; 32], c: &[u32; 32], first: &[u32; 32], n: usize, end: u32) 
         while t < next {
             let room = next - t;
             let job = pick(&s.left, &s.due, n);
-            s = s.tick(n, room, job);
+            s.tick(n, room, job);
             if 0 < job.left {
                 let at = job.place;
                 s.left[at] = s.rest;

@@ -44,7 +44,7 @@ goes_on : (c : Joined-job-gt0) →
     InStretch c.args.n c.ticks.t c.loop-i.next (c.loop-t.t + c.if-job-gt0.s.made) c.loop-i.s c.if-job-gt0.s
 goes_on c =
     let job = c.pick-job.result in
-    let w = c.tick-s.ensures in
+    let w = c.tick.ensures in
     let on = stretch_on c.loop-t.invariant c.loop-t-test.true w in
     let made = made_fits (omega (arith, c.loop-t-test.true)) w in
     elim c.if-job-gt0.branch [
@@ -103,8 +103,8 @@ ticks-preserved c =
 pub pick-job-requires : goal.pick-job-requires
 pick-job-requires c = c.loop-t.invariant.early
 
-pub tick-s-requires : goal.tick-s-requires
-tick-s-requires c = stretch_ready c.loop-t.invariant c.loop-t-test.true (omega (arith, c.loop-i.invariant.within, c.requires.ends)) c.pick-job.ensures
+pub tick-requires : goal.tick-requires
+tick-requires c = stretch_ready c.loop-t.invariant c.loop-t-test.true (omega (arith, c.loop-i.invariant.within, c.requires.ends)) c.pick-job.ensures
 
 pub offset_bounds-s-at : goal.offset_bounds-s-at
 offset_bounds-s-at c =
@@ -115,7 +115,7 @@ pub bounds-s-at : goal.bounds-s-at
 bounds-s-at c =
     let ran : c.pick-job.result.place < c.args.n = (pick_some c.pick-job.ensures c.if-job-gt0.true).0 in
     let v = c.loop-t.invariant in
-    omega (arith, ran, v.early.few, v.early.lefts, ap length c.tick-s.ensures.left)
+    omega (arith, ran, v.early.few, v.early.lefts, ap length c.tick.ensures.left)
 
 pub overflow_add-t : goal.overflow_add-t
 overflow_add-t c =
@@ -149,21 +149,21 @@ returns-then-late-gt0 c = let v = c.ticks.invariant in
 pub overflow_cast-result-2 : goal.overflow_cast-result-2
 overflow_cast-result-2 c =
     let small : c.ticks.t ≤ 200000000 = omega (arith, c.ticks.invariant.reached, c.requires.ends) in
-    omega (arith, small, (counted_fit (at_end c).counts).busy)
+    omega (arith, small, (counted_fit (at_end (goal.at.overflow_cast-result-2 c).Else-late-gt0).counts).busy)
 
 pub overflow_cast-result-3 : goal.overflow_cast-result-3
 overflow_cast-result-3 c =
     let small : c.ticks.t ≤ 200000000 = omega (arith, c.ticks.invariant.reached, c.requires.ends) in
-    omega (arith, small, (counted_fit (at_end c).counts).idle)
+    omega (arith, small, (counted_fit (at_end (goal.at.overflow_cast-result-3 c).Else-late-gt0).counts).idle)
 
 pub overflow_cast-result-4 : goal.overflow_cast-result-4
 overflow_cast-result-4 c =
     let small : c.ticks.t ≤ 200000000 = omega (arith, c.ticks.invariant.reached, c.requires.ends) in
-    omega (arith, small, (counted_fit (at_end c).counts).preempted)
+    omega (arith, small, (counted_fit (at_end (goal.at.overflow_cast-result-4 c).Else-late-gt0).counts).preempted)
 
 pub returns : goal.returns
 returns c =
-    let o = at_end c in
+    let o = at_end (goal.at.returns c).Else-late-gt0 in
     let z : c.args.end - c.ticks.t ≡ 0 = omega (arith, o.here) in
     rw (o.counts.busy, o.counts.idle, o.counts.preempted)
     (sym c.ticks.invariant.rest ∙ ap (walk_from _ c.ticks.t) z ∙ walk_from_kept _ c.ticks.t o.on_time)

@@ -11,7 +11,7 @@ pub returns-then-job-eq0 : goal.returns-then-job-eq0
 returns-then-job-eq0 c = ticked-idle c.requires c.if-job-eq0.true
 
 pub overflow_add-self-3 : goal.overflow_add-self-3
-overflow_add-self-3 c = let few = count_few (not (eqb c.args.job.place c.args.self.at) && ltb 0 c.args.self.rest) in
+overflow_add-self-3 c = let few = count_few (not (eqb c.args.job.place c.args.self.now.at) && ltb 0 c.args.self.now.rest) in
     omega (arith, c.requires.preempted_room, c.requires.some, c.lesser-ran.ensures, c.preempts-cut.ensures, few)
 
 pub returns : goal.returns
