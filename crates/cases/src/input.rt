@@ -25,7 +25,8 @@ fn read_more<R: Read>(reader: &mut R, buf: &mut [u8], at: usize) -> usize
     requires { at ≤ length buf.old }
     ensures kept { take at buf.new ≡ take at buf.old }
     ensures within { at + result ≤ length buf.new }
-    ensures taken { Consumes (R.remaining reader.old) (R.remaining reader.new) (take result (drop at buf.new)) }
+    ensures taken { Consumes (R.remaining reader.old) (R.remaining reader.new)
+        (take result (drop at buf.new)) }
 {
     match reader.read(&mut buf[at..]) {
         Ok(k) => k,

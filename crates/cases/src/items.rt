@@ -7,7 +7,7 @@ ghost use Rattle.std.specs.Prelude.{◌≡◌, ◌≤◌, length};
 const NOWHERE: usize = usize::MAX;
 
 // A number, or how many numbers a list has, and the place behind.
-#[derive(Drop)]
+#[derive(Clone, Copy)]
 pub(crate) struct Item {
     pub(crate) value: usize,
     pub(crate) next: usize,

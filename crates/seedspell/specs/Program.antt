@@ -78,3 +78,32 @@ pub record Answered (t d : List ℕ) (r : ℕ) : Type 0 where
   pub within : r ≤ length d
   pub prints : Prints t (take r d)
   pub owes : Owes prints
+
+-- What a writer holds has grown by the first bytes of d: all of them, some or none.
+abbrev pub Begins : Option (List ℕ) → Option (List ℕ) → List ℕ → Type 0
+Begins old new d = (n : ℕ) × (n ≤ length d) × Appends old new (take n d)
+
+-- THE PLANNING OF A TEXT t. Its answer goes to standard output, which held o and holds o': all of it, and nothing is
+-- said on standard error, which held e and holds e'; or less of it, and the complaint is offered there.
+pub data Plans (t : List ℕ) (o o' e e' : Option (List ℕ)) (complaint : List ℕ) : Type 0 where
+  whole : (out : List ℕ) (p : Prints t out) → Owes p → Appends o o' out → Keeps e e' → Plans t o o' e e' complaint
+  part : (out : List ℕ) (p : Prints t out) → Owes p → (n : ℕ) → n < length out → Appends o o' (take n out)
+      → Begins e e' complaint → Plans t o o' e e' complaint
+
+-- t is what is planned of an input: the bytes that the reader had left, all of them, or the first 8,192.
+pub record IsPlanned (i i' : Option (List ℕ)) (t : List ℕ) : Type 0 where
+  pub taken : Consumes i i' t
+  pub most : length t ≤ 8192
+  pub ended : length t < 8192 → IsAtEnd i'
+
+-- A RUN. The input is read, of which i was left before and i' is left after, and its text planned; or it cannot be read:
+-- then nothing goes to standard output, and the complaint is offered to standard error.
+pub data Runs (i i' o o' e e' : Option (List ℕ)) (unreadable unwritable : List ℕ) : Type 0 where
+  planned : (t : List ℕ) → IsPlanned i i' t → Plans t o o' e e' unwritable → Runs i i' o o' e e' unreadable unwritable
+  unread : (t : List ℕ) → Consumes i i' t → length t < 8192 → Keeps o o' → Begins e e' unreadable
+      → Runs i i' o o' e e' unreadable unwritable
+
+-- WHAT A RUN COMES TO. The input x has its answer printed, however long it is; or it cannot be read.
+pub data Answers (x : List ℕ) (o o' e e' : Option (List ℕ)) (unreadable unwritable : List ℕ) : Type 0 where
+  answered : Plans x o o' e e' unwritable → Answers x o o' e e' unreadable unwritable
+  silent : Keeps o o' → Begins e e' unreadable → Answers x o o' e e' unreadable unwritable

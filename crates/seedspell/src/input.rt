@@ -6,7 +6,7 @@ ghost use Rattle.seedspell.specs.Program.{ReadMore, GotNext, InputFits, InputTak
 use std::io::{ErrorKind, Read};
 
 // What one read finds.
-#[derive(Drop)]
+#[derive(Clone, Copy)]
 pub(crate) enum Got {
     // So many bytes, at least one.
     Bytes(usize),
@@ -19,7 +19,7 @@ pub(crate) enum Got {
 }
 
 // Why the reads stop.
-#[derive(Drop)]
+#[derive(Clone, Copy)]
 pub(crate) enum Input {
     // A read found the end of the input, behind so many bytes.
     Ended(usize),

@@ -6,7 +6,7 @@ ghost use Rattle.seedspell.specs.Program.{WroteMore, PutNext, OutputFits, Output
 use std::io::{ErrorKind, Write};
 
 // What one write does.
-#[derive(Drop)]
+#[derive(Clone, Copy)]
 pub(crate) enum Put {
     // It takes so many bytes, at least one.
     Bytes(usize),
@@ -17,7 +17,7 @@ pub(crate) enum Put {
 }
 
 // How much of the answer the writes take.
-#[derive(Drop)]
+#[derive(Clone, Copy)]
 pub(crate) enum Output {
     // All of it, so many bytes.
     All(usize),
@@ -44,18 +44,16 @@ fn write_more<W: Write>(writer: &mut W, answer: &[u8], at: usize) -> Put
     }
 }
 
-// Writes the answer to an input: all of it, unless a write fails or 1,000 retries are used up. Each turn gets rid of a
-// byte or uses up a retry, so that the loop ends. Nothing else writes to standard output; the input is there for the
-// contract to speak of it.
-pub(crate) fn write_answer<W: Write>(writer: &mut W, input: &[u8], answer: &[u8]) -> Output
-    requires { Prints input.now answer.now }
-    ensures fits { OutputFits answer.now result }
-    ensures put { OutputPut (W.contents writer.old) (W.contents writer.new) answer.now result }
+// Writes bytes: all of them, unless a write fails or 1,000 retries are used up. Each turn gets rid of a byte or uses up
+// a retry, so that the loop ends.
+pub(crate) fn write_bytes<W: Write>(writer: &mut W, bytes: &[u8]) -> Output
+    ensures fits { OutputFits bytes.now result }
+    ensures put { OutputPut (W.contents writer.old) (W.contents writer.new) bytes.now result }
 {
     let mut n = 0;
     let mut retries: usize = 1000;
-    while n < answer.len() {
-        match write_more(writer, answer, n) {
+    while n < bytes.len() {
+        match write_more(writer, bytes, n) {
             Put::Bytes(k) => n += k,
             Put::Interrupted => {
                 if retries == 0 {
@@ -67,4 +65,14 @@ pub(crate) fn write_answer<W: Write>(writer: &mut W, input: &[u8], answer: &[u8]
         }
     }
     Output::All(n)
+}
+
+// Writes the answer to an input. Nothing else writes to standard output; the input is there for the contract to speak
+// of it.
+pub(crate) fn write_answer<W: Write>(writer: &mut W, input: &[u8], answer: &[u8]) -> Output
+    requires { Prints input.now answer.now }
+    ensures fits { OutputFits answer.now result }
+    ensures put { OutputPut (W.contents writer.old) (W.contents writer.new) answer.now result }
+{
+    write_bytes(writer, answer)
 }
