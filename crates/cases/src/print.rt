@@ -1,31 +1,25 @@
 // The parts of the line that answers a record, each written as it comes. What cannot be written, or is longer than any
 // kind needs, is left out: the line is then not the stored one, which shows.
-use libc::STDOUT_FILENO;
+use std::io::Write;
 use taskset::{Checked, CopyAnswer, PlannerAnswer, Refusal, WalkAnswer};
 
-pub(crate) fn say(word: &[u8]) {
-    io::write_all(STDOUT_FILENO, word);
+pub(crate) fn say<W: Write>(to: &mut W, word: &[u8]) {
+    let _ = to.write_all(word);
 }
 
 // A space and a number in decimal.
-fn number(x: u64) {
-    say(b" ");
-    io::print_decimal(STDOUT_FILENO, x);
+fn number<W: Write>(to: &mut W, x: u64) {
+    let _ = write!(to, " {x}");
 }
 
-fn word(x: u32) {
-    number(x as u64);
+fn word<W: Write>(to: &mut W, x: u32) {
+    number(to, x as u64);
 }
 
 // The first `count` words of a list in a row, as far as it has so many.
-fn words(list: &[u32; 400], count: usize) {
-    let mut i = 0;
-    while i < 400 {
-        if i == count {
-            return;
-        }
-        word(list[i]);
-        i += 1;
+fn words<W: Write>(to: &mut W, list: &[u32; 400], count: usize) {
+    for x in list.iter().take(count) {
+        word(to, *x);
     }
 }
 
@@ -35,7 +29,7 @@ fn spelled(b: u8) -> u8 {
 }
 
 // A text of at most 8192 bytes.
-pub(crate) fn text(t: &[u8]) {
+pub(crate) fn text<W: Write>(to: &mut W, t: &[u8]) {
     let mut line = [0u8; 8192];
     let mut i = 0;
     while i < t.len() {
@@ -45,57 +39,57 @@ pub(crate) fn text(t: &[u8]) {
         line[i] = spelled(t[i]);
         i += 1;
     }
-    say(&line[0..i]);
+    say(to, &line[0..i]);
 }
 
 // A refusal, from any call.
-fn refused(f: Refusal) {
-    say(b" refused");
-    number(figures::number_of(f));
-    number(figures::second_of(f));
+fn refused<W: Write>(to: &mut W, f: Refusal) {
+    say(to, b" refused");
+    number(to, figures::number_of(f));
+    number(to, figures::second_of(f));
 }
 
 // The answer of check_set.
-pub(crate) fn checked(a: Checked) {
+pub(crate) fn checked<W: Write>(to: &mut W, a: Checked) {
     match a {
         Checked::Good {
             rates,
             tasks,
             hyper,
         } => {
-            say(b" good");
-            number(rates as u64);
-            number(tasks as u64);
-            number(hyper);
+            say(to, b" good");
+            number(to, rates as u64);
+            number(to, tasks as u64);
+            number(to, hyper);
         }
-        Checked::Refused(f) => refused(f),
+        Checked::Refused(f) => refused(to, f),
     }
 }
 
 // The answer of the walk.
-pub(crate) fn walked(a: WalkAnswer) {
+pub(crate) fn walked<W: Write>(to: &mut W, a: WalkAnswer) {
     match a {
         WalkAnswer::Kept {
             busy,
             idle,
             preempted,
         } => {
-            say(b" kept");
-            number(busy);
-            number(idle);
-            number(preempted);
+            say(to, b" kept");
+            number(to, busy);
+            number(to, idle);
+            number(to, preempted);
         }
         WalkAnswer::Missed { tick, task } => {
-            say(b" missed");
-            number(tick);
-            number(task);
+            say(to, b" missed");
+            number(to, tick);
+            number(to, task);
         }
-        WalkAnswer::Refused(f) => refused(f),
+        WalkAnswer::Refused(f) => refused(to, f),
     }
 }
 
 // The answer of the planner or the dull engine, with the rate numbers of the plan, whose words held 0 before the call.
-pub(crate) fn planned(a: PlannerAnswer, plan: &[u32; 400]) {
+pub(crate) fn planned<W: Write>(to: &mut W, a: PlannerAnswer, plan: &[u32; 400]) {
     let used = words_used(plan, 0);
     match a {
         PlannerAnswer::Planned {
@@ -104,68 +98,68 @@ pub(crate) fn planned(a: PlannerAnswer, plan: &[u32; 400]) {
             hyper,
             energy,
         } => {
-            say(b" planned");
-            number(unit);
-            number(load);
-            number(hyper);
-            number(energy);
-            words(plan, used);
+            say(to, b" planned");
+            number(to, unit);
+            number(to, load);
+            number(to, hyper);
+            number(to, energy);
+            words(to, plan, used);
         }
         PlannerAnswer::Refused(f) => {
-            refused(f);
-            changed(used > 0);
+            refused(to, f);
+            changed(to, used > 0);
         }
     }
 }
 
 // The answer of the reader or the generator: the word that names what was done, and the words that were written. The
 // list held 7 before the call.
-pub(crate) fn listed(word: &[u8], a: CopyAnswer, list: &[u32; 400]) {
+pub(crate) fn listed<W: Write>(to: &mut W, word: &[u8], a: CopyAnswer, list: &[u32; 400]) {
     let used = words_used(list, 7);
     match a {
         CopyAnswer::Wrote(count) => {
-            say(word);
-            number(count as u64);
-            words(list, count);
-            changed(used > count);
+            say(to, word);
+            number(to, count as u64);
+            words(to, list, count);
+            changed(to, used > count);
         }
         CopyAnswer::Refused(f) => {
-            refused(f);
-            changed(used > 0);
+            refused(to, f);
+            changed(to, used > 0);
         }
     }
 }
 
 // The answer of the writer or the program's call: the word that names what was done, and the text that was written. The
 // buffer held 7 before the call, which no text has.
-pub(crate) fn wrote(word: &[u8], a: CopyAnswer, buffer: &[u8; 8192]) {
+pub(crate) fn wrote<W: Write>(to: &mut W, word: &[u8], a: CopyAnswer, buffer: &[u8; 8192]) {
     let used = bytes_used(buffer, 7);
     match a {
         CopyAnswer::Wrote(count) => {
-            say(word);
-            number(count as u64);
-            say(b" ");
-            front(buffer, count);
-            changed(used > count);
+            say(to, word);
+            number(to, count as u64);
+            say(to, b" ");
+            front(to, buffer, count);
+            changed(to, used > count);
         }
         CopyAnswer::Refused(f) => {
-            refused(f);
-            changed(used > 0);
+            refused(to, f);
+            changed(to, used > 0);
         }
     }
 }
 
 // The first `count` bytes of a text, if it has so many.
-fn front(t: &[u8], count: usize) {
+fn front<W: Write>(to: &mut W, t: &[u8], count: usize) {
     if count <= t.len() {
-        text(&t[0..count]);
+        text(to, &t[0..count]);
     }
 }
 
 // Says so, behind an answer, where a call has changed what it must leave as it was.
-fn changed(is: bool) {
+fn changed<W: Write>(to: &mut W, is: bool) {
     if is {
-        say(b" changed");
+        say(to, b" changed");
     }
 }
 

@@ -1,9 +1,9 @@
 // Standard input, read to its end or until 8,192 bytes are there. Every well-formed text is shorter, so that a longer
 // input is refused by what it has in those bytes, and its rest is left unread.
 ghost use Rattle.std.specs.Prelude.{◌<◌, length};
-ghost use Rattle.seedspell.specs.Program.{ReadMore, InputFits};
+ghost use Rattle.seedspell.specs.Program.{ReadMore, GotNext, InputFits, InputTaken};
 
-use libc::{EINTR, STDIN_FILENO};
+use std::io::{ErrorKind, Read};
 
 // What one read finds.
 #[derive(Drop)]
@@ -31,33 +31,34 @@ pub(crate) enum Input {
 
 // One read, to the places from `at` on. What stands before `at` stays. At least one place is lent: to a read that is
 // lent none the input always seems to be at its end.
-fn read_more(bytes: &mut [u8], at: usize) -> Got
+fn read_more<R: Read>(reader: &mut R, bytes: &mut [u8], at: usize) -> Got
     requires { at < length bytes.old }
-    ensures { ReadMore bytes.old at bytes.new result }
+    ensures more { ReadMore bytes.old at bytes.new result }
+    ensures next { GotNext (R.remaining reader.old) (R.remaining reader.new) bytes.new at result }
 {
-    let got = libc::read(STDIN_FILENO, &mut bytes[at..]);
-    if got > 0 {
-        return Got::Bytes(got as usize);
+    match reader.read(&mut bytes[at..]) {
+        Ok(0) => Got::End,
+        Ok(n) => Got::Bytes(n),
+        Err(e) => {
+            if e.kind() == ErrorKind::Interrupted {
+                return Got::Interrupted;
+            }
+            Got::Failed
+        }
     }
-    if got == 0 {
-        return Got::End;
-    }
-    if os::errno() == EINTR {
-        return Got::Interrupted;
-    }
-    Got::Failed
 }
 
 // Reads until the input ends or the places are full: fewer bytes than were asked for are no end, since a pipe hands out
 // what it has. Each turn brings a byte or uses up one of 1,000 retries, so that the loop ends: the room that is left
 // and the retries that are left, together, get less with each turn.
-pub(crate) fn read_input(bytes: &mut [u8; 8192]) -> Input
-    ensures { InputFits bytes.new result }
+pub(crate) fn read_input<R: Read>(reader: &mut R, bytes: &mut [u8; 8192]) -> Input
+    ensures fits { InputFits bytes.new result }
+    ensures taken { InputTaken (R.remaining reader.old) (R.remaining reader.new) bytes.new result }
 {
     let mut n = 0;
     let mut retries: usize = 1000;
     while n < 8192 {
-        match read_more(bytes, n) {
+        match read_more(reader, bytes, n) {
             Got::Bytes(k) => n += k,
             Got::End => return Input::Ended(n),
             Got::Interrupted => {

@@ -1,12 +1,5 @@
 // The program: plans the set whose text stands on standard input, and prints the plan's lines, or the line of the
 // refusal.
-//
-// What it offers to standard output is the answer to the bytes that it has read: write_answer asks for that, and
-// answer_bytes gives it. It plans what it has read where a read has found the end of the input, or where all 8,192
-// places are taken, and complains unless all of the answer was taken. Which bytes a read brings, and where those of a
-// write go, no contract can say: read, write and errno are taken at their word. The program always returns, however
-// often a signal interrupts it. Where it ends by itself its exit status is 0, so that an input that cannot be read, or
-// an answer that cannot be written, shows on standard error only.
 #![tactic(auto)]
 
 mod input;
@@ -14,8 +7,9 @@ mod output;
 
 ghost use Rattle.seedspell.specs.Program.{Answered};
 
+use std::io::Write;
+
 use input::Input;
-use libc::STDERR_FILENO;
 use output::Output;
 use taskset::CopyAnswer;
 
@@ -31,27 +25,31 @@ fn answer_bytes(text: &[u8], output: &mut [u8; 2048]) -> usize
 }
 
 // Writes a line to standard error. Where that fails too, nothing is left to say it on.
-fn complain(line: &[u8]) {
-    io::write_all(STDERR_FILENO, line);
+fn complain<E: Write>(errors: &mut E, line: &[u8]) {
+    let _ = errors.write_all(line);
 }
 
 // Plans a text and writes the answer.
-fn plan(text: &[u8]) {
+fn plan<W: Write, E: Write>(writer: &mut W, errors: &mut E, text: &[u8]) {
     let mut output = [0u8; 2048];
     let n = answer_bytes(text, &mut output);
-    match output::write_answer(text, &output[..n]) {
+    match output::write_answer(writer, text, &output[..n]) {
         Output::All(_) => (),
         Output::CutShort(_) => complain(
+            errors,
             b"seedspell: the answer cannot be written to standard output\n",
         ),
     }
 }
 
-fn main() {
+fn main(rt: HostRuntime) {
+    let mut reader = rt.stdin();
+    let mut writer = rt.stdout();
+    let mut errors = rt.stderr();
     let mut bytes = [0u8; 8192];
-    match input::read_input(&mut bytes) {
-        Input::Ended(n) => plan(&bytes[..n]),
-        Input::Full(n) => plan(&bytes[..n]),
-        Input::Unreadable => complain(b"seedspell: standard input cannot be read\n"),
+    match input::read_input(&mut reader, &mut bytes) {
+        Input::Ended(n) => plan(&mut writer, &mut errors, &bytes[..n]),
+        Input::Full(n) => plan(&mut writer, &mut errors, &bytes[..n]),
+        Input::Unreadable => complain(&mut errors, b"seedspell: standard input cannot be read\n"),
     }
 }

@@ -1,9 +1,9 @@
 // Standard output. A write may take fewer bytes than it is given, so that the rest is offered again.
 ghost use Rattle.std.specs.Prelude.{◌<◌, length};
 ghost use Rattle.answer.specs.Answer.{Prints};
-ghost use Rattle.seedspell.specs.Program.{WroteMore, OutputFits};
+ghost use Rattle.seedspell.specs.Program.{WroteMore, PutNext, OutputFits, OutputPut};
 
-use libc::{EINTR, STDOUT_FILENO};
+use std::io::{ErrorKind, Write};
 
 // What one write does.
 #[derive(Drop)]
@@ -27,34 +27,35 @@ pub(crate) enum Output {
 
 // One write, of the bytes from `at` on, at least one. A write that takes nothing without an error counts as interrupted,
 // so that it is tried again and uses up a retry.
-fn write_more(answer: &[u8], at: usize) -> Put
+fn write_more<W: Write>(writer: &mut W, answer: &[u8], at: usize) -> Put
     requires { at < length answer.now }
-    ensures { WroteMore answer.now at result }
+    ensures more { WroteMore answer.now at result }
+    ensures next { PutNext (W.contents writer.old) (W.contents writer.new) answer.now at result }
 {
-    let put = libc::write(STDOUT_FILENO, &answer[at..]);
-    if put > 0 {
-        return Put::Bytes(put as usize);
+    match writer.write(&answer[at..]) {
+        Ok(0) => Put::Interrupted,
+        Ok(n) => Put::Bytes(n),
+        Err(e) => {
+            if e.kind() == ErrorKind::Interrupted {
+                return Put::Interrupted;
+            }
+            Put::Failed
+        }
     }
-    if put == 0 {
-        return Put::Interrupted;
-    }
-    if os::errno() == EINTR {
-        return Put::Interrupted;
-    }
-    Put::Failed
 }
 
 // Writes the answer to an input: all of it, unless a write fails or 1,000 retries are used up. Each turn gets rid of a
 // byte or uses up a retry, so that the loop ends. Nothing else writes to standard output; the input is there for the
 // contract to speak of it.
-pub(crate) fn write_answer(input: &[u8], answer: &[u8]) -> Output
+pub(crate) fn write_answer<W: Write>(writer: &mut W, input: &[u8], answer: &[u8]) -> Output
     requires { Prints input.now answer.now }
-    ensures { OutputFits answer.now result }
+    ensures fits { OutputFits answer.now result }
+    ensures put { OutputPut (W.contents writer.old) (W.contents writer.new) answer.now result }
 {
     let mut n = 0;
     let mut retries: usize = 1000;
     while n < answer.len() {
-        match write_more(answer, n) {
+        match write_more(writer, answer, n) {
             Put::Bytes(k) => n += k,
             Put::Interrupted => {
                 if retries == 0 {
