@@ -11,8 +11,7 @@ ghost use Rattle.std.specs.Prelude.{◌≤◌};
 
 use input::Window;
 use layout::Layout;
-use std::io;
-use std::io::{BufWriter, Read, Write};
+use std::io::{Read, Write};
 use taskset::Engine;
 
 // A function for each kind of record. It takes the record's name and what stands behind it, runs the call and prints
@@ -227,12 +226,6 @@ fn answer_all<R: Read, W: Write>(reader: &mut R, to: &mut W) {
     }
 }
 
-// The answers are gathered in a buffer. What is left there at the end is written then; where it cannot be, nothing is
-// left to say it on.
-fn main(rt: HostRuntime) -> io::Result<()> {
-    let mut reader = rt.stdin();
-    let mut to = BufWriter::new(rt.alloc(), rt.stdout())?;
-    answer_all(&mut reader, &mut to);
-    let _ = to.flush();
-    Ok(())
+fn main(rt: HostRuntime) {
+    answer_all(&mut rt.stdin(), &mut rt.stdout());
 }

@@ -317,7 +317,7 @@ steps_of_periods l p a b c d = steps_most l p a c (omega (arith, mul-le-mul {n�
 
 -- TWO PAIRS, by computing.
 
--- For large numbers run stops where the steps do; stepsIn would be unfolded as often as its first number says.
+-- For large numbers run stops where the steps do; steps_in would be unfolded as often as its first number says.
 run : ℕ → ℕ → ℕ → ℕ → ℕ
 run zero u a b = 0
 run (suc n) u zero b = steps_in (suc n) u zero b

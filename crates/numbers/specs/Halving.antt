@@ -1,7 +1,7 @@
 -- Document 02, note 3: "Work out the greatest common divisor by halving and subtracting alone, at most 100 of these
 -- together for each pair." What one of these does, and how many a pair takes. That they lead to the greatest common
 -- divisor is the contract of common_divisor (src/lib.rt); that 100 are enough is a theorem (proofs/Halving.antt,
--- steps-most).
+-- steps_most).
 use Rattle.std.specs.Prelude.{ℕ, zero, suc, ◌+◌, ◌-◌, ◌/◌, ◌%◌, ◌^◌, Bool, cond, ◌&&◌, eqb, ltb}
 
 -- How many twos a and b have in common: one for each time that both are even and are halved, at most n times; a + b are

@@ -90,7 +90,7 @@ margin_small m bits P a planned =
     let less : 2 ^ a - 1 ≤ 2 ^ energy_bits - 1 = omega (arith, bits.units P a planned) in
     omega (arith, mul-le-mul bits.few less)
 
--- A list's: no plan's energy is above 2 ^ energyBits, and so neither is the first unit.
+-- A list's: no plan's energy is above 2 ^ energy_bits, and so neither is the first unit.
 module _ (layout : Layout) (s : List ℕ) (set : IsSet layout s) where
   unit_small : (P : List ℕ) (a : ℕ) → IsPlanned (problem_of layout s) (slack s) a P → 2 ^ a ≤ 2 ^ energy_bits
   unit_small P a planned =

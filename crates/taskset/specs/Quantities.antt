@@ -11,8 +11,9 @@ use Rattle.layout.specs.declared.Layout.{Layout}
 abbrev pub hyper_limit : ℕ
 hyper_limit = 10000000
 
--- What follows for a host that works with a plan's numbers: no reported energy reaches 2 ^ energyBits, no unit is above
--- it, and no margin (document 02, note 5), less than a unit for each of at most 32 tasks, reaches 2 ^ marginBits.
+-- What follows for a host that works with a plan's numbers: no reported energy reaches 2 ^ energy_bits, no unit is
+-- above it, and no margin (document 02, note 5), less than a unit for each of at most 32 tasks, reaches
+-- 2 ^ margin_bits.
 abbrev pub energy_bits : ℕ
 energy_bits = 49
 

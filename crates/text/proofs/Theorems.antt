@@ -121,7 +121,7 @@ chip_passes c g o ts t d d' n is gives slack_in idle_in_lem lines-in =
     (passes_over (chip_script c g o ts) t is (passed 9 (reader_checks t (length d)) refl gives.0))
 
 -- And so the writer takes it, wherever the buffer has room for its text; what it writes then reads back as that list
--- (words-then-read).
+-- (words_then_read).
 pub chip_written : (c : Chip) (g : ℕ) (o : Option ℕ) (ts : List TaskLine) (t d d' : List ℕ) (n : ℕ)
     → let s : Script = chip_script c g o ts in
     IsTextOf s t → ReaderGives t d d' (Wrote n) → (1 ≤ g) × (g ≤ 1000) → IdleIn o → All LineIn ts

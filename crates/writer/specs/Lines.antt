@@ -23,7 +23,7 @@ unfoldable pub optional_text : List ℕ → List ℕ → Option ℕ → List ℕ
 optional_text front end none = []
 optional_text front end (some v) = front ++ (decimal v ++ end)
 
--- The lines of a list's text before its tasks, each from its own bracket to its own end. (`scriptText` has the bracket
+-- The lines of a list's text before its tasks, each from its own bracket to its own end. (`script_text` has the bracket
 -- of a line at the end of the string before it, as the reader takes it.)
 unfoldable pub slack_text : ℕ → List ℕ
 slack_text slack = bytes "(slack " ++ (decimal slack ++ bytes ")\n")
