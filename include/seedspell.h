@@ -1,8 +1,8 @@
 /* Seedspell: the clock-rate planner for battery-run water-level recorders, as C calls it.
  *
- * Link with libcapi.a, which `rt lib` in crates/capi writes, for x86-64 and Linux. What each call gives, down to the
- * byte and the refusal, is proved of the source that the archive is made from; the compiler that makes it, and this
- * header, are trusted. docs/CALLS.md is the reference.
+ * Link with libcapi.a, which `rt lib --cpu x86-64` in crates/capi writes, for x86-64 and Linux. What each call gives,
+ * down to the byte and the refusal, is proved of the source that the archive is made from; the compiler that makes it,
+ * and this header, are trusted. docs/CALLS.md is the reference.
  *
  * WHAT A CALL RETURNS IS KEPT IN 64 BITS
  *

@@ -67,8 +67,9 @@ build_program() {
     build "the program" "$program_place" seedspell run
 }
 
-# Sets `archive` to the place of the archive for C, and builds it where that is needed.
+# Sets `archive` to the place of the archive for C, and builds it where that is needed, for every x86-64: rt's own choice
+# is processors that have some instructions more.
 build_archive() {
     archive=$archive_place
-    build "the archive for C" "$archive" capi lib
+    build "the archive for C" "$archive" capi lib --cpu x86-64
 }
