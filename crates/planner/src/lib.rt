@@ -66,7 +66,8 @@ fn own_check(
         }
         Engine::Exhaustive => {
             let plans = exhaustive::plan_count(rates, tasks);
-            if exhaustive::MOST_PLANS < plans {
+            let is_many = exhaustive::MOST_PLANS < plans;
+            if is_many {
                 return Own::Failed(Refusal::TooManyPlans);
             }
             Own::Passed

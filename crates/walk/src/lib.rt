@@ -68,7 +68,8 @@ fn last_tick(first: &[u32; 32], n: usize, hyper: u32) -> u32
 {
     let mut t: usize = 0;
     while t < n {
-        if 0 < first[t] {
+        let is_later = 0 < first[t];
+        if is_later {
             return 2 * hyper;
         }
         t += 1;

@@ -33,17 +33,17 @@ returns-then-work_len-w c = let p = goal.at.returns-then-work_len-w c in
 pub plan_count-plans-requires : goal.plan_count-plans-requires
 plan_count-plans-requires c = rates_range (counted (goal.at.plan_count-plans-requires c).Start)
 
-pub returns-then-plans-gt-MOST_PLANS : goal.returns-then-plans-gt-MOST_PLANS
-returns-then-plans-gt-MOST_PLANS c = let p = goal.at.returns-then-plans-gt-MOST_PLANS c in
+pub returns-then-is_many : goal.returns-then-is_many
+returns-then-is_many c = let p = goal.at.returns-then-is_many c in
     too_many (counted p.Start) c.args.work_len c.in-Exhaustive.is c.plan_count-plans.ensures
-    (omega (arith, c.if-plans-gt-MOST_PLANS.true))
+    (omega (arith, c.if-is_many.true))
 
 pub returns-else-work_len-w : goal.returns-else-work_len-w
 returns-else-work_len-w c = let p = goal.at.returns-else-work_len-w c in
     work-enough (counted p.Start) c.args.work_len c.in-Table.is (needed p.After-work_needed-w)
     c.if-work_len-w.false
 
-pub returns-else-plans-gt-MOST_PLANS : goal.returns-else-plans-gt-MOST_PLANS
-returns-else-plans-gt-MOST_PLANS c = let p = goal.at.returns-else-plans-gt-MOST_PLANS c in
+pub returns-else-is_many : goal.returns-else-is_many
+returns-else-is_many c = let p = goal.at.returns-else-is_many c in
     few_enough (counted p.Start) c.args.work_len c.in-Exhaustive.is c.plan_count-plans.ensures
-    (omega (arith, c.if-plans-gt-MOST_PLANS.false))
+    (omega (arith, c.if-is_many.false))
