@@ -165,7 +165,8 @@ fn follow(s: &[u32], layout: Layout, m: usize, n: usize) -> Multiple
         let p = s[at] as u64;
         let g = arithmetic::common_divisor(l, p);
         let next = l / g.value * p;
-        if HYPER_LIMIT < next {
+        let is_long = HYPER_LIMIT < next;
+        if is_long {
             return Multiple { tasks: t, value: l };
         }
         l = next;

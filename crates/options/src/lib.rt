@@ -85,7 +85,8 @@ pub fn pose(
 {
     put_tasks(loads, energies, set, layout, rates, tasks, hyper);
     let fastest = engine::fastest_sum(loads, tasks, rates);
-    if hyper < fastest {
+    let is_too_much = hyper < fastest;
+    if is_too_much {
         return Posed::NoneFits;
     }
     let limit = hyper as u32;

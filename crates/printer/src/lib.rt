@@ -12,11 +12,12 @@ fn count_low(v: u64) -> usize
     requires { v < 10 ^ 10 }
     ensures { result ≡ length (decimal v) }
 {
+    let is_of_three = v < 1_000;
     if v < 10 {
         1
     } else if v < 100 {
         2
-    } else if v < 1_000 {
+    } else if is_of_three {
         3
     } else if v < 10_000 {
         4

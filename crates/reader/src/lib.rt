@@ -34,7 +34,8 @@ fn over_rate(set: &[u32], m: usize, t: usize) -> usize
     let mut r = 1;
     while r <= m {
         let at = places::energy_place(Layout::Ordinary, m, t, r);
-        if places::MOST_ENERGY < set[at] as u64 {
+        let is_over = places::MOST_ENERGY < set[at] as u64;
+        if is_over {
             return r;
         }
         r += 1;
@@ -86,13 +87,16 @@ pub fn read(text: &[u8], words: &mut [u32]) -> CopyAnswer
         SetRead::Got(said, i) => {
             let n = said.words;
             let k = over_task(&set, said);
-            if i < text.len() {
+            let is_left_over = i < text.len();
+            let is_over = 0 < k;
+            let is_short = words.len() < n;
+            if is_left_over {
                 return CopyAnswer::Refused(Refusal::TextDeparts(i));
             }
-            if 0 < k {
+            if is_over {
                 return CopyAnswer::Refused(Refusal::EnergyOver(k));
             }
-            if words.len() < n {
+            if is_short {
                 return CopyAnswer::Refused(Refusal::TooShort(n));
             }
             CopyAnswer::Wrote(put_words(words, &set[..n]))

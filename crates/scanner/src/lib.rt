@@ -159,7 +159,8 @@ fn number(s: &[u8], at: usize) -> Read
     let Class::Digit(d) = step(s, at) else {
         return Read::Bad(at);
     };
-    if d == 0 {
+    let is_zero = d == 0;
+    if is_zero {
         return Read::Got(0, at + 1);
     }
     more(s, at + 1, d)

@@ -42,7 +42,8 @@ fn preempts(best: usize, at: usize, rest: u32) -> u32
     ensures { result ≡ count (not (eqb best at) && ltb 0 rest) }
 {
     if best != at {
-        if 0 < rest {
+        let is_unfinished = 0 < rest;
+        if is_unfinished {
             return 1;
         }
     }
@@ -131,7 +132,8 @@ pub fn run(p: &[u32; 32], c: &[u32; 32], first: &[u32; 32], n: usize, end: u32) 
         let mut i: usize = 0;
         while i < n {
             if s.due[i] == t {
-                if 0 < s.left[i] {
+                let is_late = 0 < s.left[i];
+                if is_late {
                     late = i + 1;
                     break 'ticks;
                 }

@@ -36,8 +36,8 @@ nonzero_div-next c = divisor_positive c.requires c.loop-t.invariant (omega arith
 pub overflow_mul-next : goal.overflow_mul-next
 overflow_mul-next c = record { fits = product_fits c.loop-t.l c.common_divisor-g.result.value (get_or c.args.s.now c.loop-t.at 0) c.loop-t.invariant.most (omega (arith, c.shared_slice_known-in-loop-t-1.given c.loop-t.at)) }
 
-pub returns-then-next-gt-HYPER_LIMIT : goal.returns-then-next-gt-HYPER_LIMIT
-returns-then-next-gt-HYPER_LIMIT c = passed_here c.requires c.loop-t.invariant (omega arith) c.common_divisor-g.ensures.0 c.if-next-gt-HYPER_LIMIT.true
+pub returns-then-is_long : goal.returns-then-is_long
+returns-then-is_long c = passed_here c.requires c.loop-t.invariant (omega arith) c.common_divisor-g.ensures.0 c.if-is_long.true
 
 pub task_size-at-requires : goal.task_size-at-requires
 task_size-at-requires c = let o = c.requires in omega (arith, o.counted, o.whole.rates_range.1)
@@ -46,7 +46,7 @@ pub overflow_add-at : goal.overflow_add-at
 overflow_add-at c = omega (arith, task_in c.requires c.loop-t.invariant (omega arith), c.task_size-at.ensures)
 
 pub loop-t-preserved : goal.loop-t-preserved
-loop-t-preserved c = rw c.task_size-at.ensures (next_turn c.requires c.loop-t.invariant (omega arith) c.common_divisor-g.ensures.0 c.if-next-gt-HYPER_LIMIT.false)
+loop-t-preserved c = rw c.task_size-at.ensures (next_turn c.requires c.loop-t.invariant (omega arith) c.common_divisor-g.ensures.0 c.if-is_long.false)
 
 pub returns : goal.returns
 returns c = all_followed c.loop-t.invariant (omega arith)

@@ -15,12 +15,12 @@ fastest_sum-fastest-requires c =
     let given : SetGiven c.args.layout c.args.set.now c.args.rates c.args.tasks c.args.hyper = c.requires.set_given in
     sum_given given c.put_tasks.ensures
 
-pub returns-then-hyper-fastest : goal.returns-then-hyper-fastest
-returns-then-hyper-fastest c =
+pub returns-then-is_too_much : goal.returns-then-is_too_much
+returns-then-is_too_much c =
     let given : SetGiven c.args.layout c.args.set.now c.args.rates c.args.tasks c.args.hyper = c.requires.set_given in
     record {
       laid = c.put_tasks.ensures;
-      posed = none_fits given c.put_tasks.ensures c.fastest_sum-fastest.ensures c.if-hyper-fastest.true;
+      posed = none_fits given c.put_tasks.ensures c.fastest_sum-fastest.ensures c.if-is_too_much.true;
     }
 
 pub overflow_cast-limit : goal.overflow_cast-limit
@@ -39,6 +39,6 @@ returns c =
     record {
       laid = c.put_tasks.ensures;
       posed =
-          posed given c.put_tasks.ensures c.fastest_sum-fastest.ensures c.if-hyper-fastest.false
+          posed given c.put_tasks.ensures c.fastest_sum-fastest.ensures c.if-is_too_much.false
           c.slack_of.ensures;
     }

@@ -11,8 +11,8 @@ returns-then-v-lt10 c = sym (length_small _ (omega arith))
 pub returns-then-v-lt100 : goal.returns-then-v-lt100
 returns-then-v-lt100 c = sym (length-between 1 _ (omega arith) (omega arith) (omega arith))
 
-pub returns-then-v-lt1000 : goal.returns-then-v-lt1000
-returns-then-v-lt1000 c = sym (length-between 2 _ (omega arith) (omega arith) (omega arith))
+pub returns-then-is_of_three : goal.returns-then-is_of_three
+returns-then-is_of_three c = sym (length-between 2 _ (omega arith) (omega arith) (omega arith))
 
 pub returns-then-v-lt10000 : goal.returns-then-v-lt10000
 returns-then-v-lt10000 c = sym (length-between 3 _ (omega arith) (omega arith) (omega arith))

@@ -16,8 +16,8 @@ overflow_add-result c =
     let read : Stands (Digit c.in-Digit.d) c.args.s.now c.args.at = rw c.in-Digit.is at c.step.ensures in
     omega (arith, read)
 
-pub returns-then-d-eq0 : goal.returns-then-d-eq0
-returns-then-d-eq0 c =
+pub returns-then-is_zero : goal.returns-then-is_zero
+returns-then-is_zero c =
     let read : Stands (Digit c.in-Digit.d) c.args.s.now c.args.at = rw c.in-Digit.is at c.step.ensures in
     sym (laws.number-zero _ _ _ read (omega (arith, read)))
 
@@ -30,4 +30,4 @@ pub returns : goal.returns
 returns c =
     let read : Stands (Digit c.in-Digit.d) c.args.s.now c.args.at = rw c.in-Digit.is at c.step.ensures in
     let h = read in
-    c.more.ensures ∙ sym (laws.number_on _ _ c.in-Digit.d h (omega (arith, c.if-d-eq0.false)))
+    c.more.ensures ∙ sym (laws.number_on _ _ c.in-Digit.d h (omega (arith, c.if-is_zero.false)))

@@ -14,7 +14,7 @@ use Rattle.ticks.proofs.Jobs.{pick_some, early_set}
 use Rattle.ticks.proofs.Stretches.{InStretch, made_fits, stretch_ready, stretch_on}
 use Rattle.ticks.proofs.Loops.{steady, first_tick, turns_come, turn_over, stretch_comes, next_tick}
 use Rattle.ticks.proofs.run.Goals as goal
-use Rattle.ticks.proofs.run.Goals.{else-ticks-test, then-ticks-test+then-loop-i-test+then-s-i+then-s-i-gt0, then-ticks-test+else-loop-i-test+then-t-end, then-s-i+else-s-i-gt0, else-s-i, then-job-gt0, else-job-gt0, Joined-job-gt0, Else-late-gt0}
+use Rattle.ticks.proofs.run.Goals.{else-ticks-test, then-ticks-test+then-loop-i-test+then-s-i+then-is_late, then-ticks-test+else-loop-i-test+then-t-end, then-s-i+else-is_late, else-s-i, then-job-gt0, else-job-gt0, Joined-job-gt0, Else-late-gt0}
 
 -- Where no task was late, the loop over the ticks was left at `end`, after all turns.
 record Over (k : ℕ → Task) (n end t : ℕ) (s : State) : Type 0 where
@@ -27,7 +27,7 @@ at_end : (c : Else-late-gt0) →
 at_end c =
     elim c.ticks-test.branch [
       | else-ticks-test w ↦ absurd (omega (arith, c.ticks.invariant.reached, w.ticks-test.false))
-      | then-ticks-test+then-loop-i-test+then-s-i+then-s-i-gt0 w ↦ absurd (omega (arith, w.late-is, c.if-late-gt0.false))
+      | then-ticks-test+then-loop-i-test+then-s-i+then-is_late w ↦ absurd (omega (arith, w.late-is, c.if-late-gt0.false))
       | then-ticks-test+else-loop-i-test+then-t-end w ↦
           let v = w.loop-i.invariant in
           rw w.s-is
@@ -72,10 +72,10 @@ loop-i-preserved c =
     let i = c.loop-i.i in
     let lt = c.loop-i-test.true in
     elim c.if-s-i.branch [
-      | then-s-i+else-s-i-gt0 b ↦
+      | then-s-i+else-is_late b ↦
           rw b.s-is (turn_over v lt
           (part_take lt v.part (omega (arith, v.early)) (omega (arith, v.early)) (steady c.requires i lt)
-          b.if-s-i.true (omega (arith, b.if-s-i-gt0.false)))
+          b.if-s-i.true (omega (arith, b.if-is_late.false)))
           (counted_on v.counts _ _) (early_set _ _ _ i _ _ (omega (arith, v.early)) (deadline lt) v.early)
           (λ j x. get_or-set_other c.loop-i.s.due i j _ 0 (λ e. absurd (omega arith))) (rw b.s-is at c.lesser-next.ensures))
       | else-s-i b ↦
@@ -138,10 +138,10 @@ pub returns-then-late-gt0 : goal.returns-then-late-gt0
 returns-then-late-gt0 c = let v = c.ticks.invariant in
     elim c.ticks-test.branch [
       | else-ticks-test w ↦ absurd (omega (arith, v.on_time, w.ticks-test.false))
-      | then-ticks-test+then-loop-i-test+then-s-i+then-s-i-gt0 w ↦
+      | then-ticks-test+then-loop-i-test+then-s-i+then-is_late w ↦
           let here = w.loop-i in
           let lt = w.loop-i-test.true in
-          let m = part_miss lt here.invariant.part (steady c.requires here.i lt) w.if-s-i.true w.if-s-i-gt0.true in
+          let m = part_miss lt here.invariant.part (steady c.requires here.i lt) w.if-s-i.true w.if-is_late.true in
           sym v.rest ∙ walk_from_miss _ c.ticks.t (c.args.end - c.ticks.t) m.0 ∙ ap (missed c.ticks.t) (m.1 ∙ sym w.late-is)
       | then-ticks-test+else-loop-i-test+then-t-end w ↦ absurd (omega (arith, w.loop-i.invariant.on_time))
     ]
