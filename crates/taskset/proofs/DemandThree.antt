@@ -4,6 +4,7 @@
 -- list that passes checks 2, 3, 10 and 4 is sound: those plans are the ones that keep every deadline for ever, judged by
 -- the endless walk, and every energy counts the idle ticks.
 -- Assumes nothing.
+use Rattle.std.specs.Prelude.{Ok, Err}
 use Prim.Native.Nat.{ℕ, ◌+◌, ◌-◌, ◌*◌, ◌^◌, ◌≤◌, ◌<◌}
 use native.Mathlib.Nat.{mul-add, mul-le-mul_right}
 use mathlib.Core.Path.{◌≡◌, refl, sym, ap, subst, ◌∙◌}
@@ -32,10 +33,6 @@ use Rattle.taskset.specs.Planning.{Planning, Keeps, AreFirsts, planning, layout_
 use Rattle.taskset.specs.DemandThree.{margin, PlanPromise, NoneKeeps, PlanOwes, Together, WalkOwes}
 use Rattle.taskset.specs.declared.Engine.{Engine}
 use Rattle.taskset.specs.declared.Engine.TheVariants.{Table, Exhaustive}
-use Rattle.taskset.specs.declared.PlannerAnswer.{PlannerAnswer}
-use Rattle.taskset.specs.declared.PlannerAnswer.TheVariants.{Planned, Refused as NotPlanned}
-use Rattle.taskset.specs.declared.WalkAnswer.{WalkAnswer}
-use Rattle.taskset.specs.declared.WalkAnswer.TheVariants.{Kept, Missed, Refused as NotWalked}
 use Rattle.taskset.proofs.Checks.{no_plan_fault, numbered, lacks, Without, without_by, accepts_but_last}
 use Rattle.taskset.proofs.Checks.{refuses_next, refuses_cases, refuses_last, passed, not-both}
 use Rattle.layout.proofs.Whole.{slack_in, first_in}
@@ -45,6 +42,8 @@ use Rattle.taskset.proofs.Sets.{set_of, regular, walk-load, keeps_iff_load}
 use Rattle.taskset.proofs.Released.{load_keeps, keeps_load, together_last, together_tasks}
 use Rattle.taskset.specs.Sets.{Covered}
 use Rattle.taskset.proofs.Idle.{covered_of_lem, reported_is}
+use Rattle.taskset.specs.Answers.{PlannerAnswer, WalkAnswer, ok_planned}
+use Rattle.taskset.specs.declared.WalkEnd.TheVariants.{Kept, Missed}
 
 -- ---- anything that is planned
 -- What the theorem asks: a plan is compared with exactly when it fits, and grants then what it is to grant; and what is
@@ -84,7 +83,7 @@ module _ (m : Planning) (sound : Sound m) where
 
   -- A plan given keeps demand 3's promise, and note 5's.
   pub plan_given_lem : (P : List ℕ) (unit load hyper energy : ℕ)
-      → Selected m P (planner_values (Planned unit load hyper energy)) → PlanPromise m P unit energy
+      → Selected m P (planner_values (ok_planned unit load hyper energy)) → PlanPromise m P unit energy
   plan_given_lem P unit load hyper energy c =
       let e = c.values_are in
       let own : energy ≡ m.energy P = cc in
@@ -143,10 +142,10 @@ module _ (m : Planning) (cs : List Check) (plans : Plans m cs) where
   -- Whatever meets the definition of what such a call gives keeps what demand 3 asks of it.
   pub answer_owes : (plan plan' : List ℕ) (a : PlannerAnswer)
       → PlanGives (cs ▹ last) m plan plan' a → PlanOwes cs m plan' a
-  answer_owes plan plan' (Planned unit load hyper energy) g =
+  answer_owes plan plan' (Ok p) g =
       let ready = accepts_but_last cs last g.0 in
-      rw g.1.2.front (plan_given_lem m (plans.sound ready) g.1.0 unit load hyper energy g.1.1)
-  answer_owes plan plan' (NotPlanned r) g =
+      rw g.1.2.front (plan_given_lem m (plans.sound ready) g.1.0 p.unit p.load p.hyper p.energy g.1.1)
+  answer_owes plan plan' (Err r) g =
       let owes = refusal_owes (number r) (second r) g.0 in
       (owes.0, (λ w. (owes.1 w).0))
 
@@ -307,7 +306,7 @@ walk-set s P a = set_of Ordinary s (passed 2 (walk_checks s P) refl a) (passed 3
 
 -- Whatever meets the walk's definition keeps what the walk owes.
 pub walk_owes : (s P : List ℕ) (a : WalkAnswer) → WalkAnswers s P a → WalkOwes s P a
-walk_owes s P (Kept b i p) h =
+walk_owes s P (Ok (Kept b i p)) h =
     let set = walk-set s P h.0 in
     let o = outcome_kept (walk_of s P) b i p h.1 in
     record {
@@ -318,11 +317,11 @@ walk_owes s P (Kept b i p) h =
         walk_busy s set P zero b i p o,
       );
     }
-walk_owes s P (Missed t k) h =
+walk_owes s P (Ok (Missed t k)) h =
     let set = walk-set s P h.0 in
     let o = outcome_missed (walk_of s P) t k h.1 in
     record {
       from_these = λ keeps. subst IsKept o (keeps_kept (walk_tasks Ordinary s P) (last_tick Ordinary s) keeps);
       from_0 = λ keeps. subst IsKept o (walk_kept s set P ((keeps_iff_load Ordinary s set P).0 keeps));
     }
-walk_owes s P (NotWalked r) h = tt
+walk_owes s P (Err r) h = tt

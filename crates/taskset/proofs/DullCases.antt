@@ -17,11 +17,11 @@ use Rattle.taskset.specs.Refusals.{many_check, planner_checks}
 use Rattle.taskset.specs.declared.Engine.TheVariants.{Exhaustive}
 use Rattle.taskset.specs.declared.Refusal.{Refusal}
 use Rattle.taskset.specs.declared.Refusal.TheVariants.{TooLong, TooManyPlans}
-use Rattle.taskset.specs.declared.Checked.TheVariants.{Good}
 use Rattle.taskset.proofs.Checks.{nothing, same, refuses_early, refuses_next}
 use Rattle.taskset.proofs.Verdict.{is_bad, is_fall, is_over, is_below, has_below, shape_of}
 use Rattle.taskset.proofs.Verdict.{cover_of, after_shape, covered_of}
 use Rattle.taskset.proofs.Declined.{Declines, set, answered, set_refused}
+use Rattle.taskset.specs.Answers.{ok_measured}
 
 -- n tasks of 1 cycle, released together, with m energies of 1; the last has period p, the others q.
 tasks : ℕ → ℕ → ℕ → ℕ → List ℕ
@@ -37,13 +37,13 @@ abbrev pub DullDeclined : List ℕ → Refusal → Type 0
 DullDeclined = Declines Exhaustive
 
 module _ (s : List ℕ) where
-  too_many : (m n l : ℕ) → covered_of Ordinary s ≡ Good m n l
+  too_many : (m n l : ℕ) → covered_of Ordinary s ≡ ok_measured m n l
       → most_plans < rate_count Ordinary s ^ task_count Ordinary s → DullDeclined s TooManyPlans
   too_many m n l e over plan work = (
     (
       refuses_early (set Ordinary s ▹ many_check Ordinary s) (planner_checks Exhaustive s (length plan) (length work))
           (same (same (same (same (same nothing)))))
-          11 0 (refuses_next (set Ordinary s) (many_check Ordinary s) 0 (answered Ordinary s (Good m n l) e).0 (refl, over)),
+          11 0 (refuses_next (set Ordinary s) (many_check Ordinary s) 0 (answered Ordinary s (ok_measured m n l) e).0 (refl, over)),
       refl,
     ),
     refl,

@@ -33,10 +33,10 @@ use Rattle.taskset.specs.Planning.{planning, layout_of, work_of}
 use Rattle.taskset.specs.Calls.{DifferInFirsts, PlannerGives}
 use Rattle.taskset.specs.declared.Engine.{Engine}
 use Rattle.taskset.specs.declared.Engine.TheVariants.{Table, Exhaustive}
-use Rattle.taskset.specs.declared.PlannerAnswer.{PlannerAnswer}
 use Rattle.taskset.proofs.Sets.{job_time_at, job_energy_at}
 use Rattle.taskset.proofs.Checks.{no_word_fault, Agree, AllAgree, ◌then◌, no_more}
 use Rattle.taskset.proofs.SamePlanning.{SamePlanning, plan_same, work-after_same}
+use Rattle.taskset.specs.Answers.{PlannerAnswer}
 
 -- ---- the words that the planner reads
 -- Two lists agree in every word but the first releases, named by what they stand for.

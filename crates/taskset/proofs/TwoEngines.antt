@@ -3,6 +3,7 @@
 -- the planner makes 5 where the dull engine makes 11. So 5 and 11 apart they give one answer and one plan list, and
 -- succeed on the same sets.
 -- Assumes nothing.
+use Rattle.std.specs.Prelude.{Ok, Err}
 use Prim.Native.Nat.{ℕ}
 use mathlib.Core.Path.{◌≡◌}
 use mathlib.Core.List.{List, [], ◌∷◌, ◌++◌}
@@ -17,29 +18,28 @@ use Rattle.taskset.specs.Refusals.{work_check, room_check, none_check, planner_c
 use Rattle.taskset.specs.Planning.{Planning, planning}
 use Rattle.taskset.specs.declared.Engine.TheVariants.{Table, Exhaustive}
 use Rattle.taskset.specs.Calls.{PlanGives, PlannerGives}
-use Rattle.taskset.specs.declared.PlannerAnswer.{PlannerAnswer}
-use Rattle.taskset.specs.declared.PlannerAnswer.TheVariants.{Planned, Refused as NotPlanned}
 use Rattle.taskset.proofs.Checks.{AllSingle, accepts_leave, accepts_take, refuses_leave, refuses_take}
 use Rattle.taskset.proofs.SamePlanning.{untouched}
 use Rattle.taskset.proofs.Unique.{none_single, single_next, short_single}
 use Rattle.taskset.proofs.Unique.{covered_single, planned-one, plan_unique}
+use Rattle.taskset.specs.Answers.{PlannerAnswer, ok_planned}
 
 -- The number of an answer's refusal; 0 with a plan.
 abbrev pub refused_with : PlannerAnswer → ℕ
-refused_with (Planned unit load hyper energy) = 0
-refused_with (NotPlanned r) = number r
+refused_with (Ok p) = 0
+refused_with (Err r) = number r
 
 -- What a call gives that makes one check less, or one more that passes.
 module _ (cs : List Check) (c : Check) (ds : List Check) (m : Planning) (plan plan' : List ℕ) where
   pub leave : (a : PlannerAnswer) → ((k : ℕ) → (refused_with a ≡ c.number) × c.cause k → ⊥)
       → PlanGives (cs ++ (c ∷ ds)) m plan plan' a → PlanGives (cs ++ ds) m plan plan' a
-  leave (Planned u l h e) not g = (accepts_leave c ds cs g.0, g.1)
-  leave (NotPlanned r) not g = (refuses_leave c ds cs (number r) (second r) (not (second r)) g.0, g.1)
+  leave (Ok p) not g = (accepts_leave c ds cs g.0, g.1)
+  leave (Err r) not g = (refuses_leave c ds cs (number r) (second r) (not (second r)) g.0, g.1)
 
   take_in : (a : PlannerAnswer) → Passes c → PlanGives (cs ++ ds) m plan plan' a
       → PlanGives (cs ++ (c ∷ ds)) m plan plan' a
-  take_in (Planned u l h e) pass g = (accepts_take c ds cs pass g.0, g.1)
-  take_in (NotPlanned r) pass g = (refuses_take c ds cs (number r) (second r) pass g.0, g.1)
+  take_in (Ok p) pass g = (accepts_take c ds cs pass g.0, g.1)
+  take_in (Err r) pass g = (refuses_take c ds cs (number r) (second r) pass g.0, g.1)
 
 module _ (s : List ℕ) where
   -- What both plan, and the checks that both make, before 5 or 11 and after it.
@@ -73,9 +73,9 @@ module _ (s : List ℕ) where
   -- On one plan list, with whatever working lists.
   module _ (plan work work' plan₁ work₁ plan₂ work₂ : List ℕ) where
     -- "where both succeed the four numbers and the plan list are equal"
-    pub both-planned : (u l h e u' l' h' e' : ℕ) → PlannerGives (Table Ordinary) s plan work plan₁ work₁ (Planned u l h e)
-        → PlannerGives Exhaustive s plan work' plan₂ work₂ (Planned u' l' h' e')
-        → (Planned u l h e ≡ Planned u' l' h' e') × (plan₁ ≡ plan₂)
+    pub both-planned : (u l h e u' l' h' e' : ℕ) → PlannerGives (Table Ordinary) s plan work plan₁ work₁ (ok_planned u l h e)
+        → PlannerGives Exhaustive s plan work' plan₂ work₂ (ok_planned u' l' h' e')
+        → (ok_planned u l h e ≡ ok_planned u' l' h' e') × (plan₁ ≡ plan₂)
     both-planned u l h e u' l' h' e' x y =
         planned-one (planner_checks (Table Ordinary) s (length plan) (length work))
         (planner_checks Exhaustive s (length plan) (length work')) both plan plan₁ plan₂ u l h e u' l' h' e' x.0 y.0

@@ -1,6 +1,7 @@
 -- Each call's answer is one: two answers, with what they leave in the lists, that meet the definitions on the same lent
 -- lists are equal.
 -- Assumes nothing.
+use Rattle.std.specs.Prelude.{Ok, Err}
 use Prim.Native.Nat.{ℕ, ◌≤◌}
 use native.Mathlib.Bridge.{le_by_compare, IsLe}
 use mathlib.Core.Path.{◌≡◌, refl, sym, ap, subst, ◌∙◌}
@@ -27,18 +28,10 @@ use Rattle.taskset.specs.declared.Refusal.{Refusal}
 use Rattle.taskset.specs.declared.Refusal.TheVariants.{TextDeparts, BadWord, NotAbove, TooLong, WorkShort}
 use Rattle.taskset.specs.declared.Refusal.TheVariants.{TooShort, NoPlan, BadPlan}
 use Rattle.taskset.specs.declared.Refusal.TheVariants.{EnergyOver, BelowIdle, TooManyPlans}
-use Rattle.taskset.specs.declared.Shape.{Shape}
-use Rattle.taskset.specs.declared.Shape.TheVariants.{Whole, Refused as NotWhole}
-use Rattle.taskset.specs.declared.Checked.{Checked}
-use Rattle.taskset.specs.declared.Checked.TheVariants.{Good, Refused as NotGood}
-use Rattle.taskset.specs.declared.PlannerAnswer.{PlannerAnswer}
-use Rattle.taskset.specs.declared.PlannerAnswer.TheVariants.{Planned, Refused as NotPlanned}
-use Rattle.taskset.specs.declared.WalkAnswer.{WalkAnswer}
-use Rattle.taskset.specs.declared.WalkAnswer.TheVariants.{Kept, Missed, Refused as NotWalked}
-use Rattle.taskset.specs.declared.CopyAnswer.{CopyAnswer}
-use Rattle.taskset.specs.declared.CopyAnswer.TheVariants.{Wrote, Refused as NotCopied}
 use Rattle.taskset.proofs.Copied.{SameCopied, copied_one}
 use Rattle.taskset.proofs.Checks.{Single, AllSingle, single_join, lowest_single, too_long_single, not-both, refuses_unique}
+use Rattle.taskset.specs.Answers.{Checked, CopyAnswer, PlannerAnswer, Shape, WalkAnswer, ok_counts, ok_measured, ok_planned}
+use Rattle.taskset.specs.declared.WalkEnd.TheVariants.{Kept, Missed}
 
 -- A refusal is its number and its second number.
 refusal : ℕ → ℕ → Refusal
@@ -92,8 +85,8 @@ refusal_unique cs a p r x y =
 pub short_single : (needed lent : ℕ) (j k : ℕ) → IsShort needed lent j → IsShort needed lent k → j ≡ k
 short_single needed lent j k a b = a.1 ∙ sym b.1
 
-pub none_single : (Ok : List ℕ → Type 0) (j k : ℕ) → NoneOk Ok j → NoneOk Ok k → j ≡ k
-none_single Ok j k a b = a.0 ∙ sym b.0
+pub none_single : (Suits : List ℕ → Type 0) (j k : ℕ) → NoneOk Suits j → NoneOk Suits k → j ≡ k
+none_single Suits j k a b = a.0 ∙ sym b.0
 
 -- ---- the checks of each call: every cause has one second number
 pub single_next : (cs : List Check) (c : Check) → AllSingle cs → Single c → AllSingle (cs ▹ c)
@@ -139,25 +132,27 @@ walk_single s P = single_next (word_checks Ordinary s ▹ hyper_check Ordinary s
 -- ---- what checks answer
 module _ (cs : List Check) (single : AllSingle cs) (layout : Layout) (s : List ℕ) where
   pub counts_unique : (a b : Shape) → CountsAfter cs layout s a → CountsAfter cs layout s b → a ≡ b
-  counts_unique (Whole m n) (Whole m' n') x y = cc (x.1, y.1, x.2, y.2)
-  counts_unique (Whole m n) (NotWhole r) x y = absurd (not-both cs (number r) (second r) x.0 y)
-  counts_unique (NotWhole r) (Whole m n) x y = absurd (not-both cs (number r) (second r) y.0 x)
-  counts_unique (NotWhole q) (NotWhole r) x y = ap NotWhole (refusal_unique cs single q r x y)
+  counts_unique (Ok p) (Ok q) x y =
+      let e : ok_counts p.rates p.tasks ≡ ok_counts q.rates q.tasks = cc (x.1, y.1, x.2, y.2) in e
+  counts_unique (Ok p) (Err r) x y = absurd (not-both cs (number r) (second r) x.0 y)
+  counts_unique (Err r) (Ok p) x y = absurd (not-both cs (number r) (second r) y.0 x)
+  counts_unique (Err q) (Err r) x y = ap Err (refusal_unique cs single q r x y)
 
   pub set_unique : (a b : Checked) → SetAfter cs layout s a → SetAfter cs layout s b → a ≡ b
-  set_unique (Good m n l) (Good m' n' l') x y = cc (x.1, y.1, x.2, y.2, x.3, y.3)
-  set_unique (Good m n l) (NotGood r) x y = absurd (not-both cs (number r) (second r) x.0 y)
-  set_unique (NotGood r) (Good m n l) x y = absurd (not-both cs (number r) (second r) y.0 x)
-  set_unique (NotGood q) (NotGood r) x y = ap NotGood (refusal_unique cs single q r x y)
+  set_unique (Ok p) (Ok q) x y =
+      let e : ok_measured p.rates p.tasks p.hyper ≡ ok_measured q.rates q.tasks q.hyper = cc (x.1, y.1, x.2, y.2, x.3, y.3) in e
+  set_unique (Ok p) (Err r) x y = absurd (not-both cs (number r) (second r) x.0 y)
+  set_unique (Err r) (Ok p) x y = absurd (not-both cs (number r) (second r) y.0 x)
+  set_unique (Err q) (Err r) x y = ap Err (refusal_unique cs single q r x y)
 
 -- ---- a call that copies, after checks that each hold with one second number at most.
 pub copy_unique : (cs : List Check) → AllSingle cs → (ws d d₁ d₂ : List ℕ) (a b : CopyAnswer)
     → CopyGives cs ws d d₁ a → CopyGives cs ws d d₂ b → SameCopied a b d₁ d₂
-copy_unique cs single ws d d₁ d₂ (Wrote n) (Wrote k) x y = copied_one ws d d₁ d₂ (Wrote n) (Wrote k) x.1 y.1
-copy_unique cs single ws d d₁ d₂ (Wrote n) (NotCopied r) x y = absurd (not-both cs (number r) (second r) x.0 y.0)
-copy_unique cs single ws d d₁ d₂ (NotCopied r) (Wrote n) x y = absurd (not-both cs (number r) (second r) y.0 x.0)
-copy_unique cs single ws d d₁ d₂ (NotCopied q) (NotCopied r) x y = record {
-  answer = ap NotCopied (refusal_unique cs single q r x.0 y.0);
+copy_unique cs single ws d d₁ d₂ (Ok n) (Ok k) x y = copied_one ws d d₁ d₂ (Ok n) (Ok k) x.1 y.1
+copy_unique cs single ws d d₁ d₂ (Ok n) (Err r) x y = absurd (not-both cs (number r) (second r) x.0 y.0)
+copy_unique cs single ws d d₁ d₂ (Err r) (Ok n) x y = absurd (not-both cs (number r) (second r) y.0 x.0)
+copy_unique cs single ws d d₁ d₂ (Err q) (Err r) x y = record {
+  answer = ap Err (refusal_unique cs single q r x.0 y.0);
   list = x.1 ∙ sym y.1;
 }
 
@@ -171,8 +166,8 @@ selected_unique m P Q v w x y =
 
 -- A plan is one, whatever the checks.
 pub planned-one : (cs ds : List Check) (m : Planning) (plan plan₁ plan₂ : List ℕ) (u l h e u' l' h' e' : ℕ)
-    → PlanGives cs m plan plan₁ (Planned u l h e) → PlanGives ds m plan plan₂ (Planned u' l' h' e')
-    → (Planned u l h e ≡ Planned u' l' h' e') × (plan₁ ≡ plan₂)
+    → PlanGives cs m plan plan₁ (ok_planned u l h e) → PlanGives ds m plan plan₂ (ok_planned u' l' h' e')
+    → (ok_planned u l h e ≡ ok_planned u' l' h' e') × (plan₁ ≡ plan₂)
 planned-one cs ds m plan p₁ p₂ u l h e u' l' h' e' x y =
     let n : ℕ = m.problem.count in
     let same = selected_unique m x.1.0 y.1.0 _ _ x.1.1 y.1.1 in
@@ -185,21 +180,21 @@ planned-one cs ds m plan p₁ p₂ u l h e u' l' h' e' x y =
 module _ (cs : List Check) (single : AllSingle cs) (m : Planning) (plan : List ℕ) where
   pub plan_unique : (plan₁ plan₂ : List ℕ) (a b : PlannerAnswer)
       → PlanGives cs m plan plan₁ a → PlanGives cs m plan plan₂ b → (a ≡ b) × (plan₁ ≡ plan₂)
-  plan_unique p₁ p₂ (Planned u l h e) (Planned u' l' h' e') x y = planned-one cs cs m plan p₁ p₂ u l h e u' l' h' e' x y
-  plan_unique p₁ p₂ (Planned u l h e) (NotPlanned r) x y = absurd (not-both cs (number r) (second r) x.0 y.0)
-  plan_unique p₁ p₂ (NotPlanned r) (Planned u l h e) x y = absurd (not-both cs (number r) (second r) y.0 x.0)
-  plan_unique p₁ p₂ (NotPlanned q) (NotPlanned r) x y =
-      (ap NotPlanned (refusal_unique cs single q r x.0 y.0), x.1 ∙ sym y.1)
+  plan_unique p₁ p₂ (Ok p) (Ok q) x y = planned-one cs cs m plan p₁ p₂ p.unit p.load p.hyper p.energy q.unit q.load q.hyper q.energy x y
+  plan_unique p₁ p₂ (Ok p) (Err r) x y = absurd (not-both cs (number r) (second r) x.0 y.0)
+  plan_unique p₁ p₂ (Err r) (Ok p) x y = absurd (not-both cs (number r) (second r) y.0 x.0)
+  plan_unique p₁ p₂ (Err q) (Err r) x y =
+      (ap Err (refusal_unique cs single q r x.0 y.0), x.1 ∙ sym y.1)
 
 work_unique : (w : ℕ) (work work₁ work₂ : List ℕ) (a : PlannerAnswer)
     → WorkAfter w work work₁ a → WorkAfter w work work₂ a → work₁ ≡ work₂
-work_unique w work w₁ w₂ (Planned u l h e) x y = x ∙ sym y
-work_unique w work w₁ w₂ (NotPlanned r) x y = x ∙ sym y
+work_unique w work w₁ w₂ (Ok p) x y = x ∙ sym y
+work_unique w work w₁ w₂ (Err r) x y = x ∙ sym y
 
 -- The plan that an answer gives, in the plan list given back: its first N words; with a refusal, none.
 abbrev pub plan_given : Planning → List ℕ → PlannerAnswer → List ℕ
-plan_given m plan' (Planned unit load hyper energy) = take m.problem.count plan'
-plan_given m plan' (NotPlanned r) = []
+plan_given m plan' (Ok p) = take m.problem.count plan'
+plan_given m plan' (Err r) = []
 
 -- What is given for a plan list is given for any other, if only the checks are the same: with the same plan, and the
 -- rest as it was.
@@ -210,7 +205,7 @@ record GivenFor (cs : List Check) (m : Planning) (plan P : List ℕ) (a : Planne
 
 given_for : (cs : List Check) (m : Planning) (plan plan' : List ℕ) (a : PlannerAnswer) → PlanGives cs m plan plan' a
     → (plan₂ : List ℕ) → GivenFor cs m plan₂ (plan_given m plan' a) a
-given_for cs m plan plan' (Planned unit load hyper energy) g plan₂ =
+given_for cs m plan plan' (Ok p) g plan₂ =
     let n : ℕ = m.problem.count in
     let P : List ℕ = g.1.0 in
     let size : length P ≡ n = g.1.1.planned.chosen.ok.plan.size in
@@ -220,7 +215,7 @@ given_for cs m plan plan' (Planned unit load hyper energy) g plan₂ =
       gives = (g.0, (P, g.1.1, record { front = front; rest = drop_at P (drop n plan₂) n size }));
       same = front ∙ sym g.1.2.front;
     }
-given_for cs m plan plan' (NotPlanned r) g plan₂ = record { plan' = plan₂; gives = (g.0, refl); same = refl }
+given_for cs m plan plan' (Err r) g plan₂ = record { plan' = plan₂; gives = (g.0, refl); same = refl }
 
 -- So the answer and the plan are known by what is planned and by what the checks look at.
 pub record SamePlan (m : Planning) (a b : PlannerAnswer) (plan₁ plan₂ : List ℕ) : Type 0 where
@@ -264,12 +259,12 @@ planner_by_lengths e s plan₁ work₁ p₁ w₁ plan₂ work₂ p₂ w₂ a b f
 
 -- ---- the walk
 pub walk_unique : (s P : List ℕ) (a b : WalkAnswer) → WalkAnswers s P a → WalkAnswers s P b → a ≡ b
-walk_unique s P (Kept b i p) (Kept b' i' p') x y = let e = x.1 ∙ sym y.1 in cc
-walk_unique s P (Kept b i p) (Missed t k) x y = let e = x.1 ∙ sym y.1 in cc
-walk_unique s P (Kept b i p) (NotWalked r) x y = absurd (not-both (walk_checks s P) (number r) (second r) x.0 y)
-walk_unique s P (Missed t k) (Kept b i p) x y = let e = x.1 ∙ sym y.1 in cc
-walk_unique s P (Missed t k) (Missed t' k') x y = let e = x.1 ∙ sym y.1 in cc
-walk_unique s P (Missed t k) (NotWalked r) x y = absurd (not-both (walk_checks s P) (number r) (second r) x.0 y)
-walk_unique s P (NotWalked r) (Kept b i p) x y = absurd (not-both (walk_checks s P) (number r) (second r) y.0 x)
-walk_unique s P (NotWalked r) (Missed t k) x y = absurd (not-both (walk_checks s P) (number r) (second r) y.0 x)
-walk_unique s P (NotWalked q) (NotWalked r) x y = ap NotWalked (refusal_unique (walk_checks s P) (walk_single s P) q r x y)
+walk_unique s P (Ok (Kept b i p)) (Ok (Kept b' i' p')) x y = let e = x.1 ∙ sym y.1 in cc
+walk_unique s P (Ok (Kept b i p)) (Ok (Missed t k)) x y = let e = x.1 ∙ sym y.1 in cc
+walk_unique s P (Ok (Kept b i p)) (Err r) x y = absurd (not-both (walk_checks s P) (number r) (second r) x.0 y)
+walk_unique s P (Ok (Missed t k)) (Ok (Kept b i p)) x y = let e = x.1 ∙ sym y.1 in cc
+walk_unique s P (Ok (Missed t k)) (Ok (Missed t' k')) x y = let e = x.1 ∙ sym y.1 in cc
+walk_unique s P (Ok (Missed t k)) (Err r) x y = absurd (not-both (walk_checks s P) (number r) (second r) x.0 y)
+walk_unique s P (Err r) (Ok (Kept b i p)) x y = absurd (not-both (walk_checks s P) (number r) (second r) y.0 x)
+walk_unique s P (Err r) (Ok (Missed t k)) x y = absurd (not-both (walk_checks s P) (number r) (second r) y.0 x)
+walk_unique s P (Err q) (Err r) x y = ap Err (refusal_unique (walk_checks s P) (walk_single s P) q r x y)

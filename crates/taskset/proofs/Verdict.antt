@@ -1,6 +1,7 @@
 -- Checks 2 and 3, 10 after them, and 4 after either, as functions that compute, and that their verdicts are those that the
 -- definitions give.
 -- Assumes nothing.
+use Rattle.std.specs.Prelude.{Ok, Err}
 use Prim.Native.Nat.{ℕ, suc, ◌-◌, ◌*◌, ◌≤◌, ◌<◌}
 use mathlib.Core.Path.{◌≡◌, refl, sym, ◌∙◌, subst}
 use mathlib.Core.Bool.{Bool, cond, not, true≢false}
@@ -21,13 +22,10 @@ use Rattle.taskset.specs.Refusals.{IsBadWord, RateFault, IsNotAbove, IsBelowIdle
 use Rattle.taskset.specs.Refusals.{second, Check, ◌▹◌, idle_check, hyper_check, word_checks, idle_checks}
 use Rattle.taskset.specs.Calls.{CountsAfter, SetAfter}
 use Rattle.taskset.specs.declared.Refusal.TheVariants.{BadWord, NotAbove, TooLong, BelowIdle}
-use Rattle.taskset.specs.declared.Shape.{Shape}
-use Rattle.taskset.specs.declared.Shape.TheVariants.{Whole, Refused as NotWhole}
-use Rattle.taskset.specs.declared.Checked.{Checked}
-use Rattle.taskset.specs.declared.Checked.TheVariants.{Good, Refused as NotGood}
 use Rattle.taskset.proofs.Checks.{accepts_next, refuses_next, refuses_before}
 use Rattle.taskset.specs.Sets.{Covered, Below}
 use Rattle.taskset.proofs.Idle.{covered_passes, first_below}
+use Rattle.taskset.specs.Answers.{Checked, Shape, ok_counts, ok_measured}
 
 module _ (layout : Layout) (s : List ℕ) where
   unfoldable pub is_bad : ℕ → Bool
@@ -55,10 +53,10 @@ module _ (layout : Layout) (s : List ℕ) where
 
   unfoldable pub shape_of : Shape
   shape_of =
-      cond (ltb first_bad (length s)) (NotWhole (BadWord first_bad))
-      (cond (ltb (length s) (word_count layout s)) (NotWhole (BadWord (length s)))
-      (cond (ltb first_fall (task_count_place layout (rate_count layout s))) (NotWhole (NotAbove first_fall))
-      (Whole (rate_count layout s) (task_count layout s))))
+      cond (ltb first_bad (length s)) (Err (BadWord first_bad))
+      (cond (ltb (length s) (word_count layout s)) (Err (BadWord (length s)))
+      (cond (ltb first_fall (task_count_place layout (rate_count layout s))) (Err (NotAbove first_fall))
+      (ok_counts (rate_count layout s) (task_count layout s))))
 
   -- The first rate number of the task at t whose energy is below H × job time, or the number behind the last; and the
   -- first task that has one.
@@ -72,16 +70,16 @@ module _ (layout : Layout) (s : List ℕ) where
   first_task = first has_below 0 (task_count layout s)
 
   unfoldable pub cover_of : Shape → Shape
-  cover_of (Whole m n) =
-      cond (ltb first_task (task_count layout s)) (NotWhole (BelowIdle (energy_place layout (rate_count layout s) first_task (first_rate first_task))))
-      (Whole m n)
-  cover_of (NotWhole r) = NotWhole r
+  cover_of (Ok p) =
+      cond (ltb first_task (task_count layout s)) (Err (BelowIdle (energy_place layout (rate_count layout s) first_task (first_rate first_task))))
+      (Ok p)
+  cover_of (Err r) = Err r
 
   unfoldable pub after_shape : Shape → Checked
-  after_shape (Whole m n) =
-      cond (ltb first_over (task_count layout s)) (NotGood (TooLong (period_place layout (rate_count layout s) first_over)))
-      (Good m n (hyper_period layout s))
-  after_shape (NotWhole r) = NotGood r
+  after_shape (Ok p) =
+      cond (ltb first_over (task_count layout s)) (Err (TooLong (period_place layout (rate_count layout s) first_over)))
+      (ok_measured p.rates p.tasks (hyper_period layout s))
+  after_shape (Err r) = Err r
 
   unfoldable pub checked_of : Checked
   checked_of = after_shape shape_of
@@ -199,7 +197,7 @@ module _ (layout : Layout) (s : List ℕ) where
   cover_shape : (x : Shape) → CountsAfter (word_checks layout s) layout s x
       → CountsAfter (idle_checks layout s) layout s (cover_of x)
   unfolding cover_of
-  cover_shape (Whole m n) h =
+  cover_shape (Ok p) h =
       ⊎_elim
       (λ (d : first_task < task_count layout s).
       answer (cond_true _ _ _ (lt-ltb _ _ d)) (refuses_next (word_checks layout s) (idle_check layout s) _ h.0 (below_idle d)))
@@ -208,16 +206,16 @@ module _ (layout : Layout) (s : List ℕ) where
       (accepts_next (word_checks layout s) (idle_check layout s) h.0 (covered_passes layout s (none_below d)), h.1, h.2))
       (lt_or_le first_task (task_count layout s))
     where
-      answer : {x : Shape} → cover_of (Whole m n) ≡ x → CountsAfter (idle_checks layout s) layout s x
-          → CountsAfter (idle_checks layout s) layout s (cover_of (Whole m n))
+      answer : {x : Shape} → cover_of (Ok p) ≡ x → CountsAfter (idle_checks layout s) layout s x
+          → CountsAfter (idle_checks layout s) layout s (cover_of (Ok p))
       answer {x} e w = subst (CountsAfter (idle_checks layout s) layout s) (sym e) w
-  cover_shape (NotWhole r) h = refuses_before (word_checks layout s) (idle_check layout s) (number r) (second r) h
+  cover_shape (Err r) h = refuses_before (word_checks layout s) (idle_check layout s) (number r) (second r) h
 
   -- 4 after any checks.
   after_shape_lem : (cs : List Check) (x : Shape) → CountsAfter cs layout s x
       → SetAfter (cs ▹ hyper_check layout s) layout s (after_shape x)
   unfolding after_shape
-  after_shape_lem cs (Whole m n) h =
+  after_shape_lem cs (Ok p) h =
       ⊎_elim
       (λ (d : first_over < task_count layout s).
       answer (cond_true _ _ _ (lt-ltb _ _ d)) (refuses_next cs (hyper_check layout s) _ h.0 (too_long d)))
@@ -225,10 +223,10 @@ module _ (layout : Layout) (s : List ℕ) where
       answer (cond_false _ _ _ (le-ltb _ _ d)) (accepts_next cs (hyper_check layout s) h.0 (λ q w. limit_pass d w.0 w.1.here), h.1, h.2, refl))
       (lt_or_le first_over (task_count layout s))
     where
-      answer : {x : Checked} → after_shape (Whole m n) ≡ x → SetAfter (cs ▹ hyper_check layout s) layout s x
-          → SetAfter (cs ▹ hyper_check layout s) layout s (after_shape (Whole m n))
+      answer : {x : Checked} → after_shape (Ok p) ≡ x → SetAfter (cs ▹ hyper_check layout s) layout s x
+          → SetAfter (cs ▹ hyper_check layout s) layout s (after_shape (Ok p))
       answer {x} e w = subst (SetAfter (cs ▹ hyper_check layout s) layout s) (sym e) w
-  after_shape_lem cs (NotWhole r) h = refuses_before cs (hyper_check layout s) (number r) (second r) h
+  after_shape_lem cs (Err r) h = refuses_before cs (hyper_check layout s) (number r) (second r) h
 
   -- As the walk makes them, and as the planner does.
   pub checked_answers : SetAfter (word_checks layout s ▹ hyper_check layout s) layout s checked_of

@@ -1,5 +1,5 @@
 -- What each call answers, and what it leaves in the lists lent to it.
-use Rattle.std.specs.Prelude.{ℕ, ◌-◌, ◌+◌, ◌*◌, ◌^◌, ◌≤◌, ◌<◌, ◌≡◌, List, [], ◌∷◌, ◌++◌, length, get_or, take, drop, replicate}
+use Rattle.std.specs.Prelude.{ℕ, ◌-◌, ◌+◌, ◌*◌, ◌^◌, ◌≤◌, ◌<◌, ◌≡◌, List, [], ◌∷◌, ◌++◌, length, get_or, take, drop, replicate, Ok, Err}
 use Rattle.schedule.specs.Counted.{Outcome, missed, kept, walk}
 use Rattle.selection.specs.Plan.{plan_load, IsPlanned}
 use Rattle.layout.specs.Words.{word, rate_count, task_count, kind_at}
@@ -11,16 +11,8 @@ use Rattle.taskset.specs.Planning.{Planning, planning, layout_of, work_of}
 use Rattle.taskset.specs.Refusals.{number, second, Check, Accepts, Refuses, planner_checks, walk_checks}
 use Rattle.taskset.specs.declared.Engine.{Engine}
 use Rattle.taskset.specs.declared.Refusal.{Refusal}
-use Rattle.taskset.specs.declared.Shape.{Shape}
-use Rattle.taskset.specs.declared.Shape.TheVariants.{Whole, Refused as NotWhole}
-use Rattle.taskset.specs.declared.Checked.{Checked}
-use Rattle.taskset.specs.declared.Checked.TheVariants.{Good, Refused as NotGood}
-use Rattle.taskset.specs.declared.PlannerAnswer.{PlannerAnswer}
-use Rattle.taskset.specs.declared.PlannerAnswer.TheVariants.{Planned, Refused as NotPlanned}
-use Rattle.taskset.specs.declared.WalkAnswer.{WalkAnswer}
-use Rattle.taskset.specs.declared.WalkAnswer.TheVariants.{Kept, Missed, Refused as NotWalked}
-use Rattle.taskset.specs.declared.CopyAnswer.{CopyAnswer}
-use Rattle.taskset.specs.declared.CopyAnswer.TheVariants.{Wrote, Refused as NotCopied}
+use Rattle.taskset.specs.Answers.{Checked, CopyAnswer, PlannerAnswer, Shape, WalkAnswer}
+use Rattle.taskset.specs.declared.WalkEnd.TheVariants.{Kept, Missed}
 
 -- NUMBERS AND VALUES. "A C call returns 0, or refusal number × 2^32 + the second number."
 abbrev pub code : Refusal → ℕ
@@ -28,18 +20,18 @@ code r = number r * 2 ^ 32 + second r
 
 -- "unit, load, L, energy; for the walk 1, busy, idle, preemptions, or 0, tick, task, 0."
 abbrev pub planner_values : PlannerAnswer → List ℕ
-planner_values (Planned unit load hyper energy) = unit ∷ load ∷ hyper ∷ energy ∷ []
-planner_values (NotPlanned r) = []
+planner_values (Ok p) = p.unit ∷ p.load ∷ p.hyper ∷ p.energy ∷ []
+planner_values (Err r) = []
 
 abbrev pub walk_values : WalkAnswer → List ℕ
-walk_values (Kept busy idle preempted) = 1 ∷ busy ∷ idle ∷ preempted ∷ []
-walk_values (Missed tick task) = 0 ∷ tick ∷ task ∷ 0 ∷ []
-walk_values (NotWalked r) = []
+walk_values (Ok (Kept busy idle preempted)) = 1 ∷ busy ∷ idle ∷ preempted ∷ []
+walk_values (Ok (Missed tick task)) = 0 ∷ tick ∷ task ∷ 0 ∷ []
+walk_values (Err r) = []
 
 -- "both return how many words or bytes they wrote": the reader, the writer, and the program's call.
 abbrev pub copy_values : CopyAnswer → List ℕ
-copy_values (Wrote n) = n ∷ []
-copy_values (NotCopied r) = []
+copy_values (Ok n) = n ∷ []
+copy_values (Err r) = []
 
 -- "and what lies after stays": ws was written to the front of the list d, which is d' now, and the answer's value says
 -- how much that is.
@@ -50,19 +42,19 @@ pub record Copied (ws d d' : List ℕ) (a : CopyAnswer) : Type 0 where
 -- What a call gives that makes checks of what it is lent, and then writes ws to the front of d: a refusal, the first that
 -- holds, leaves d as it was.
 abbrev pub CopyGives : List Check → (ws d d' : List ℕ) → CopyAnswer → Type 0
-CopyGives cs ws d d' (Wrote n) = Accepts cs × Copied ws d d' (Wrote n)
-CopyGives cs ws d d' (NotCopied r) = Refuses cs (number r) (second r) × (d' ≡ d)
+CopyGives cs ws d d' (Ok n) = Accepts cs × Copied ws d d' (Ok n)
+CopyGives cs ws d d' (Err r) = Refuses cs (number r) (second r) × (d' ≡ d)
 
 -- WHAT CHECKS ANSWER. cs are the checks that a call makes of a list, in their order: a refusal is the first that holds;
 -- where none holds, the counts are the list's own, and with check 4 among them the hyper-period too.
 abbrev pub CountsAfter : List Check → Layout → List ℕ → Shape → Type 0
-CountsAfter cs layout s (Whole rates tasks) = Accepts cs × (rates ≡ rate_count layout s) × (tasks ≡ task_count layout s)
-CountsAfter cs layout s (NotWhole r) = Refuses cs (number r) (second r)
+CountsAfter cs layout s (Ok p) = Accepts cs × (p.rates ≡ rate_count layout s) × (p.tasks ≡ task_count layout s)
+CountsAfter cs layout s (Err r) = Refuses cs (number r) (second r)
 
 abbrev pub SetAfter : List Check → Layout → List ℕ → Checked → Type 0
-SetAfter cs layout s (Good rates tasks hyper) =
-    Accepts cs × (rates ≡ rate_count layout s) × (tasks ≡ task_count layout s) × (hyper ≡ hyper_period layout s)
-SetAfter cs layout s (NotGood r) = Refuses cs (number r) (second r)
+SetAfter cs layout s (Ok p) =
+    Accepts cs × (p.rates ≡ rate_count layout s) × (p.tasks ≡ task_count layout s) × (p.hyper ≡ hyper_period layout s)
+SetAfter cs layout s (Err r) = Refuses cs (number r) (second r)
 
 -- A CALL THAT PLANS, where m is what is planned. "The call returns unit, load, L and energy": P is the plan that document
 -- 01 selects, the values are its own.
@@ -85,17 +77,17 @@ pub record RateNumber (rates w : ℕ) : Type 0 where
   pub place : w - 1 < rates
 
 abbrev pub RateNumbers : Planning → List ℕ → PlannerAnswer → Type 0
-RateNumbers m plan' (Planned unit load hyper energy) =
+RateNumbers m plan' (Ok p) =
     (t : ℕ) → t < m.problem.count → RateNumber m.problem.rates (get_or plan' t 0)
-RateNumbers m plan' (NotPlanned r) = Unit {0}
+RateNumbers m plan' (Err r) = Unit {0}
 
 -- What it gives, with its checks cs: a refusal, the first that holds, leaves the plan list as it was.
 abbrev pub PlanGives : List Check → Planning → (plan plan' : List ℕ) → PlannerAnswer → Type 0
-PlanGives cs m plan plan' (Planned unit load hyper energy) =
+PlanGives cs m plan plan' (Ok p) =
     Accepts cs ×
-    ((P : List ℕ) × Selected m P (planner_values (Planned unit load hyper energy)) ×
+    ((P : List ℕ) × Selected m P (planner_values (Ok p)) ×
     HoldsPlan m.problem.count P plan plan')
-PlanGives cs m plan plan' (NotPlanned r) = Refuses cs (number r) (second r) × (plan' ≡ plan)
+PlanGives cs m plan plan' (Err r) = Refuses cs (number r) (second r) × (plan' ≡ plan)
 
 -- "the first W working words hold 0, and every other word stays": w of the list work, which is work' then.
 abbrev pub Cleared : ℕ → List ℕ → List ℕ → Type 0
@@ -103,8 +95,8 @@ Cleared w work work' = work' ≡ replicate w 0 ++ drop w work
 
 -- On refusal 'all' is "As before the call".
 abbrev pub WorkAfter : ℕ → (work work' : List ℕ) → PlannerAnswer → Type 0
-WorkAfter w work work' (Planned unit load hyper energy) = Cleared w work work'
-WorkAfter w work work' (NotPlanned r) = work' ≡ work
+WorkAfter w work work' (Ok p) = Cleared w work work'
+WorkAfter w work work' (Err r) = work' ≡ work
 
 -- THE PLANNER, AND THE DULL ENGINE (document 02, note 7), which "applies document 01's choice directly at each unit. It
 -- needs no working words." That its answer is the planner's "where both succeed" is a theorem (proofs/TwoEngines.antt).
@@ -132,6 +124,6 @@ abbrev pub Walks : List ℕ → List ℕ → WalkAnswer → Type 0
 Walks s P a = Accepts (walk_checks s P) × (walk_values a ≡ outcome_values (walk_of s P))
 
 abbrev pub WalkAnswers : List ℕ → List ℕ → WalkAnswer → Type 0
-WalkAnswers s P (Kept busy idle preempted) = Walks s P (Kept busy idle preempted)
-WalkAnswers s P (Missed tick task) = Walks s P (Missed tick task)
-WalkAnswers s P (NotWalked r) = Refuses (walk_checks s P) (number r) (second r)
+WalkAnswers s P (Ok (Kept busy idle preempted)) = Walks s P (Ok (Kept busy idle preempted))
+WalkAnswers s P (Ok (Missed tick task)) = Walks s P (Ok (Missed tick task))
+WalkAnswers s P (Err r) = Refuses (walk_checks s P) (number r) (second r)

@@ -1,6 +1,6 @@
 -- Demand 3 of the order, of what is planned. Of a list it is judged by the endless walk: `KeepsForEver` of the set's tasks
 -- under a plan (specs/Planning.antt).
-use Rattle.std.specs.Prelude.{ℕ, ◌+◌, ◌-◌, ◌*◌, ◌≤◌, ◌≡◌, true, false, List, ◌↔◌, take}
+use Rattle.std.specs.Prelude.{ℕ, ◌+◌, ◌-◌, ◌*◌, ◌≤◌, ◌≡◌, true, false, List, ◌↔◌, take, Ok, Err}
 use Rattle.schedule.specs.Walk.{misses, KeepsForEver}
 use Rattle.selection.specs.Plan.{plan_load}
 use Rattle.layout.specs.Words.{task_count, first}
@@ -8,10 +8,8 @@ use Rattle.layout.specs.declared.Layout.TheVariants.{Ordinary}
 use Rattle.taskset.specs.Quantities.{all_zero, problem_of, endless_tasks, walk_tasks, last_tick}
 use Rattle.taskset.specs.Planning.{Planning, Keeps}
 use Rattle.taskset.specs.Refusals.{number, Check, Accepts}
-use Rattle.taskset.specs.declared.PlannerAnswer.{PlannerAnswer}
-use Rattle.taskset.specs.declared.PlannerAnswer.TheVariants.{Planned, Refused as NotPlanned}
-use Rattle.taskset.specs.declared.WalkAnswer.{WalkAnswer}
-use Rattle.taskset.specs.declared.WalkAnswer.TheVariants.{Kept, Missed, Refused as NotWalked}
+use Rattle.taskset.specs.Answers.{PlannerAnswer, WalkAnswer}
+use Rattle.taskset.specs.declared.WalkEnd.TheVariants.{Kept, Missed}
 
 -- A CALL THAT PLANS, where m is what is planned.
 
@@ -48,8 +46,8 @@ NoneKeeps m = (Q : List ℕ) → m.Keeps Q → ⊥
 -- of a plan its promise; and "Demand 3 allows 7 only where no plan keeps every deadline for ever": a refusal is 7
 -- exactly when the checks before it pass and none does.
 abbrev pub PlanOwes : List Check → Planning → List ℕ → PlannerAnswer → Type 0
-PlanOwes cs m plan' (Planned unit load hyper energy) = PlanPromise m (take m.problem.count plan') unit energy
-PlanOwes cs m plan' (NotPlanned r) = (number r ≡ 7) ↔ (Accepts cs × NoneKeeps m)
+PlanOwes cs m plan' (Ok p) = PlanPromise m (take m.problem.count plan') p.unit p.energy
+PlanOwes cs m plan' (Err r) = (number r ≡ 7) ↔ (Accepts cs × NoneKeeps m)
 
 -- THE WALK. "all are 0"
 abbrev pub Together : List ℕ → Type 0
@@ -69,6 +67,6 @@ pub record MissedOwes (s P : List ℕ) : Type 0 where
   pub from_0 : KeepsForEver (endless_tasks Ordinary s P) → ⊥
 
 abbrev pub WalkOwes : List ℕ → List ℕ → WalkAnswer → Type 0
-WalkOwes s P (Kept busy idle preempted) = KeptOwes s P busy idle
-WalkOwes s P (Missed tick task) = MissedOwes s P
-WalkOwes s P (NotWalked r) = Unit {0}
+WalkOwes s P (Ok (Kept busy idle preempted)) = KeptOwes s P busy idle
+WalkOwes s P (Ok (Missed tick task)) = MissedOwes s P
+WalkOwes s P (Err r) = Unit {0}

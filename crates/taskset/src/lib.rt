@@ -42,39 +42,42 @@ pub enum Refusal {
     TooManyPlans,
 }
 
-// What checks answer that do not look at periods: rate count and task count of a list, or a refusal.
+// What a list holds that passes the checks of its words: how many rates, and how many tasks.
 #[derive(Clone, Copy)]
-pub enum Shape {
-    Whole { rates: usize, tasks: usize },
-    Refused(Refusal),
+pub struct Counts {
+    pub rates: usize,
+    pub tasks: usize,
 }
 
-// What checks answer with check 4 among them: rate count, task count and hyper-period of a set, or a refusal.
+// What checks answer that do not look at periods.
+pub type Shape = Result<Counts, Refusal>;
+
+// What a set holds that passes check 4 too: its hyper-period beside the counts.
 #[derive(Clone, Copy)]
-pub enum Checked {
-    Good {
-        rates: usize,
-        tasks: usize,
-        hyper: u64,
-    },
-    Refused(Refusal),
+pub struct Measured {
+    pub rates: usize,
+    pub tasks: usize,
+    pub hyper: u64,
+}
+
+// What checks answer with check 4 among them.
+pub type Checked = Result<Measured, Refusal>;
+
+// What a plan that was given comes to.
+#[derive(Clone, Copy)]
+pub struct Planned {
+    pub unit: u64,
+    pub load: u64,
+    pub hyper: u64,
+    pub energy: u64,
 }
 
 // What a call that plans answers.
-#[derive(Clone, Copy)]
-pub enum PlannerAnswer {
-    Planned {
-        unit: u64,
-        load: u64,
-        hyper: u64,
-        energy: u64,
-    },
-    Refused(Refusal),
-}
+pub type PlannerAnswer = Result<Planned, Refusal>;
 
-// What the walk answers.
+// How a walk ends: kept, with its busy ticks, idle ticks and preemptions; or missed, at a tick by a task's number.
 #[derive(Clone, Copy)]
-pub enum WalkAnswer {
+pub enum WalkEnd {
     Kept {
         busy: u64,
         idle: u64,
@@ -84,12 +87,10 @@ pub enum WalkAnswer {
         tick: u64,
         task: u64,
     },
-    Refused(Refusal),
 }
 
-// What the reader and the writer answer: how many words or bytes they wrote, or a refusal.
-#[derive(Clone, Copy)]
-pub enum CopyAnswer {
-    Wrote(usize),
-    Refused(Refusal),
-}
+// What the walk answers.
+pub type WalkAnswer = Result<WalkEnd, Refusal>;
+
+// What the reader and the writer answer: how many words or bytes they wrote.
+pub type CopyAnswer = Result<usize, Refusal>;
