@@ -5,12 +5,12 @@ use mathlib.Core.Path.{sym, ◌∙◌}
 use mathlib.Core.List.{List, [], ◌∷◌}
 use lib.ListN.{length}
 use Rattle.taskset.specs.Refusals.{room_check}
-use Rattle.taskset.specs.declared.CopyAnswer.{CopyAnswer}
 use Rattle.taskset.proofs.Checks.{AllSingle}
 use Rattle.taskset.proofs.Unique.{short_single, single_next, copy_unique}
 use Rattle.taskset.proofs.Copied.{SameCopied}
 use Rattle.draws.specs.Generated.{generated}
 use Rattle.draws.specs.Calls.{count_check, generator_checks, GeneratorGives}
+use Rattle.taskset.specs.Answers.{CopyAnswer}
 
 pub generator_single : (seed n lent : ℕ) → AllSingle (generator_checks seed n lent)
 generator_single seed n lent =

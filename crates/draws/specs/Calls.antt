@@ -1,5 +1,5 @@
 -- What the generator answers, what it leaves in the list lent to it, and what its list owes (document 02, note 1).
-use Rattle.std.specs.Prelude.{ℕ, ◌≡◌, false, List, [], ◌∷◌, length, take}
+use Rattle.std.specs.Prelude.{ℕ, ◌≡◌, false, List, [], ◌∷◌, length, take, Ok, Err}
 use Rattle.std.specs.Int.{◌∣◌}
 use Rattle.numbers.specs.Numbers.{between}
 use Rattle.layout.specs.Words.{most_tasks}
@@ -7,9 +7,8 @@ use Rattle.layout.specs.declared.Layout.TheVariants.{Ordinary}
 use Rattle.taskset.specs.Quantities.{hyper_period}
 use Rattle.taskset.specs.Refusals.{Check, check, Passes, Accepts, ◌▹◌, room_check, word_checks, idle_check, hyper_check}
 use Rattle.taskset.specs.Calls.{CopyGives}
-use Rattle.taskset.specs.declared.CopyAnswer.{CopyAnswer}
-use Rattle.taskset.specs.declared.CopyAnswer.TheVariants.{Wrote, Refused as NotCopied}
 use Rattle.draws.specs.Generated.{generated}
+use Rattle.taskset.specs.Answers.{CopyAnswer}
 
 -- "Errors: 2 with place 0 for N outside 1 to 32, then 6." lent is the length of the list; 6 is of all the words of the
 -- set.
@@ -33,8 +32,8 @@ pub record PassesChecks (s : List ℕ) : Type 0 where
 
 -- So do the words written, of as many as the answer says.
 abbrev pub GeneratorOwes : List ℕ → CopyAnswer → Type 0
-GeneratorOwes d' (Wrote k) = PassesChecks (take k d')
-GeneratorOwes d' (NotCopied r) = Unit {0}
+GeneratorOwes d' (Ok k) = PassesChecks (take k d')
+GeneratorOwes d' (Err r) = Unit {0}
 
 -- THE CALL'S CONTRACT.
 pub record GeneratorCall (seed n : ℕ) (d d' : List ℕ) (a : CopyAnswer) : Type 0 where

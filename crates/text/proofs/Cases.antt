@@ -23,7 +23,6 @@ use Rattle.chips.specs.declared.Chip.{Chip}
 use Rattle.chips.specs.declared.Chip.TheVariants.{Xscale, Ppc405lp}
 use Rattle.taskset.specs.Refusals.{Accepts, Refuses, word_checks, room_check}
 use Rattle.taskset.specs.Calls.{CountsAfter}
-use Rattle.taskset.specs.declared.Shape.TheVariants.{Whole}
 use Rattle.taskset.proofs.Checks.{accepts_next}
 use Rattle.taskset.proofs.Verdict.{is_bad, is_fall, shape_of, shape_answers}
 use Rattle.taskset.proofs.Cases.{S_from, chip_set, slow_or_fast}
@@ -33,6 +32,7 @@ use Rattle.text.specs.Calls.{WorksOut, HasOver, reader_checks, writer_checks}
 use Rattle.text.specs.Reading.{literal, more, number, many, read_text}
 use Rattle.text.proofs.Pieces.{no_first_bad}
 use Rattle.text.proofs.Copies.{is_read, is_refused, NoneOver, takes}
+use Rattle.taskset.specs.Answers.{ok_counts}
 
 -- Document 01's input of the program is the text of "the set list S", and says the words of S.
 abbrev S : List ℕ
@@ -81,7 +81,7 @@ unfolding idle_899 slow_or_fast read_text number more literal many words script_
 idle-line_899 = record { text = (is_read (script_of (slow_or_fast 10 899)) idle_899 (length idle_899) refl).0; words_are = refl }
 
 -- "10, .. never by walk or writer": the writer takes the second list, which the planner refuses with 10.
-shape_899 : shape_of Ordinary (slow_or_fast 10 899) ≡ Whole 2 1
+shape_899 : shape_of Ordinary (slow_or_fast 10 899) ≡ ok_counts 2 1
 unfolding slow_or_fast shape_of is_bad is_fall head_kinds extra_kinds kind_in kind_at head_kind task_kind allows seek
 shape_899 = refl
 

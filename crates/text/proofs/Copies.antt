@@ -1,5 +1,6 @@
 -- The answers of the reader and the writer: each is one; and when the reader takes a text.
 -- Assumes nothing.
+use Rattle.std.specs.Prelude.{Ok, Err}
 use Prim.Native.Nat.{ℕ, ◌≤◌}
 use mathlib.Core.Path.{◌≡◌, refl, sym, ap, ◌∙◌, subst}
 use mathlib.Core.List.{List}
@@ -7,8 +8,6 @@ use native.Mathlib.Omega.{arith}
 use lib.ListN.{length}
 use Rattle.numbers.specs.Numbers.{Lowest}
 use Rattle.taskset.specs.Refusals.{number, second, IsShort, Passes, Accepts, room_check, word_check, word_checks}
-use Rattle.taskset.specs.declared.CopyAnswer.{CopyAnswer}
-use Rattle.taskset.specs.declared.CopyAnswer.TheVariants.{Wrote, Refused as NotCopied}
 use Rattle.taskset.proofs.Checks.{AllSingle, lowest_single, not-both, no_word_fault}
 use Rattle.layout.specs.Whole.{IsWhole}
 use Rattle.layout.proofs.Whole.{whole_of}
@@ -23,6 +22,7 @@ use Rattle.text.specs.Reading.{Res, got, bad, read_text}
 use Rattle.text.proofs.Pieces.{first_bad_one, no_first_bad}
 use Rattle.text.proofs.Grammar.{Answer, read_render, read_right}
 use Rattle.text.proofs.RoundTrip.{words_of_list, script_of_list}
+use Rattle.taskset.specs.Answers.{CopyAnswer}
 
 -- ---- texts and scripts
 pub reads : (s : Script) (t : List ℕ) → IsTextOf s t → read_text t ≡ got s (length t)
@@ -91,13 +91,13 @@ writer_single s lent =
     single_next (word_checks Ordinary s) (room_check (length (script_text (script_of s))) lent) (word_single Ordinary s) (short_single (length (script_text (script_of s))) lent)
 
 pub reader_unique : (t d d₁ d₂ : List ℕ) (a b : CopyAnswer) → ReaderGives t d d₁ a → ReaderGives t d d₂ b → SameCopied a b d₁ d₂
-reader_unique t d d₁ d₂ (Wrote n) (Wrote k) x y =
+reader_unique t d d₁ d₂ (Ok n) (Ok k) x y =
     let same : x.1.0 ≡ y.1.0 = one_script x.1.0 y.1.0 t x.1.1 y.1.1 in
-    copied_one (words y.1.0) d d₁ d₂ (Wrote n) (Wrote k) (subst (λ (s : Script). Copied (words s) d d₁ (Wrote n)) same x.1.2) y.1.2
-reader_unique t d d₁ d₂ (Wrote n) (NotCopied r) x y = absurd (not-both (reader_checks t (length d)) (number r) (second r) x.0 y.0)
-reader_unique t d d₁ d₂ (NotCopied r) (Wrote n) x y = absurd (not-both (reader_checks t (length d)) (number r) (second r) y.0 x.0)
-reader_unique t d d₁ d₂ (NotCopied q) (NotCopied r) x y = record {
-  answer = ap NotCopied (refusal_unique (reader_checks t (length d)) (reader_single t (length d)) q r x.0 y.0);
+    copied_one (words y.1.0) d d₁ d₂ (Ok n) (Ok k) (subst (λ (s : Script). Copied (words s) d d₁ (Ok n)) same x.1.2) y.1.2
+reader_unique t d d₁ d₂ (Ok n) (Err r) x y = absurd (not-both (reader_checks t (length d)) (number r) (second r) x.0 y.0)
+reader_unique t d d₁ d₂ (Err r) (Ok n) x y = absurd (not-both (reader_checks t (length d)) (number r) (second r) y.0 x.0)
+reader_unique t d d₁ d₂ (Err q) (Err r) x y = record {
+  answer = ap Err (refusal_unique (reader_checks t (length d)) (reader_single t (length d)) q r x.0 y.0);
   list = x.1 ∙ sym y.1;
 }
 

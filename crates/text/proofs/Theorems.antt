@@ -1,5 +1,6 @@
 -- The theorems on the bracketed text, each in one statement, for a reader of the proofs.
 -- Assumes nothing.
+use Rattle.std.specs.Prelude.{Ok}
 use Prim.Native.Nat.{ℕ, suc, ◌^◌, ◌≤◌, ◌<◌}
 use mathlib.Core.Path.{◌≡◌, refl, sym, ◌∙◌}
 use mathlib.Core.List.{List, ◌++◌}
@@ -13,8 +14,6 @@ use Rattle.chips.specs.declared.Chip.{Chip}
 use Rattle.chips.proofs.Limits.{most_cycles}
 use Rattle.taskset.specs.Refusals.{Passes, Accepts, word_check, word_checks, idle_check, room_check}
 use Rattle.taskset.proofs.Checks.{accepts_next, passed}
-use Rattle.taskset.specs.declared.CopyAnswer.{CopyAnswer}
-use Rattle.taskset.specs.declared.CopyAnswer.TheVariants.{Wrote}
 use Rattle.taskset.proofs.Copied.{SameCopied}
 use Rattle.text.specs.Text.{TaskLine, Script, decimal, script_text, IsTextOf, WellFormed, FirstBad, words, script_of}
 use Rattle.text.specs.Calls.{HasOver, reader_checks, ReaderGives, writer_checks, WriterGives}
@@ -28,6 +27,7 @@ use Rattle.text.proofs.Copies.{reads, is_read, one_script, list_text, list-words
 use Rattle.text.proofs.Copies.{reader_unique, writer_unique}
 use Rattle.text.proofs.Written.{read_back, read_again}
 use Rattle.text.proofs.Expanded.{chip_script, line_at, over_iff, LineIn, IdleIn, passes_over, list_passes, own_passes}
+use Rattle.taskset.specs.Answers.{CopyAnswer}
 
 -- ---- numbers
 -- The digits of a number say it, read from the first on: for every number of 64 bits, and so for every one that is read
@@ -85,21 +85,21 @@ pub one_writing : (s d d₁ d₂ : List ℕ) (a b : CopyAnswer) → WriterGives 
 one_writing = writer_unique
 
 -- What the writer wrote of a list, the reader turns back into it, in any list e that has room.
-pub written_then_read : (s d d' e : List ℕ) (n : ℕ) → WriterGives s d d' (Wrote n) → length s ≤ length e
-    → (e' : List ℕ) (a : CopyAnswer) → ReaderGives (take n d') e e' a → SameCopied a (Wrote (length s)) e' (s ++ drop (length s) e)
+pub written_then_read : (s d d' e : List ℕ) (n : ℕ) → WriterGives s d d' (Ok n) → length s ≤ length e
+    → (e' : List ℕ) (a : CopyAnswer) → ReaderGives (take n d') e e' a → SameCopied a (Ok (length s)) e' (s ++ drop (length s) e)
 written_then_read = read_back
 
 -- "The round trip is about lists and holds for these too." The list of a script, also of one that names a chip, where
 -- the writer takes it: what was written reads back as that list.
-pub words_then_read : (r : Script) (d d' e : List ℕ) (n : ℕ) → WriterGives (words r) d d' (Wrote n) → length (words r) ≤ length e
+pub words_then_read : (r : Script) (d d' e : List ℕ) (n : ℕ) → WriterGives (words r) d d' (Ok n) → length (words r) ≤ length e
     → (e' : List ℕ) (a : CopyAnswer) → ReaderGives (take n d') e e' a
-    → SameCopied a (Wrote (length (words r))) e' (words r ++ drop (length (words r)) e)
+    → SameCopied a (Ok (length (words r))) e' (words r ++ drop (length (words r)) e)
 words_then_read r = written_then_read (words r)
 
 -- Reading a text, a chip's or another, and reading what the writer writes of its list, give one list: in e the reader
 -- leaves e₁ of the one, n words, and the same of the other.
-pub read-written-read : (t e e₁ d d' : List ℕ) (n k : ℕ) → ReaderGives t e e₁ (Wrote n) → WriterGives (take n e₁) d d' (Wrote k)
-    → (e₂ : List ℕ) (a : CopyAnswer) → ReaderGives (take k d') e e₂ a → SameCopied a (Wrote n) e₂ e₁
+pub read-written-read : (t e e₁ d d' : List ℕ) (n k : ℕ) → ReaderGives t e e₁ (Ok n) → WriterGives (take n e₁) d d' (Ok k)
+    → (e₂ : List ℕ) (a : CopyAnswer) → ReaderGives (take k d') e e₂ a → SameCopied a (Ok n) e₂ e₁
 read-written-read = read_again
 
 -- Of a chip's text, refusal 9 goes by the cycles alone: the task at place t, which is number t + 1, has an energy over
@@ -114,7 +114,7 @@ over_by_cycles c g o ts t is k h = over_iff c g o ts is.script k h
 -- nothing is refused.
 pub chip_passes : (c : Chip) (g : ℕ) (o : Option ℕ) (ts : List TaskLine) (t d d' : List ℕ) (n : ℕ)
     → let s : Script = chip_script c g o ts in
-    IsTextOf s t → ReaderGives t d d' (Wrote n) → (1 ≤ g) × (g ≤ 1000) → IdleIn o → All LineIn ts → Accepts
+    IsTextOf s t → ReaderGives t d d' (Ok n) → (1 ≤ g) × (g ≤ 1000) → IdleIn o → All LineIn ts → Accepts
     (word_checks Ordinary (words s))
 chip_passes c g o ts t d d' n is gives slack_in idle_in_lem lines-in =
     list_passes c g o ts is.script slack_in idle_in_lem lines-in
@@ -124,7 +124,7 @@ chip_passes c g o ts t d d' n is gives slack_in idle_in_lem lines-in =
 -- (words_then_read).
 pub chip_written : (c : Chip) (g : ℕ) (o : Option ℕ) (ts : List TaskLine) (t d d' : List ℕ) (n : ℕ)
     → let s : Script = chip_script c g o ts in
-    IsTextOf s t → ReaderGives t d d' (Wrote n) → (1 ≤ g) × (g ≤ 1000) → IdleIn o → All LineIn ts
+    IsTextOf s t → ReaderGives t d d' (Ok n) → (1 ≤ g) × (g ≤ 1000) → IdleIn o → All LineIn ts
     → (lent : ℕ) → length (script_text (script_of (words s))) ≤ lent → Accepts (writer_checks (words s) lent)
 chip_written c g o ts t d d' n is gives slack_in idle_in_lem lines-in lent room =
     let ws : List ℕ = words (chip_script c g o ts) in

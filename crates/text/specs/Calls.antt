@@ -1,14 +1,13 @@
 -- What the reader and the writer answer, and what they leave in the list lent to them.
-use Rattle.std.specs.Prelude.{ℕ, ◌-◌, ◌≤◌, ◌<◌, ◌≡◌, List, [], ◌∷◌, length}
+use Rattle.std.specs.Prelude.{ℕ, ◌-◌, ◌≤◌, ◌<◌, ◌≡◌, List, [], ◌∷◌, length, Ok, Err}
 use Rattle.numbers.specs.Numbers.{Lowest}
 use Rattle.layout.specs.Words.{most_energy, energy}
 use Rattle.layout.specs.declared.Layout.TheVariants.{Ordinary}
 use Rattle.taskset.specs.Refusals.{number, second, IsShort, Check, check, Accepts, Refuses, ◌▹◌, room_check, word_checks}
 use Rattle.taskset.specs.Calls.{Copied, CopyGives}
-use Rattle.taskset.specs.declared.CopyAnswer.{CopyAnswer}
-use Rattle.taskset.specs.declared.CopyAnswer.TheVariants.{Wrote, Refused as NotCopied}
 use Rattle.text.specs.Text.{Clock, rates, chip, Script, script_text, IsTextOf, WellFormed, FirstBad}
 use Rattle.text.specs.Text.{rates_of, words, script_of}
+use Rattle.taskset.specs.Answers.{CopyAnswer}
 
 -- "Reader: 1, 6", and between them 9, "after 1, before 6". lent is the length of the word list; 9 and 6 are of the
 -- script that the text says.
@@ -42,9 +41,9 @@ reader_checks t lent = (form_check t ∷ []) ▹ over_check t ▹ words_check t 
 -- t is the text, d the list as lent, d' as given back: a success writes the words of the text's script, a refusal
 -- nothing.
 abbrev pub ReaderGives : (t d d' : List ℕ) → CopyAnswer → Type 0
-ReaderGives t d d' (Wrote n) =
-    Accepts (reader_checks t (length d)) × ((s : Script) × IsTextOf s t × Copied (words s) d d' (Wrote n))
-ReaderGives t d d' (NotCopied r) = Refuses (reader_checks t (length d)) (number r) (second r) × (d' ≡ d)
+ReaderGives t d d' (Ok n) =
+    Accepts (reader_checks t (length d)) × ((s : Script) × IsTextOf s t × Copied (words s) d d' (Ok n))
+ReaderGives t d d' (Err r) = Refuses (reader_checks t (length d)) (number r) (second r) × (d' ≡ d)
 
 -- "Writer: 2, 3, 6." lent is the length of the buffer. "The writer takes a set that passes checks 2 and 3".
 abbrev pub writer_checks : List ℕ → ℕ → List Check
