@@ -15,13 +15,6 @@ ghost use Rattle.generator.specs.Steps.{RoomAfter, figure_of, figures};
 use layout::Layout;
 use taskset::{CopyAnswer, Refusal};
 
-// What the checks answer: the words that a set needs, or a refusal.
-#[derive(Clone, Copy)]
-pub enum Room {
-    Enough(usize),
-    Refused(Refusal),
-}
-
 // Figures that are put one behind the other, and count from 1: zeros, for the words of a layout that the rule of the
 // draws does not name; rates; or the energies that a draw gives.
 #[derive(Clone, Copy)]
@@ -155,17 +148,17 @@ fn put_front(list: &mut [u32], n: u32)
 }
 
 // Checks 2 and 6: how many words a set of n tasks has, or a refusal. lent is the length of the list.
-pub fn ready(n: u32, lent: usize) -> Room
+pub fn ready(n: u32, lent: usize) -> Result<usize, Refusal>
     ensures { RoomAfter n lent result }
 {
     if !arithmetic::is_between(1, places::MOST_TASKS as u64, n as u64) {
-        return Room::Refused(Refusal::BadWord(0));
+        return Err(Refusal::BadWord(0));
     }
     let needed = places::period_place(Layout::Ordinary, RATES, n as usize);
     if lent < needed {
-        return Room::Refused(Refusal::TooShort(needed));
+        return Err(Refusal::TooShort(needed));
     }
-    Room::Enough(needed)
+    Ok(needed)
 }
 
 // A set's words, to the front of a list that has passed the checks.
@@ -181,12 +174,7 @@ pub fn put_set(seed: u32, n: u32, list: &mut [u32])
 pub fn generate(seed: u32, n: u32, list: &mut [u32]) -> CopyAnswer
     ensures { GeneratorCall seed n list.old list.new result }
 {
-    let room = ready(n, list.len());
-    match room {
-        Room::Refused(r) => CopyAnswer::Refused(r),
-        Room::Enough(needed) => {
-            put_set(seed, n, list);
-            CopyAnswer::Wrote(needed)
-        }
-    }
+    let length = ready(n, list.len())?;
+    put_set(seed, n, list);
+    Ok(length)
 }
