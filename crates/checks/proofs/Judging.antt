@@ -1,5 +1,6 @@
 -- From what the searches of the code find to what checks 2, 3, 10 and 4 answer.
 -- Assumes nothing.
+use Rattle.std.specs.Prelude.{Ok, Err}
 use Prim.Native.Nat.{ℕ, ◌+◌, ◌*◌, ◌≤◌, ◌<◌}
 use mathlib.Core.Path.{◌≡◌, refl, sym, ap, ◌∙◌, subst}
 use mathlib.Core.Bool.{true, false}
@@ -17,16 +18,14 @@ use Rattle.taskset.specs.Refusals.{word_checks, idle_check, hyper_check}
 use Rattle.taskset.specs.Calls.{CountsAfter, SetAfter}
 use Rattle.numbers.specs.Search.{Found}
 use Rattle.taskset.specs.Quantities.{job_time}
-use Rattle.checks.specs.Steps.{Falls, Followed, OfCounts, HasBelow, task_checks}
+use Rattle.checks.specs.Steps.{Falls, Followed, OfCounts, HasBelow}
 use Rattle.taskset.specs.declared.Refusal.TheVariants.{BadWord, NotAbove}
-use Rattle.taskset.specs.declared.Shape.TheVariants.{Whole, Refused as NotWhole}
-use Rattle.taskset.specs.declared.Checked.{Checked}
-use Rattle.taskset.specs.declared.Checked.TheVariants.{Good, Refused as NotGood}
 use Rattle.taskset.proofs.Checks.{no_word_fault, accepts_join, refuses_back}
 use Rattle.taskset.specs.Sets.{Below}
 use Rattle.taskset.proofs.Idle.{covered_passes, first_below}
 use Rattle.layout.proofs.Whole.{whole_of, rates_in_lem, tasks_in}
 use Rattle.layout.specs.declared.Layout.{Layout}
+use Rattle.taskset.specs.Answers.{Checked, ok_counts, ok_measured}
 
 -- What the code reads of a list: its head's size h, the rate count there, its task count's place c, the count there.
 pub record Counts (layout : Layout) (s : List ℕ) (h c : ℕ) : Type 0 where
@@ -48,12 +47,12 @@ module _ (layout : Layout) (s : List ℕ) (b : ℕ) (found : Found (OutOfRange l
   before_found : (j : ℕ) → j < b → j < length s → WordFault layout s j → ⊥
   before_found j l h f = ⊎_elim (λ w. found.none j (omega arith) l w.1) (λ w. absurd (omega arith)) f
 
-  pub bad_word : b < length s → CountsAfter (word_checks layout s) layout s (NotWhole (BadWord b))
+  pub bad_word : b < length s → CountsAfter (word_checks layout s) layout s (Err (BadWord b))
   bad_word h = inl (refl, record { here = inl (h, found.hit h); before = λ j l f. before_found j l (omega arith) f })
 
   module _ (none : length s ≤ b) where
     pub missing_word : length s < word_count layout s
-        → CountsAfter (word_checks layout s) layout s (NotWhole (BadWord (length s)))
+        → CountsAfter (word_checks layout s) layout s (Err (BadWord (length s)))
     missing_word h = inl (refl, record { here = inr (refl, h); before = λ j l f. before_found j (omega arith) l f })
 
     judged : (q : ℕ) → q < length s → allows s q (kind_at layout s q) ≡ true
@@ -82,11 +81,11 @@ module _ (layout : Layout) (s : List ℕ) (b : ℕ) (found : Found (OutOfRange l
         falls_before j l r = fall.none j r.0 l r.2
 
         pub not_above : f < task_count_place layout (rate_count layout s)
-            → CountsAfter (word_checks layout s) layout s (NotWhole (NotAbove f))
+            → CountsAfter (word_checks layout s) layout s (Err (NotAbove f))
         not_above h = inr (words_pass, inl (refl, record { here = (fall.from, omega arith, fall.hit h); before = falls_before }))
 
         pub is_shape : task_count_place layout (rate_count layout s) ≤ f
-            → CountsAfter (word_checks layout s) layout s (Whole (rate_count layout s) (task_count layout s))
+            → CountsAfter (word_checks layout s) layout s (ok_counts (rate_count layout s) (task_count layout s))
         is_shape h = ((words_pass, ((λ q r. falls_before q (omega (arith, r.here.1)) r.here), tt)), refl, refl)
 
 -- ---- check 10
@@ -137,7 +136,7 @@ module _ (layout : Layout) (s : List ℕ) (m n : ℕ) (h : OfCounts layout m n s
     ap (λ (x : ℕ). period_place layout x t) h.counted,
   )
 
-  pub is_good : n ≤ t → SetAfter (hyper_check layout s ∷ []) layout s (Good m n v)
+  pub is_good : n ≤ t → SetAfter (hyper_check layout s ∷ []) layout s (ok_measured m n v)
   is_good l =
       let e : t ≡ task_count layout s = omega (arith, h.numbered, followed.tasks.to) in (
         ((λ q w. followed.tasks.none w.0 (omega arith) (omega (arith, w.1.here.0, h.numbered)) w.1.here.1), tt),
@@ -149,14 +148,10 @@ module _ (layout : Layout) (s : List ℕ) (m n : ℕ) (h : OfCounts layout m n s
 -- ---- in their order
 module _ (layout : Layout) (s : List ℕ) where
   -- What the checks of the tasks ask, from those before.
-  pub of_counts : {m n : ℕ} → CountsAfter (word_checks layout s) layout s (Whole m n) → OfCounts layout m n s
+  pub of_counts : {m n : ℕ} → CountsAfter (word_checks layout s) layout s (ok_counts m n) → OfCounts layout m n s
   of_counts h = record { whole = whole_of layout s (no_word_fault layout s h.0.0); counted = h.1; numbered = h.2 }
 
   -- The checks ds after others.
   pub after : (cs ds : List Check) → Accepts cs → (a : Checked) → SetAfter ds layout s a → SetAfter (cs ++ ds) layout s a
-  after cs ds pass (Good m n v) h = (accepts_join cs ds pass h.0, h.1, h.2, h.3)
-  after cs ds pass (NotGood r) h = refuses_back cs ds (number r) (second r) pass h
-
-  pub after-idle : Passes (idle_check layout s) → (a : Checked) → SetAfter (task_checks false layout s) layout s a
-      → SetAfter (task_checks true layout s) layout s a
-  after-idle pass = after (idle_check layout s ∷ []) (task_checks false layout s) (pass, tt)
+  after cs ds pass (Ok p) h = (accepts_join cs ds pass h.0, h.1, h.2, h.3)
+  after cs ds pass (Err r) h = refuses_back cs ds (number r) (second r) pass h

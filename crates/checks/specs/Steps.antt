@@ -1,6 +1,6 @@
 -- What the functions below the calls are asked for and give. Not part of what a reader must believe: the calls'
 -- contracts speak of Refusals and Calls alone.
-use Rattle.std.specs.Prelude.{ℕ, suc, ◌-◌, ◌^◌, ◌≤◌, ◌<◌, ◌≡◌, Bool, true, false, cond, List, [], ◌∷◌, ltb, length}
+use Rattle.std.specs.Prelude.{ℕ, suc, ◌-◌, ◌^◌, ◌≤◌, ◌<◌, ◌≡◌, false, cond, List, ltb, length, Result, Ok, Err}
 use Rattle.numbers.specs.Numbers.{running}
 use Rattle.numbers.specs.Search.{Found}
 use Rattle.layout.specs.Words.{word, rate_count, task_count, task_count_place, tasks_place, period, kind_at, allows}
@@ -9,7 +9,8 @@ use Rattle.layout.specs.declared.Kind.TheVariants.{LeftOver}
 use Rattle.layout.specs.declared.Layout.{Layout}
 use Rattle.taskset.specs.Quantities.{hyper_limit}
 use Rattle.layout.specs.Whole.{IsWhole}
-use Rattle.taskset.specs.Refusals.{Check, idle_check, hyper_check}
+use Rattle.taskset.specs.Refusals.{number, second, Check, Accepts, Refuses}
+use Rattle.taskset.specs.declared.Refusal.{Refusal}
 use Rattle.taskset.specs.Sets.{Below}
 
 -- What the word at q stands for, up to the task count; 'left over' behind that, where nothing is allowed. So the front
@@ -57,7 +58,7 @@ pub record OfCounts (layout : Layout) (m n : ℕ) (s : List ℕ) : Type 0 where
 abbrev pub HasBelow : Layout → ℕ → List ℕ → ℕ → Type 0
 HasBelow layout m s t = (r : ℕ) × (1 ≤ r) × (r ≤ m) × Below layout s t r
 
--- Behind checks 2 and 3, in the order of the code: 10, where a call goes by energies, and 4.
-abbrev pub task_checks : Bool → Layout → List ℕ → List Check
-task_checks true layout s = idle_check layout s ∷ hyper_check layout s ∷ []
-task_checks false layout s = hyper_check layout s ∷ []
+-- What checks answer that count nothing: a refusal is the first that holds.
+abbrev pub PassedAfter : List Check → Result (Unit {0}) Refusal → Type 0
+PassedAfter cs (Ok u) = Accepts cs
+PassedAfter cs (Err r) = Refuses cs (number r) (second r)

@@ -2,18 +2,18 @@
 // `taskset`; what stands where in a list, and what each word may be, is left to layout, and in code to places.
 #![tactic(auto)]
 
-ghost use Rattle.std.specs.Prelude.{◌≡◌, [], ◌∷◌, ◌++◌, ◌+◌, ◌*◌, ◌<◌, ◌≤◌, length};
+ghost use Rattle.std.specs.Prelude.{◌≡◌, [], ◌∷◌, ◌+◌, ◌*◌, ◌<◌, ◌≤◌, length};
 ghost use Rattle.numbers.specs.Search.{Found};
 ghost use Rattle.layout.specs.Words.{rate_place, task_count_place, tasks_place, most_rates, idle_place, slack, idle, rate};
 ghost use Rattle.layout.specs.Words.{period, cycles, first, energy, OutOfRange};
 ghost use Rattle.taskset.specs.Quantities.{job_time};
-ghost use Rattle.taskset.specs.Refusals.{◌▹◌, word_checks, idle_checks, hyper_check};
+ghost use Rattle.taskset.specs.Refusals.{◌▹◌, word_checks, idle_check, idle_checks, hyper_check};
 ghost use Rattle.taskset.specs.Calls.{CountsAfter, SetAfter};
 ghost use Rattle.taskset.specs.Sets.{Below};
-ghost use Rattle.checks.specs.Steps.{front_kind, EndsFront, FrontPassed, Falls, Followed, OfTask, OfCounts, HasBelow, task_checks};
+ghost use Rattle.checks.specs.Steps.{front_kind, EndsFront, FrontPassed, Falls, Followed, OfTask, OfCounts, HasBelow, PassedAfter};
 
 use layout::{Kind, Layout};
-use taskset::{Checked, Refusal, Shape};
+use taskset::{Checked, Counts, Measured, Refusal, Shape};
 
 // The largest hyper-period.
 const HYPER_LIMIT: u64 = 10_000_000;
@@ -131,26 +131,26 @@ pub fn check_words(s: &[u32], layout: Layout) -> Shape
 {
     let b = first_bad(s, layout);
     if b < s.len() {
-        return Shape::Refused(Refusal::BadWord(b));
+        return Err(Refusal::BadWord(b));
     }
     let head = places::head_size(layout);
     if s.len() <= head {
-        return Shape::Refused(Refusal::BadWord(s.len()));
+        return Err(Refusal::BadWord(s.len()));
     }
     let m = s[head] as usize;
     let c = places::task_count_place(layout, m);
     if s.len() <= c {
-        return Shape::Refused(Refusal::BadWord(s.len()));
+        return Err(Refusal::BadWord(s.len()));
     }
     let n = s[c] as usize;
     if s.len() < places::period_place(layout, m, n) {
-        return Shape::Refused(Refusal::BadWord(s.len()));
+        return Err(Refusal::BadWord(s.len()));
     }
     let f = first_fall(s, layout, m);
     if f < c {
-        return Shape::Refused(Refusal::NotAbove(f));
+        return Err(Refusal::NotAbove(f));
     }
-    Shape::Whole { rates: m, tasks: n }
+    Ok(Counts { rates: m, tasks: n })
 }
 
 // The running multiple of n periods, followed until it passes the limit.
@@ -218,54 +218,43 @@ fn check_hyper(s: &[u32], layout: Layout, m: usize, n: usize) -> Checked
     let h = follow(s, layout, m, n);
     let t = h.tasks;
     if t < n {
-        return Checked::Refused(Refusal::TooLong(places::period_place(layout, m, t)));
+        return Err(Refusal::TooLong(places::period_place(layout, m, t)));
     }
-    Checked::Good {
+    Ok(Measured {
         rates: m,
         tasks: n,
         hyper: h.value,
-    }
+    })
 }
 
-// Check 10, where covered says that a call goes by energies, and then 4: of a list with m rates and n tasks that passes
-// check 2.
-fn check_tasks(s: &[u32], layout: Layout, m: usize, n: usize, covered: bool) -> Checked
+// Check 10, of a list with m rates and n tasks that passes check 2.
+fn check_idle(s: &[u32], layout: Layout, m: usize, n: usize) -> Result<(), Refusal>
     requires { OfCounts layout m n s.now }
-    ensures { SetAfter (task_checks covered layout s.now) layout s.now result }
+    ensures { PassedAfter (idle_check layout s.now ∷ []) result }
 {
-    if covered {
-        let task = below_task(s, layout, m, n);
-        if task < n {
-            let r = below_rate(s, layout, m, task);
-            return Checked::Refused(Refusal::BelowIdle(places::energy_place(layout, m, task, r)));
-        }
+    let task = below_task(s, layout, m, n);
+    if task < n {
+        let r = below_rate(s, layout, m, task);
+        return Err(Refusal::BelowIdle(places::energy_place(layout, m, task, r)));
     }
-    check_hyper(s, layout, m, n)
-}
-
-// Checks 2 and 3, then those of the tasks.
-fn check_all(s: &[u32], layout: Layout, covered: bool) -> Checked
-    ensures { SetAfter (word_checks layout s.now ++ task_checks covered layout s.now) layout s.now result }
-{
-    let shape = check_words(s, layout);
-    match shape {
-        Shape::Refused(r) => Checked::Refused(r),
-        Shape::Whole { rates, tasks } => check_tasks(s, layout, rates, tasks, covered),
-    }
+    Ok(())
 }
 
 // Checks 2, 3 and 4, in this order.
 pub fn check_set(s: &[u32], layout: Layout) -> Checked
     ensures { SetAfter (word_checks layout s.now ▹ hyper_check layout s.now) layout s.now result }
 {
-    check_all(s, layout, false)
+    let counts = check_words(s, layout)?;
+    check_hyper(s, layout, counts.rates, counts.tasks)
 }
 
 // Checks 2, 3, 10 and 4, in this order: for whoever goes by energies.
 pub fn check_covered(s: &[u32], layout: Layout) -> Checked
     ensures { SetAfter (idle_checks layout s.now ▹ hyper_check layout s.now) layout s.now result }
 {
-    check_all(s, layout, true)
+    let counts = check_words(s, layout)?;
+    check_idle(s, layout, counts.rates, counts.tasks)?;
+    check_hyper(s, layout, counts.rates, counts.tasks)
 }
 
 // The slack.

@@ -1,0 +1,20 @@
+-- Checks 2 and 3, then 10, then 4.
+-- Assumes nothing.
+use mathlib.Core.List.{[], ◌∷◌}
+use Rattle.taskset.specs.Refusals.{word_checks, idle_check, idle_checks, hyper_check}
+use Rattle.taskset.proofs.Checks.{accepts_join}
+use Rattle.checks.proofs.Judging.{of_counts, after}
+use Rattle.checks.proofs.check_covered.Goals as goal
+
+pub check_idle-requires : goal.check_idle-requires
+check_idle-requires c = of_counts _ _ c.in_ok-counts.ensures
+
+pub check_hyper-requires : goal.check_hyper-requires
+check_hyper-requires c = of_counts _ _ c.in_ok-counts.ensures
+
+pub returns : goal.returns
+returns c = let s = c.args.s.now in
+    after c.args.layout s (idle_checks c.args.layout s) (hyper_check c.args.layout s ∷ [])
+    (accepts_join (word_checks c.args.layout s) (idle_check c.args.layout s ∷ []) c.in_ok-counts.ensures.0
+    c.in_ok-check_idle.ensures)
+    c.check_hyper.result c.check_hyper.ensures
