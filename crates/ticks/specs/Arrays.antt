@@ -7,8 +7,8 @@ use Rattle.schedule.specs.Stretch.{Going, ticks}
 use Rattle.layout.specs.Words.{longest_period}
 use Rattle.ticks.specs.declared.Picked.{Picked}
 use Rattle.ticks.specs.declared.State.{State}
-use Rattle.ticks.specs.declared.WalkEnd.{WalkEnd}
-use Rattle.ticks.specs.declared.WalkEnd.TheVariants.{Kept, Missed}
+use Rattle.taskset.specs.declared.WalkEnd.{WalkEnd}
+use Rattle.taskset.specs.declared.WalkEnd.TheVariants.{Kept, Missed}
 
 -- The jobs of the n tasks from place i on, where k gives each place's task, by ticks left and deadlines.
 abbrev pub jobs_from : (ℕ → Task) → List ℕ → List ℕ → ℕ → ℕ → List Job

@@ -6,12 +6,7 @@ ghost use Rattle.std.specs.Prelude.{◌≡◌, not, ◌&&◌, ltb, eqb};
 ghost use Rattle.schedule.specs.Counted.{count};
 ghost use Rattle.ticks.specs.Arrays.{Early, IsPick, Begun, TickReady, Ticked, RunReady, Says};
 
-// How a walk ends: kept, with its busy ticks, idle ticks and preemptions; or missed, at a tick by a task's number.
-#[derive(Clone, Copy)]
-pub enum WalkEnd {
-    Kept(u64, u64, u64),
-    Missed(u64, u64),
-}
+use taskset::WalkEnd;
 
 // What the walk holds: of each task the ticks left of its job; the counts so far; of the job of the tick before its ticks
 // left and its place, 0 and the number of tasks where there was none; how many ticks were made last; and of each task
@@ -159,7 +154,14 @@ pub fn run(p: &[u32; 32], c: &[u32; 32], first: &[u32; 32], n: usize, end: u32) 
         }
     }
     if 0 < late {
-        return WalkEnd::Missed(t as u64, late as u64);
+        return WalkEnd::Missed {
+            tick: t as u64,
+            task: late as u64,
+        };
     }
-    WalkEnd::Kept(s.busy as u64, s.idle as u64, s.preempted as u64)
+    WalkEnd::Kept {
+        busy: s.busy as u64,
+        idle: s.idle as u64,
+        preempted: s.preempted as u64,
+    }
 }

@@ -5,10 +5,6 @@ use Rattle.layout.specs.declared.Layout.TheVariants.{Ordinary}
 use Rattle.taskset.specs.Quantities.{job_time}
 use Rattle.taskset.specs.Refusals.{IsBadPlan}
 use Rattle.taskset.specs.Sets.{IsSet}
-use Rattle.taskset.specs.declared.WalkAnswer.{WalkAnswer}
-use Rattle.taskset.specs.declared.WalkAnswer.TheVariants.{Kept, Missed}
-use Rattle.ticks.specs.declared.WalkEnd.{WalkEnd}
-use Rattle.ticks.specs.declared.WalkEnd.TheVariants.{Kept as EndsKept, Missed as EndsMissed}
 use Rattle.walk.specs.declared.PlanCheck.{PlanCheck}
 use Rattle.walk.specs.declared.PlanCheck.TheVariants.{At, Sound}
 
@@ -46,8 +42,3 @@ pub record HasColumn (s : List ℕ) (at step n : ℕ) : Type 0 where
 -- The job time of the task at t under plan P.
 abbrev pub time_at : List ℕ → List ℕ → ℕ → ℕ
 time_at s P t = job_time Ordinary s t (get_or P t 0)
-
--- The answer of a walk that ends so.
-abbrev pub answer_of : WalkEnd → WalkAnswer
-answer_of (EndsKept busy idle preempted) = Kept busy idle preempted
-answer_of (EndsMissed tick task) = Missed tick task

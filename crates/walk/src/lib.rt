@@ -3,19 +3,17 @@
 // walk. Which plan is selected, and texts, are left to others.
 #![tactic(auto)]
 
-ghost use Rattle.std.specs.Prelude.{◌≡◌, cond, ◌*◌, ◌≤◌, get_or};
+ghost use Rattle.std.specs.Prelude.{◌≡◌, cond, ◌*◌, ◌≤◌, get_or, Ok};
 ghost use Rattle.layout.specs.Words.{most_tasks};
 ghost use Rattle.layout.specs.declared.Layout.TheVariants.{Ordinary};
 ghost use Rattle.taskset.specs.Quantities.{hyper_limit, all_zero};
 ghost use Rattle.taskset.specs.Refusals.{walk_checks};
 ghost use Rattle.taskset.specs.Calls.{SetAfter};
-ghost use Rattle.taskset.specs.declared.Checked.TheVariants.{Good};
 ghost use Rattle.walk.specs.Answers.{Walked};
-ghost use Rattle.walk.specs.Steps.{PlanAnswers, Holds, column_at, HasColumn, SetGiven, SoundPlan, time_at, answer_of};
+ghost use Rattle.walk.specs.Steps.{PlanAnswers, Holds, column_at, HasColumn, SetGiven, SoundPlan, time_at};
 
 use layout::Layout;
-use taskset::{Checked, Refusal, WalkAnswer};
-use ticks::WalkEnd;
+use taskset::{Checked, Measured, Refusal, WalkAnswer, WalkEnd};
 
 // Check 8's answer: its second number, or that the plan is sound.
 #[derive(Clone, Copy)]
@@ -93,36 +91,24 @@ fn times(set: &[u32], plan: &[u32], m: usize, n: usize) -> [u32; 32]
     c
 }
 
-// Checks 2, 3, 4 and 8, in this order: rate count, task count and hyper-period, or a refusal.
+// Checks 2, 3, 4 and 8, in this order.
 pub fn ready(set: &[u32], plan: &[u32]) -> Checked
     ensures { SetAfter (walk_checks set.now plan.now) Ordinary set.now result }
 {
-    let checked = checks::check_set(set, Layout::Ordinary);
-    match checked {
-        Checked::Refused(r) => Checked::Refused(r),
-        Checked::Good {
-            rates,
-            tasks,
-            hyper,
-        } => {
-            let sound = check_plan(plan, rates, tasks);
-            match sound {
-                PlanCheck::At(k) => Checked::Refused(Refusal::BadPlan(k)),
-                PlanCheck::Sound => Checked::Good {
-                    rates,
-                    tasks,
-                    hyper,
-                },
-            }
-        }
+    let measured = checks::check_set(set, Layout::Ordinary)?;
+    match check_plan(plan, measured.rates, measured.tasks) {
+        PlanCheck::At(k) => Err(Refusal::BadPlan(k)),
+        PlanCheck::Sound => Ok(measured),
     }
 }
 
 // How the walk ends, of a set and a plan that have passed the checks: it refuses nothing.
-pub fn walk_checked(set: &[u32], plan: &[u32], rates: usize, tasks: usize, hyper: u64) -> WalkEnd
-    requires { SetAfter (walk_checks set.now plan.now) Ordinary set.now (Good rates tasks hyper) }
-    ensures { Walked set.now plan.now (answer_of result) }
+pub fn walk_checked(set: &[u32], plan: &[u32], measured: Measured) -> WalkEnd
+    requires { SetAfter (walk_checks set.now plan.now) Ordinary set.now (Ok measured) }
+    ensures { Walked set.now plan.now (Ok result) }
 {
+    let rates = measured.rates;
+    let tasks = measured.tasks;
     let step = places::task_size(Layout::Ordinary, rates);
     let p = column(
         set,
@@ -137,35 +123,14 @@ pub fn walk_checked(set: &[u32], plan: &[u32], rates: usize, tasks: usize, hyper
         step,
         tasks,
     );
-    let end = last_tick(&first, tasks, hyper as u32);
+    let end = last_tick(&first, tasks, measured.hyper as u32);
     ticks::run(&p, &c, &first, tasks, end)
-}
-
-// The answer of a walk that ends so.
-fn answer_of(e: WalkEnd) -> WalkAnswer
-    ensures { result ≡ answer_of e }
-{
-    match e {
-        WalkEnd::Kept(busy, idle, preempted) => WalkAnswer::Kept {
-            busy,
-            idle,
-            preempted,
-        },
-        WalkEnd::Missed(tick, task) => WalkAnswer::Missed { tick, task },
-    }
 }
 
 // The walk of a set under a plan: refusal 2, 3, 4 or 8, or what the walk to its last tick says.
 pub fn walk(set: &[u32], plan: &[u32]) -> WalkAnswer
     ensures { Walked set.now plan.now result }
 {
-    let checked = ready(set, plan);
-    match checked {
-        Checked::Refused(r) => WalkAnswer::Refused(r),
-        Checked::Good {
-            rates,
-            tasks,
-            hyper,
-        } => answer_of(walk_checked(set, plan, rates, tasks, hyper)),
-    }
+    let measured = ready(set, plan)?;
+    Ok(walk_checked(set, plan, measured))
 }
