@@ -1,5 +1,6 @@
 -- The checks of a call that plans, up to 6: 2, 3, 10 and 4, then one of its own, c, then the plan list.
 -- Assumes nothing.
+use Rattle.std.specs.Prelude.{Err}
 use Prim.Native.Nat.{ℕ, ◌≤◌, ◌<◌}
 use mathlib.Core.Path.{◌≡◌, refl, subst, sym}
 use mathlib.Core.List.{List}
@@ -13,9 +14,9 @@ use Rattle.taskset.specs.Refusals.{Refuses, ◌▹◌, idle_checks, hyper_check,
 use Rattle.taskset.specs.Calls.{SetAfter}
 use Rattle.taskset.specs.declared.Refusal.{Refusal}
 use Rattle.taskset.specs.declared.Refusal.TheVariants.{TooShort}
-use Rattle.taskset.specs.declared.Checked.TheVariants.{Good, Refused as NotGood}
 use Rattle.options.specs.Posed.{SetPassed}
 use Rattle.taskset.proofs.Checks.{no_word_fault, accepts_next, refuses_next, refuses_before, passed}
+use Rattle.taskset.specs.Answers.{ok_measured}
 
 module _ {layout : Layout} {s : List ℕ} {m n l : ℕ} (passed-set : SetPassed layout s m n l) where
   pub whole : IsWhole layout s
@@ -31,17 +32,17 @@ module _ (layout : Layout) (s : List ℕ) (c : Check) (planLength : ℕ) where
   room = room_check (task_count layout s) planLength
 
   -- A refusal of the set is this call's.
-  pub set_refused : (r : Refusal) → SetAfter set layout s (NotGood r)
-      → SetAfter (set ▹ c ▹ room) layout s (NotGood r)
+  pub set_refused : (r : Refusal) → SetAfter set layout s (Err r)
+      → SetAfter (set ▹ c ▹ room) layout s (Err r)
   set_refused r h = refuses_before (set ▹ c) room (number r) (second r) (refuses_before set c (number r) (second r) h)
 
   module _ {m n l : ℕ} (passed-set : SetPassed layout s m n l) where
-    good : SetAfter set layout s (Good m n l)
+    good : SetAfter set layout s (ok_measured m n l)
     good = passed-set.after
 
     -- The call's own check holds.
     pub own_refused : (r : Refusal) → number r ≡ c.number → c.cause (second r)
-        → SetAfter (set ▹ c ▹ room) layout s (NotGood r)
+        → SetAfter (set ▹ c ▹ room) layout s (Err r)
     own_refused r e h =
         refuses_before (set ▹ c) room (number r) (second r)
         (subst (λ (x : ℕ). Refuses (set ▹ c) x (second r)) (sym e) (refuses_next set c (second r) good.0 h))
@@ -51,8 +52,8 @@ module _ (layout : Layout) (s : List ℕ) (c : Check) (planLength : ℕ) where
       own : Accepts (set ▹ c)
       own = accepts_next set c good.0 pass
 
-      pub plan_short : planLength < n → SetAfter (set ▹ c ▹ room) layout s (NotGood (TooShort n))
+      pub plan_short : planLength < n → SetAfter (set ▹ c ▹ room) layout s (Err (TooShort n))
       plan_short h = refuses_next (set ▹ c) room n own (omega (arith, good.2), good.2)
 
-      pub is_ready : n ≤ planLength → SetAfter (set ▹ c ▹ room) layout s (Good m n l)
+      pub is_ready : n ≤ planLength → SetAfter (set ▹ c ▹ room) layout s (ok_measured m n l)
       is_ready h = (accepts_next (set ▹ c) room own (λ k x. omega (arith, x.0, good.2)), good.1, good.2, good.3)

@@ -1,6 +1,7 @@
 -- From what an engine chose over the arrays to what a call that plans gives: it is what document 01 selects of what is
 -- planned.
 -- Assumes nothing.
+use Rattle.std.specs.Prelude.{Err}
 use Prim.Native.Nat.{ℕ, ◌+◌, ◌*◌, ◌^◌, ◌≤◌, ◌<◌}
 use mathlib.Core.Path.{◌≡◌, refl, ◌∙◌}
 use mathlib.Core.List.{List}
@@ -18,8 +19,6 @@ use Rattle.taskset.specs.Planning.{Planning, planning}
 use Rattle.taskset.specs.Refusals.{IsShort, Check, Accepts, ◌▹◌, none_check}
 use Rattle.taskset.specs.Calls.{planner_values, SetAfter, Selected, HoldsPlan, RateNumbers, PlanGives}
 use Rattle.taskset.specs.declared.Refusal.TheVariants.{NoPlan}
-use Rattle.taskset.specs.declared.Checked.TheVariants.{Good}
-use Rattle.taskset.specs.declared.PlannerAnswer.TheVariants.{Planned, Refused as NotPlanned}
 use Rattle.taskset.proofs.Checks.{accepts_next, refuses_next}
 use Rattle.taskset.proofs.DemandThree.{PlansList}
 use Rattle.taskset.proofs.Idle.{reported_is}
@@ -28,6 +27,7 @@ use Rattle.engine.specs.Arrays.{arrays, EngineReady, ChosenBy}
 use Rattle.engine.specs.declared.Request.{Request}
 use Rattle.engine.specs.declared.Choice.{Choice}
 use Rattle.options.specs.Posed.{SetGiven, Poses}
+use Rattle.taskset.specs.Answers.{ok_measured, ok_planned}
 
 -- Where a list is not too short, it is long enough.
 pub long_enough : (needed lent : ℕ) → ((k : ℕ) → IsShort needed lent k → ⊥) → needed ≤ lent
@@ -37,7 +37,7 @@ long_enough needed lent pass =
 -- ---- anything that is planned, where cs are the call's checks before 7.
 -- They have passed, and no plan fits.
 pub none_given : (m : Planning) (cs : List Check) → Accepts cs → (plan : List ℕ) → ((P : List ℕ) → Fitting m.problem P → ⊥)
-    → PlanGives (cs ▹ none_check (Fitting m.problem)) m plan plan (NotPlanned NoPlan)
+    → PlanGives (cs ▹ none_check (Fitting m.problem)) m plan plan (Err NoPlan)
 none_given m cs accepts plan none = (refuses_next cs (none_check (Fitting m.problem)) 0 accepts (refl, none), refl)
 
 -- A request, q.
@@ -66,7 +66,7 @@ module _ {m : Planning} {loads energies : List ℕ} {q : Request} (p : Poses m l
 
     -- l is the hyper-period, and x the energy reported of the plan.
     module _ {l x : ℕ} (l-is : l ≡ m.hyper) (x-is : x ≡ m.energy P) where
-      selected : Selected m P (planner_values (Planned c.unit c.load l x))
+      selected : Selected m P (planner_values (ok_planned c.unit c.load l x))
       selected = record {
         exponent = chose.exponent;
         planned =
@@ -81,13 +81,13 @@ module _ {m : Planning} {loads energies : List ℕ} {q : Request} (p : Poses m l
       holds = rw (← p.same.count) (record { front = refl; rest = chose.rest })
 
       pub plan_given_lem : (cs : List Check) → Accepts cs
-          → PlanGives (cs ▹ none_check (Fitting m.problem)) m plan plan' (Planned c.unit c.load l x)
+          → PlanGives (cs ▹ none_check (Fitting m.problem)) m plan plan' (ok_planned c.unit c.load l x)
       plan_given_lem cs accepts = (
         accepts_next cs (none_check (Fitting m.problem)) accepts (λ k none. none.1 P fits),
         (P, selected, holds),
       )
 
-      pub numbers : RateNumbers m plan' (Planned c.unit c.load l x)
+      pub numbers : RateNumbers m plan' (ok_planned c.unit c.load l x)
       numbers t h =
           let at = get_or-take q.tasks plan' t 0 (omega (arith, p.same.count)) in
           let low : 1 ≤ get_or plan' t 0 = omega (arith, at, plan_is.above t (omega (arith, p.same.count))) in
@@ -98,7 +98,7 @@ module _ {m : Planning} {loads energies : List ℕ} {q : Request} (p : Poses m l
 -- ---- a list
 -- What has passed the checks before 7 is a set.
 pub set_given : {layout : Layout} {s : List ℕ} {cs : List Check} → PlansList layout s cs
-    → {m n l : ℕ} → SetAfter cs layout s (Good m n l) → SetGiven layout s m n l
+    → {m n l : ℕ} → SetAfter cs layout s (ok_measured m n l) → SetGiven layout s m n l
 set_given plans after = record {
   set = plans.set after.0;
   covered = plans.covered after.0;

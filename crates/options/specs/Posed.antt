@@ -1,6 +1,6 @@
 -- What an engine is asked for what is planned. Not part of what a reader must believe: the calls' contracts speak of the
 -- planning's own problem.
-use Rattle.std.specs.Prelude.{ℕ, ◌≡◌, List}
+use Rattle.std.specs.Prelude.{ℕ, ◌≡◌, List, Result, Ok, Err}
 use Rattle.selection.specs.Plan.{Fitting}
 use Rattle.selection.specs.Same.{Same}
 use Rattle.layout.specs.Words.{rate_count, task_count}
@@ -9,14 +9,14 @@ use Rattle.taskset.specs.Quantities.{hyper_period}
 use Rattle.taskset.specs.Planning.{Planning, planning}
 use Rattle.taskset.specs.Refusals.{◌▹◌, idle_checks, hyper_check}
 use Rattle.taskset.specs.Calls.{SetAfter}
-use Rattle.taskset.specs.declared.Checked.TheVariants.{Good}
 use Rattle.taskset.specs.Sets.{IsSet}
 use Rattle.taskset.specs.Sets.{Covered}
 use Rattle.engine.specs.Arrays.{load_bound, energy_bound, arrays, Asked, Small}
 use Rattle.engine.specs.declared.Request.{Request}
 use Rattle.options.specs.Options.{LaidBoth}
-use Rattle.options.specs.declared.Posed.{Posed}
-use Rattle.options.specs.declared.Posed.TheVariants.{NoneFits, For}
+use Rattle.taskset.specs.declared.Refusal.{Refusal}
+use Rattle.taskset.specs.declared.Refusal.TheVariants.{NoPlan}
+use Rattle.taskset.specs.Answers.{ok_measured}
 
 -- A set that passes checks 2, 3, 10 and 4, with its counts and its hyper-period.
 pub record SetGiven (layout : Layout) (s : List ℕ) (m n l : ℕ) : Type 0 where
@@ -28,7 +28,7 @@ pub record SetGiven (layout : Layout) (s : List ℕ) (m n l : ℕ) : Type 0 wher
 
 -- It has passed them: what the checks answered.
 pub record SetPassed (layout : Layout) (s : List ℕ) (m n l : ℕ) : Type 0 where
-  pub after : SetAfter (idle_checks layout s ▹ hyper_check layout s) layout s (Good m n l)
+  pub after : SetAfter (idle_checks layout s ▹ hyper_check layout s) layout s (ok_measured m n l)
 
 -- The request and the arrays give the planning's own problem, with its slack; and a plan fits.
 pub record Poses (m : Planning) (loads energies : List ℕ) (q : Request) : Type 0 where
@@ -38,12 +38,12 @@ pub record Poses (m : Planning) (loads energies : List ℕ) (q : Request) : Type
   pub loads_fit : Small load_bound loads
   pub energies_fit : Small energy_bound energies
 
--- The request where a plan fits, or that none does.
-abbrev pub PosedFor : Planning → (loads energies : List ℕ) → Posed → Type 0
-PosedFor m loads energies NoneFits = (P : List ℕ) → Fitting m.problem P → ⊥
-PosedFor m loads energies (For q) = Poses m loads energies q
+-- The request where a plan fits, or the refusal that says that none does.
+abbrev pub PosedFor : Planning → (loads energies : List ℕ) → Result Request Refusal → Type 0
+PosedFor m loads energies (Ok q) = Poses m loads energies q
+PosedFor m loads energies (Err r) = (r ≡ NoPlan) × ((P : List ℕ) → Fitting m.problem P → ⊥)
 
 -- What is asked for a set of m rates and n tasks, and what both arrays then hold, also where no plan fits.
-pub record SetPosed (layout : Layout) (s : List ℕ) (m n : ℕ) (loads energies : List ℕ) (r : Posed) : Type 0 where
+pub record SetPosed (layout : Layout) (s : List ℕ) (m n : ℕ) (loads energies : List ℕ) (r : Result Request Refusal) : Type 0 where
   pub laid : LaidBoth layout s m n 1 loads energies
   pub posed : PosedFor (planning layout s) loads energies r

@@ -3,22 +3,15 @@
 // that no plan fits; and from what it chose to the answer. Which plan is chosen, and how, is left to the engines.
 #![tactic(auto)]
 
-ghost use Rattle.std.specs.Prelude.{◌≡◌, ◌+◌, ◌*◌, ◌^◌, ◌<◌, length};
+ghost use Rattle.std.specs.Prelude.{◌≡◌, ◌+◌, ◌*◌, ◌^◌, ◌<◌, length, Ok};
 ghost use Rattle.layout.specs.Words.{idle_place, idle};
-ghost use Rattle.taskset.specs.declared.PlannerAnswer.TheVariants.{Planned};
+ghost use Rattle.taskset.specs.Answers.{ok_planned};
 ghost use Rattle.options.specs.Options.{LaidBoth, TaskGiven, TasksGiven};
 ghost use Rattle.options.specs.Posed.{SetGiven, SetPosed};
 
 use engine::{Choice, Request};
 use layout::Layout;
-use taskset::PlannerAnswer;
-
-// What an engine is asked for a set: no plan fits, or a request.
-#[derive(Clone, Copy)]
-pub enum Posed {
-    NoneFits,
-    For(Request),
-}
+use taskset::{Measured, Planned, Refusal};
 
 // Puts down the loads and energies of the task at place t: at each of m rates, that of one job times the jobs in a
 // hyper-period.
@@ -75,22 +68,25 @@ pub fn pose(
     energies: &mut [u64; 512],
     set: &[u32],
     layout: Layout,
-    rates: usize,
-    tasks: usize,
-    hyper: u64,
-) -> Posed
-    requires set_given { SetGiven layout set.now rates tasks hyper }
-    requires laid_both { LaidBoth layout set.now rates 0 1 loads.old energies.old }
-    ensures { SetPosed layout set.now rates tasks loads.new energies.new result }
+    measured: Measured,
+) -> Result<Request, Refusal>
+    requires set_given { SetGiven layout set.now measured.rates measured.tasks measured.hyper }
+    requires laid_both { LaidBoth layout set.now measured.rates 0 1 loads.old energies.old }
+    ensures { SetPosed layout set.now measured.rates measured.tasks loads.new energies.new result }
 {
+    let Measured {
+        rates,
+        tasks,
+        hyper,
+    } = measured;
     put_tasks(loads, energies, set, layout, rates, tasks, hyper);
     let fastest = engine::fastest_sum(loads, tasks, rates);
     let is_too_much = hyper < fastest;
     if is_too_much {
-        return Posed::NoneFits;
+        return Err(Refusal::NoPlan);
     }
     let limit = hyper as u32;
-    Posed::For(Request {
+    Ok(Request {
         tasks,
         rates,
         limit,
@@ -98,15 +94,15 @@ pub fn pose(
     })
 }
 
-// The answer with a plan that was chosen. The choice goes by what is drawn over idling: with the idle energy of every
-// tick it is what is reported, the plan's task energies and H for each idle tick.
-pub fn planned(set: &[u32], hyper: u64, c: Choice) -> PlannerAnswer
+// What is answered of a plan that was chosen. The choice goes by what is drawn over idling: with the idle energy of
+// every tick it is what is reported, the plan's task energies and H for each idle tick.
+pub fn planned(set: &[u32], hyper: u64, c: Choice) -> Planned
     requires { (idle_place < length set.now) × (c.energy + idle set.now * hyper < 2 ^ 64) }
-    ensures { result ≡ Planned c.unit c.load hyper (c.energy + idle set.now * hyper) }
+    ensures { ok_planned c.unit c.load hyper (c.energy + idle set.now * hyper) ≡ Ok result }
 {
     let idle = checks::idle_of(set) as u64;
     let total = c.energy + idle * hyper;
-    PlannerAnswer::Planned {
+    Planned {
         unit: c.unit,
         load: c.load,
         hyper,

@@ -1,7 +1,6 @@
-use Prim.Native.Nat.{ℕ, ◌+◌, ◌*◌}
+use Prim.Native.Nat.{ℕ, ◌*◌}
 use mathlib.Core.Path.{ap}
 use native.Mathlib.Omega.{arith}
-use Rattle.taskset.specs.declared.PlannerAnswer.TheVariants.{Planned}
 use Rattle.options.proofs.planned.Goals as goal
 
 pub overflow_mul-total : goal.overflow_mul-total
@@ -9,8 +8,3 @@ overflow_mul-total c = omega (arith, c.requires.1, ap (λ (h : ℕ). h * c.args.
 
 pub overflow_add-total : goal.overflow_add-total
 overflow_add-total c = omega (arith, c.requires.1, ap (λ (h : ℕ). h * c.args.hyper) c.idle_of-idle.ensures)
-
-pub returns : goal.returns
-returns c = let a = c.args in
-    ap (λ (h : ℕ). Planned a.c.unit a.c.load a.hyper (a.c.energy + h * a.hyper))
-    c.idle_of-idle.ensures
