@@ -9,7 +9,7 @@ use native.Mathlib.Omega.{arith}
 use lib.ListN.{length, get_or, take, drop, set, length-append, take-append-drop}
 use lib.Seq.{take-suc-set, drop-set-lt, take-append_seam, drop-append-add, drop-drop, take_at}
 use Rattle.entries.specs.Entry.{bytes_of, result_bytes, value_of, result_at}
-use Rattle.entries.specs.Put.{placed, Placed, Four}
+use Rattle.entries.specs.Put.{placed, Placed}
 
 -- "lowest byte first": 258 is 2 and 1 × 256.
 lowest_first : result_bytes (258 ∷ []) ≡ 2 ∷ 1 ∷ 0 ∷ 0 ∷ 0 ∷ 0 ∷ 0 ∷ 0 ∷ []
@@ -58,7 +58,7 @@ put_next k v f d d₁ d₂ s e p =
 longer : (k v : ℕ) (f : List ℕ) → length f ≡ k → length (f ++ bytes_of 8 v) ≡ k + 8
 longer k v f s = simp length-append (omega (arith, length-bytes 8 v))
 
-pub four : (a b c e : ℕ) (d d₁ d₂ d₃ d₄ : List ℕ) → Placed 0 a d d₁ → Placed 8 b d₁ d₂ → Placed 16 c d₂ d₃ → Placed 24 e d₃ d₄ → Four a b c e d d₄
+pub four : (a b c e : ℕ) (d d₁ d₂ d₃ d₄ : List ℕ) → Placed 0 a d d₁ → Placed 8 b d₁ d₂ → Placed 16 c d₂ d₃ → Placed 24 e d₃ d₄ → d₄ ≡ result_bytes (a ∷ b ∷ c ∷ e ∷ []) ++ drop 32 d
 unfolding result_bytes
 four a b c e d d₁ d₂ d₃ d₄ p q r s =
     let x₁ = put_next 0 a [] d d d₁ refl refl p in
@@ -66,7 +66,7 @@ four a b c e d d₁ d₂ d₃ d₄ p q r s =
     let two = longer 8 b (bytes_of 8 a) (length-bytes 8 a) in
     let x₃ = put_next 16 c (bytes_of 8 a ++ bytes_of 8 b) d d₂ d₃ two x₂ r in
     let x₄ = put_next 24 e ((bytes_of 8 a ++ bytes_of 8 b) ++ bytes_of 8 c) d d₃ d₄ (longer 16 c (bytes_of 8 a ++ bytes_of 8 b) two) x₃ s in
-    record { bytes = x₄ ∙ simp (append_assoc, append-nil); size = s.size ∙ r.size ∙ q.size ∙ p.size }
+    x₄ ∙ simp (append_assoc, append-nil)
 
 -- ---- reading
 pub value_of_bytes : (k v : ℕ) → v < 256 ^ k → value_of (bytes_of k v) ≡ v

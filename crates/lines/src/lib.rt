@@ -7,7 +7,7 @@ ghost use Rattle.taskset.specs.Refusals.{number, second};
 ghost use Rattle.printer.specs.Puts.{Put, Added};
 ghost use Rattle.lines.specs.Lines.{pair_line, plan_line, rate_line, rate_lines, walk_line, refused_line};
 
-use taskset::Refusal;
+use taskset::{Planned, Refusal};
 
 // A line of two numbers behind a name, to a buffer from a place on. The place after it.
 fn add_pair(buf: &mut [u8], at: usize, name: &[u8], first: u64, beside: u64) -> usize
@@ -78,15 +78,7 @@ fn add_walk(buf: &mut [u8], at: usize, busy: u64, idle: u64, preempted: u64) -> 
     printer::add_bytes(buf, c, b"))\n")
 }
 
-// The numbers of a plan's own line, and those of its walk's.
-#[derive(Clone, Copy)]
-pub struct PlanFigures {
-    pub unit: u64,
-    pub load: u64,
-    pub hyper: u64,
-    pub energy: u64,
-}
-
+// The numbers of a walk's line.
 #[derive(Clone, Copy)]
 pub struct WalkFigures {
     pub busy: u64,
@@ -95,7 +87,7 @@ pub struct WalkFigures {
 }
 
 // The lines of a plan: its own, one a task, and that of its walk. How many bytes.
-pub fn put_plan(buf: &mut [u8], p: PlanFigures, plan: &[u32], w: WalkFigures) -> usize
+pub fn put_plan(buf: &mut [u8], p: Planned, plan: &[u32], w: WalkFigures) -> usize
     requires { length (plan_line p.unit p.load p.hyper p.energy ++ (rate_lines 1 plan.now ++ walk_line w.busy w.idle w.preempted)) ≤ length buf.old }
     ensures { Put (plan_line p.unit p.load p.hyper p.energy ++ (rate_lines 1 plan.now ++ walk_line w.busy w.idle w.preempted)) buf.old buf.new result }
 {
