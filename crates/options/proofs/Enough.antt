@@ -2,20 +2,21 @@
 -- Assumes nothing.
 use Rattle.std.specs.Prelude.{Err}
 use Prim.Native.Nat.{ℕ, ◌≤◌, ◌<◌}
-use mathlib.Core.Path.{◌≡◌, refl, subst, sym}
-use mathlib.Core.List.{List}
+use mathlib.Core.Path.{refl}
+use mathlib.Core.List.{List, [], ◌∷◌}
 use native.Mathlib.Omega.{arith}
 use Rattle.layout.specs.Words.{task_count}
 use Rattle.layout.specs.declared.Layout.{Layout}
 use Rattle.layout.specs.Whole.{IsWhole}
 use Rattle.layout.proofs.Whole.{whole_of}
 use Rattle.taskset.specs.Refusals.{number, second, Check, Passes, Accepts}
-use Rattle.taskset.specs.Refusals.{Refuses, ◌▹◌, idle_checks, hyper_check, room_check}
+use Rattle.taskset.specs.Refusals.{◌▹◌, idle_checks, hyper_check, room_check}
 use Rattle.taskset.specs.Calls.{SetAfter}
 use Rattle.taskset.specs.declared.Refusal.{Refusal}
 use Rattle.taskset.specs.declared.Refusal.TheVariants.{TooShort}
+use Rattle.checks.specs.Steps.{PassedAfter}
 use Rattle.options.specs.Posed.{SetPassed}
-use Rattle.taskset.proofs.Checks.{no_word_fault, accepts_next, refuses_next, refuses_before, passed}
+use Rattle.taskset.proofs.Checks.{no_word_fault, accepts_next, refuses_next, refuses_back, refuses_before, passed}
 use Rattle.taskset.specs.Answers.{ok_measured}
 
 module _ {layout : Layout} {s : List ℕ} {m n l : ℕ} (passed-set : SetPassed layout s m n l) where
@@ -41,11 +42,9 @@ module _ (layout : Layout) (s : List ℕ) (c : Check) (planLength : ℕ) where
     good = passed-set.after
 
     -- The call's own check holds.
-    pub own_refused : (r : Refusal) → number r ≡ c.number → c.cause (second r)
-        → SetAfter (set ▹ c ▹ room) layout s (Err r)
-    own_refused r e h =
-        refuses_before (set ▹ c) room (number r) (second r)
-        (subst (λ (x : ℕ). Refuses (set ▹ c) x (second r)) (sym e) (refuses_next set c (second r) good.0 h))
+    pub own_refused : (r : Refusal) → PassedAfter (c ∷ []) (Err r) → SetAfter (set ▹ c ▹ room) layout s (Err r)
+    own_refused r h =
+        refuses_before (set ▹ c) room (number r) (second r) (refuses_back set (c ∷ []) (number r) (second r) good.0 h)
 
     -- It passes, and the plan list is too short, or long enough.
     module _ (pass : Passes c) where

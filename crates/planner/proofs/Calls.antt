@@ -1,6 +1,7 @@
 -- From the functions below it to the call: what the checks give is what the engine asks for, and what is chosen over the
 -- arrays is what document 01 selects of the list.
 -- Assumes nothing.
+use Rattle.std.specs.Prelude.{Err}
 use Prim.Native.Nat.{ℕ, ◌+◌, ◌*◌, ◌^◌, ◌<◌}
 use mathlib.Core.Path.{refl, subst}
 use mathlib.Core.List.{List}
@@ -14,10 +15,7 @@ use Rattle.taskset.specs.Refusals.{number, second, Check, Refuses, none_check, r
 use Rattle.taskset.specs.Calls.{SetAfter, RateNumbers, Cleared, PlannerGives}
 use Rattle.taskset.specs.declared.Refusal.{Refusal}
 use Rattle.taskset.specs.declared.Refusal.TheVariants.{NoPlan}
-use Rattle.taskset.specs.declared.Checked.TheVariants.{Good, Refused as NotGood}
 use Rattle.taskset.specs.declared.Engine.{Engine}
-use Rattle.taskset.specs.declared.PlannerAnswer.{PlannerAnswer}
-use Rattle.taskset.specs.declared.PlannerAnswer.TheVariants.{Planned, Refused as NotPlanned}
 use Rattle.taskset.proofs.Checks.{refuses_before}
 use Rattle.taskset.proofs.DemandThree.{PlansList, engine_plans, list_plans, answer_owes}
 use Rattle.engine.specs.declared.Request.{Request}
@@ -27,6 +25,7 @@ use Rattle.options.proofs.Planning.{set_given, none_given, energy_is, energy_fit
 use Rattle.planner.specs.Answers.{PlannerCall}
 use Rattle.planner.specs.Engines.{EngineAsked, EngineChose}
 use Rattle.planner.proofs.Engines.{asked, clears-own}
+use Rattle.taskset.specs.Answers.{PlannerAnswer, ok_measured, ok_planned}
 
 -- What meets document 01's definition keeps what demand 3 asks of it.
 called : (e : Engine) (s plan work plan' work' : List ℕ) (a : PlannerAnswer) → PlannerGives e s plan work plan' work' a
@@ -42,17 +41,17 @@ called e s plan work plan' work' a g n =
 
 -- A refusal by the checks before 7 is the call's, and leaves the lists as they were.
 pub ready_refused : (e : Engine) (s plan work : List ℕ) (r : Refusal)
-    → SetAfter (ready_checks e s (length plan) (length work)) (layout_of e) s (NotGood r)
-    → PlannerCall e s plan work plan work (NotPlanned r)
+    → SetAfter (ready_checks e s (length plan) (length work)) (layout_of e) s (Err r)
+    → PlannerCall e s plan work plan work (Err r)
 ready_refused e s plan work r h =
     let refuses : Refuses (planner_checks e s (length plan) (length work)) (number r) (second r)
     = refuses_before (ready_checks e s (length plan) (length work)) (none_check (Fitting (problem_of (layout_of e) s)))
     (number r) (second r) h in
-    called e s plan work plan work (NotPlanned r) ((refuses, refl), refl) tt
+    called e s plan work plan work (Err r) ((refuses, refl), refl) tt
 
 -- A set of m rates, n tasks and hyper-period l has passed the checks before 7.
 pub record Prepared (e : Engine) (s plan work : List ℕ) (m n l : ℕ) : Type 0 where
-  pub after : SetAfter (ready_checks e s (length plan) (length work)) (layout_of e) s (Good m n l)
+  pub after : SetAfter (ready_checks e s (length plan) (length work)) (layout_of e) s (ok_measured m n l)
 
 module _ {e : Engine} {s plan work : List ℕ} {m n l : ℕ} (prepared : Prepared e s plan work m n l) where
   abbrev checks : List Check
@@ -61,7 +60,7 @@ module _ {e : Engine} {s plan work : List ℕ} {m n l : ℕ} (prepared : Prepare
   plans : PlansList (layout_of e) s checks
   plans = engine_plans e s (length plan) (length work)
 
-  good : SetAfter checks (layout_of e) s (Good m n l)
+  good : SetAfter checks (layout_of e) s (ok_measured m n l)
   good = prepared.after
 
   pub given : SetGiven (layout_of e) s m n l
@@ -72,9 +71,9 @@ module _ {e : Engine} {s plan work : List ℕ} {m n l : ℕ} (prepared : Prepare
 
   -- No plan fits.
   pub none_fits : ((P : List ℕ) → Fitting (problem_of (layout_of e) s) P → ⊥)
-      → PlannerCall e s plan work plan work (NotPlanned NoPlan)
+      → PlannerCall e s plan work plan work (Err NoPlan)
   none_fits none =
-      called e s plan work plan work (NotPlanned NoPlan)
+      called e s plan work plan work (Err NoPlan)
       (none_given (planning (layout_of e) s) checks good.0 plan none, refl) tt
 
   -- A request for the set, and what was chosen for it.
@@ -89,8 +88,8 @@ module _ {e : Engine} {s plan work : List ℕ} {m n l : ℕ} (prepared : Prepare
       cleared : Cleared (work_of e s) work work'
       cleared = subst (λ (w : ℕ). Cleared w work work') (clears-own e s p) chose.cleared
 
-      pub chosen_given : PlannerCall e s plan work plan' work' (Planned c.unit c.load l (c.energy + idle s * l))
+      pub chosen_given : PlannerCall e s plan work plan' work' (ok_planned c.unit c.load l (c.energy + idle s * l))
       chosen_given =
-          called e s plan work plan' work' (Planned c.unit c.load l (c.energy + idle s * l))
+          called e s plan work plan' work' (ok_planned c.unit c.load l (c.energy + idle s * l))
           (plan_given_lem p chose.chosen good.3 (energy_is given p chose.chosen) checks good.0, cleared)
           (numbers p chose.chosen good.3 (energy_is given p chose.chosen))

@@ -2,8 +2,9 @@
 -- Assumes nothing.
 use Prim.Native.Nat.{ℕ, suc, ◌^◌, ◌≤◌, ◌<◌, min}
 use mathlib.Core.Path.{◌≡◌, refl, sym, ap₂, subst}
-use mathlib.Core.List.{List}
-use mathlib.Core.Logic.{⊎_elim}
+use mathlib.Core.List.{List, [], ◌∷◌}
+use mathlib.Core.Logic.{inl, ⊎_elim}
+use Rattle.std.specs.Prelude.{Result, Ok, Err}
 use native.Mathlib.Omega.{arith}
 use lib.ListN.{length}
 use Rattle.numbers.proofs.Tests.{lt_or_le}
@@ -19,7 +20,7 @@ use Rattle.layout.specs.declared.Layout.TheVariants.{Ordinary}
 use Rattle.layout.proofs.Whole.{slack_in}
 use Rattle.taskset.specs.Quantities.{work_needed}
 use Rattle.taskset.specs.Planning.{planning, layout_of, work_of}
-use Rattle.taskset.specs.Refusals.{Accepts, ready_checks}
+use Rattle.taskset.specs.Refusals.{Accepts, engine_check, ready_checks}
 use Rattle.taskset.specs.Calls.{Cleared}
 use Rattle.taskset.specs.declared.Refusal.TheVariants.{WorkShort, TooManyPlans}
 use Rattle.taskset.specs.declared.Engine.{Engine}
@@ -29,10 +30,15 @@ use Rattle.taskset.proofs.Checks.{passed}
 use Rattle.options.specs.Posed.{SetPassed, Poses}
 use Rattle.options.proofs.Enough.{whole}
 use Rattle.options.proofs.Planning.{long_enough, engine_ready}
-use Rattle.planner.specs.Engines.{OwnAfter, Asks, clears, EngineAsked, EngineChose}
-use Rattle.planner.specs.declared.Own.TheVariants.{Passed, Failed}
+use Rattle.planner.specs.Engines.{Asks, clears, EngineAsked, EngineChose}
+use Rattle.checks.specs.Steps.{PassedAfter}
+use Rattle.taskset.specs.declared.Refusal.{Refusal}
 
 -- ---- the check that is an engine's own, of a set that has passed those before it
+-- What it answers.
+abbrev pub OwnAfter : Engine → List ℕ → ℕ → Result (Unit {0}) Refusal → Type 0
+OwnAfter e s workLength = PassedAfter (engine_check e s workLength ∷ [])
+
 module _ {layout : Layout} {s : List ℕ} {m n l : ℕ} (counted : SetPassed layout s m n l) where
   pub some_words : slack_place < length s
   some_words = omega (arith, (whole counted).size)
@@ -55,11 +61,11 @@ module _ (layout : Layout) {s : List ℕ} {m n l : ℕ} (counted : SetPassed lay
   needed : w ≡ work_needed layout s
   needed = rw (← counted.after.2) is
 
-  table_short : workLength < w → OwnAfter (Table layout) s workLength (Failed (WorkShort w))
-  table_short h = (refl, (rw (← needed) h, needed))
+  table_short : workLength < w → OwnAfter (Table layout) s workLength (Err (WorkShort w))
+  table_short h = inl (refl, (rw (← needed) h, needed))
 
-  table_enough : w ≤ workLength → OwnAfter (Table layout) s workLength Passed
-  table_enough h k x = omega (arith, x.0, needed)
+  table_enough : w ≤ workLength → OwnAfter (Table layout) s workLength (Ok tt)
+  table_enough h = ((λ k x. omega (arith, x.0, needed)), tt)
 
 -- Check 11, with k the plans as they were counted.
 module _ {s : List ℕ} {m n l : ℕ} (counted : SetPassed Ordinary s m n l)
@@ -67,11 +73,11 @@ module _ {s : List ℕ} {m n l : ℕ} (counted : SetPassed Ordinary s m n l)
   power : m ^ n ≡ rate_count Ordinary s ^ task_count Ordinary s
   power = ap₂ ◌^◌ counted.after.1 counted.after.2
 
-  plans_many : most_plans < k → OwnAfter Exhaustive s workLength (Failed TooManyPlans)
-  plans_many h = (refl, (refl, omega (arith, power)))
+  plans_many : most_plans < k → OwnAfter Exhaustive s workLength (Err TooManyPlans)
+  plans_many h = inl (refl, (refl, omega (arith, power)))
 
-  plans_few : k ≤ most_plans → OwnAfter Exhaustive s workLength Passed
-  plans_few h j x = omega (arith, power, x.1)
+  plans_few : k ≤ most_plans → OwnAfter Exhaustive s workLength (Ok tt)
+  plans_few h = ((λ j x. omega (arith, power, x.1)), tt)
 
 -- The same of an engine that is known to be the one or the other.
 module _ {e : Engine} {s : List ℕ} {m n l : ℕ} (counted : SetPassed (layout_of e) s m n l) (workLength : ℕ) where
@@ -79,27 +85,27 @@ module _ {e : Engine} {s : List ℕ} {m n l : ℕ} (counted : SetPassed (layout_
     by_table : SetPassed layout s m n l
     by_table = subst (λ (x : Engine). SetPassed (layout_of x) s m n l) is counted
 
-    pub work_short : workLength < w → OwnAfter e s workLength (Failed (WorkShort w))
+    pub work_short : workLength < w → OwnAfter e s workLength (Err (WorkShort w))
     work_short h =
-        subst (λ (x : Engine). OwnAfter x s workLength (Failed (WorkShort w))) (sym is)
+        subst (λ (x : Engine). OwnAfter x s workLength (Err (WorkShort w))) (sym is)
         (table_short layout by_table w-is workLength h)
 
-    pub work-enough : w ≤ workLength → OwnAfter e s workLength Passed
+    pub work-enough : w ≤ workLength → OwnAfter e s workLength (Ok tt)
     work-enough h =
-        subst (λ (x : Engine). OwnAfter x s workLength Passed) (sym is) (table_enough layout by_table w-is workLength h)
+        subst (λ (x : Engine). OwnAfter x s workLength (Ok tt)) (sym is) (table_enough layout by_table w-is workLength h)
 
   module _ (is : e ≡ Exhaustive) {k : ℕ} (k-is : k ≡ min (m ^ n) (suc most_plans)) where
     through_all : SetPassed Ordinary s m n l
     through_all = subst (λ (x : Engine). SetPassed (layout_of x) s m n l) is counted
 
-    pub too_many : most_plans < k → OwnAfter e s workLength (Failed TooManyPlans)
+    pub too_many : most_plans < k → OwnAfter e s workLength (Err TooManyPlans)
     too_many h =
-        subst (λ (x : Engine). OwnAfter x s workLength (Failed TooManyPlans)) (sym is)
+        subst (λ (x : Engine). OwnAfter x s workLength (Err TooManyPlans)) (sym is)
         (plans_many through_all k-is workLength h)
 
-    pub few_enough : k ≤ most_plans → OwnAfter e s workLength Passed
+    pub few_enough : k ≤ most_plans → OwnAfter e s workLength (Ok tt)
     few_enough h =
-        subst (λ (x : Engine). OwnAfter x s workLength Passed) (sym is) (plans_few through_all k-is workLength h)
+        subst (λ (x : Engine). OwnAfter x s workLength (Ok tt)) (sym is) (plans_few through_all k-is workLength h)
 
 -- ---- what an engine asks, of a request for a list that has passed the checks before 7
 own_asks : (e : Engine) (s : List ℕ) (planLength : ℕ) (work : List ℕ) → Accepts (ready_checks e s planLength (length work))

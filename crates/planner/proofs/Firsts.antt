@@ -11,10 +11,10 @@ use Rattle.taskset.specs.Planning.{planning, layout_of}
 use Rattle.taskset.specs.Refusals.{Passes, word_check}
 use Rattle.taskset.specs.Calls.{DifferInFirsts, PlannerGives}
 use Rattle.taskset.specs.declared.Engine.{Engine}
-use Rattle.taskset.specs.declared.PlannerAnswer.{PlannerAnswer}
 use Rattle.taskset.proofs.Unique.{SameGiven, planner_unique, SamePlan, planner_by_lengths}
 use Rattle.taskset.proofs.Firsts.{alike_of, alike_sym, gives_same}
 use Rattle.planner.specs.Answers.{PlannerCall}
+use Rattle.taskset.specs.Answers.{PlannerAnswer}
 
 module _ (e : Engine) (s s' : List ℕ) (differ : DifferInFirsts (layout_of e) s s')
     (pass : Passes (word_check (layout_of e) s)) (pass' : Passes (word_check (layout_of e) s')) where

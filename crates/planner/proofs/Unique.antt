@@ -5,12 +5,11 @@ use mathlib.Core.Path.{◌≡◌}
 use mathlib.Core.List.{List}
 use Rattle.taskset.specs.Planning.{layout_of}
 use Rattle.taskset.specs.Refusals.{ready_checks}
-use Rattle.taskset.specs.declared.Checked.{Checked}
 use Rattle.taskset.specs.declared.Engine.{Engine}
-use Rattle.taskset.specs.declared.PlannerAnswer.{PlannerAnswer}
 use Rattle.taskset.specs.Calls.{SetAfter}
 use Rattle.taskset.proofs.Unique.{ready_single, set_unique, SameGiven, planner_unique}
 use Rattle.planner.specs.Answers.{PlannerCall}
+use Rattle.taskset.specs.Answers.{Checked, PlannerAnswer}
 
 pub ready_unique : (e : Engine) (s : List ℕ) (planLength workLength : ℕ) (a b : Checked)
     → SetAfter (ready_checks e s planLength workLength) (layout_of e) s a

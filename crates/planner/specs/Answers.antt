@@ -5,7 +5,7 @@ use Rattle.taskset.specs.Refusals.{ready_checks}
 use Rattle.taskset.specs.Calls.{RateNumbers, PlannerGives}
 use Rattle.taskset.specs.DemandThree.{PlanOwes}
 use Rattle.taskset.specs.declared.Engine.{Engine}
-use Rattle.taskset.specs.declared.PlannerAnswer.{PlannerAnswer}
+use Rattle.taskset.specs.Answers.{PlannerAnswer}
 
 -- THE CALL'S CONTRACT, where e is the engine, plan and work were lent, and plan' and work' are given back: the answer and
 -- every word are document 01's; every rate number is one of a table of M entries; and the answer owes what demand 3's

@@ -5,18 +5,9 @@ use Rattle.selection.specs.Plan.{work_words, most_plans}
 use Rattle.engine.specs.Arrays.{EngineReady, ChosenBy}
 use Rattle.engine.specs.declared.Request.{Request}
 use Rattle.engine.specs.declared.Choice.{Choice}
-use Rattle.taskset.specs.Refusals.{number, second, Passes, engine_check}
 use Rattle.taskset.specs.Calls.{Cleared}
 use Rattle.taskset.specs.declared.Engine.{Engine}
 use Rattle.taskset.specs.declared.Engine.TheVariants.{Table, Exhaustive}
-use Rattle.planner.specs.declared.Own.{Own}
-use Rattle.planner.specs.declared.Own.TheVariants.{Passed, Failed}
-
--- What the engine's own check of a set that has passed those before it answers.
-abbrev pub OwnAfter : Engine → List ℕ → ℕ → Own → Type 0
-OwnAfter e s workLength Passed = Passes (engine_check e s workLength)
-OwnAfter e s workLength (Failed r) =
-    (number r ≡ (engine_check e s workLength).number) × (engine_check e s workLength).cause (second r)
 
 -- What an engine asks of its own: the table its working words, the other a task, and few plans.
 abbrev pub Asks : Engine → Request → List ℕ → Type 0

@@ -3,27 +3,19 @@
 // is made to the crates choice, by the table, and exhaustive, through all plans.
 #![tactic(auto)]
 
-ghost use Rattle.std.specs.Prelude.{◌≡◌, ◌+◌, ◌≤◌, length};
+ghost use Rattle.std.specs.Prelude.{◌≡◌, ◌+◌, ◌≤◌, [], ◌∷◌, length, Ok};
 ghost use Rattle.selection.specs.Plan.{work_words};
-ghost use Rattle.taskset.specs.declared.Checked.TheVariants.{Good};
 ghost use Rattle.taskset.specs.Planning.{layout_of};
-ghost use Rattle.taskset.specs.Refusals.{ready_checks};
+ghost use Rattle.taskset.specs.Refusals.{engine_check, ready_checks};
 ghost use Rattle.taskset.specs.Calls.{SetAfter};
+ghost use Rattle.checks.specs.Steps.{PassedAfter};
 ghost use Rattle.options.specs.Posed.{SetPassed};
 ghost use Rattle.planner.specs.Answers.{PlannerCall};
-ghost use Rattle.planner.specs.Engines.{OwnAfter, EngineAsked, EngineChose};
+ghost use Rattle.planner.specs.Engines.{EngineAsked, EngineChose};
 
 use engine::{Choice, Request};
 use layout::Layout;
-use options::Posed;
-use taskset::{Checked, Engine, PlannerAnswer, Refusal};
-
-// What the check that is an engine's own answers.
-#[derive(Clone, Copy)]
-enum Own {
-    Passed,
-    Failed(Refusal),
-}
+use taskset::{Checked, Engine, Measured, PlannerAnswer, Refusal};
 
 // The layout of the list that an engine plans.
 fn layout_of(engine: Engine) -> Layout
@@ -48,29 +40,27 @@ fn work_needed(n: usize, g: u32) -> usize
 fn own_check(
     set: &[u32],
     engine: Engine,
-    rates: usize,
-    tasks: usize,
-    hyper: u64,
+    measured: Measured,
     work_len: usize,
-) -> Own
-    requires { SetPassed (layout_of engine) set.now rates tasks hyper }
-    ensures { OwnAfter engine set.now work_len result }
+) -> Result<(), Refusal>
+    requires { SetPassed (layout_of engine) set.now measured.rates measured.tasks measured.hyper }
+    ensures { PassedAfter (engine_check engine set.now work_len ∷ []) result }
 {
     match engine {
         Engine::Table(_) => {
-            let w = work_needed(tasks, checks::slack_of(set));
+            let w = work_needed(measured.tasks, checks::slack_of(set));
             if work_len < w {
-                return Own::Failed(Refusal::WorkShort(w));
+                return Err(Refusal::WorkShort(w));
             }
-            Own::Passed
+            Ok(())
         }
         Engine::Exhaustive => {
-            let plans = exhaustive::plan_count(rates, tasks);
+            let plans = exhaustive::plan_count(measured.rates, measured.tasks);
             let is_many = exhaustive::MOST_PLANS < plans;
             if is_many {
-                return Own::Failed(Refusal::TooManyPlans);
+                return Err(Refusal::TooManyPlans);
             }
-            Own::Passed
+            Ok(())
         }
     }
 }
@@ -80,30 +70,12 @@ fn own_check(
 pub fn ready(set: &[u32], engine: Engine, plan_len: usize, work_len: usize) -> Checked
     ensures { SetAfter (ready_checks engine set.now plan_len work_len) (layout_of engine) set.now result }
 {
-    let checked = checks::check_covered(set, layout_of(engine));
-    match checked {
-        Checked::Refused(r) => Checked::Refused(r),
-        Checked::Good {
-            rates,
-            tasks,
-            hyper,
-        } => {
-            let own = own_check(set, engine, rates, tasks, hyper, work_len);
-            match own {
-                Own::Failed(r) => Checked::Refused(r),
-                Own::Passed => {
-                    if plan_len < tasks {
-                        return Checked::Refused(Refusal::TooShort(tasks));
-                    }
-                    Checked::Good {
-                        rates,
-                        tasks,
-                        hyper,
-                    }
-                }
-            }
-        }
+    let measured = checks::check_covered(set, layout_of(engine))?;
+    own_check(set, engine, measured, work_len)?;
+    if plan_len < measured.tasks {
+        return Err(Refusal::TooShort(measured.tasks));
     }
+    Ok(measured)
 }
 
 // Unit and plan by document 01's rule, chosen by the engine; the plan goes to the first words of plan, and the working
@@ -132,37 +104,23 @@ pub fn plan_checked(
     engine: Engine,
     plan: &mut [u32],
     work: &mut [u32],
-    rates: usize,
-    tasks: usize,
-    hyper: u64,
+    measured: Measured,
 ) -> PlannerAnswer
-    requires { SetAfter (ready_checks engine set.now (length plan.old) (length work.old)) (layout_of engine) set.now (Good rates tasks hyper) }
+    requires { SetAfter (ready_checks engine set.now (length plan.old) (length work.old)) (layout_of engine) set.now (Ok measured) }
     ensures { PlannerCall engine set.now plan.old work.old plan.new work.new result }
 {
     let mut loads = [0u64; 512];
     let mut energies = [0u64; 512];
     let layout = layout_of(engine);
-    let posed = options::pose(&mut loads, &mut energies, set, layout, rates, tasks, hyper);
-    match posed {
-        Posed::NoneFits => PlannerAnswer::Refused(Refusal::NoPlan),
-        Posed::For(q) => {
-            let c = choose(engine, &loads, &energies, q, plan, work);
-            options::planned(set, hyper, c)
-        }
-    }
+    let q = options::pose(&mut loads, &mut energies, set, layout, measured)?;
+    let c = choose(engine, &loads, &energies, q, plan, work);
+    Ok(options::planned(set, measured.hyper, c))
 }
 
 // The call: a refusal that leaves plan and work as they were, or the plan that document 01 selects.
 pub fn plan(set: &[u32], engine: Engine, plan: &mut [u32], work: &mut [u32]) -> PlannerAnswer
     ensures { PlannerCall engine set.now plan.old work.old plan.new work.new result }
 {
-    let checked = ready(set, engine, plan.len(), work.len());
-    match checked {
-        Checked::Refused(r) => PlannerAnswer::Refused(r),
-        Checked::Good {
-            rates,
-            tasks,
-            hyper,
-        } => plan_checked(set, engine, plan, work, rates, tasks, hyper),
-    }
+    let measured = ready(set, engine, plan.len(), work.len())?;
+    plan_checked(set, engine, plan, work, measured)
 }

@@ -11,12 +11,12 @@ use Rattle.planner.proofs.Engines.{work_short, work-enough, too_many, few_enough
 use Rattle.planner.proofs.own_check.Goals as goal
 use Rattle.planner.proofs.own_check.Goals.{Start, After-work_needed-w}
 
-counted : (c : Start) → SetPassed (layout_of c.args.engine) c.args.set.now c.args.rates c.args.tasks c.args.hyper
+counted : (c : Start) → SetPassed (layout_of c.args.engine) c.args.set.now c.args.measured.rates c.args.measured.tasks c.args.measured.hyper
 counted c = c.requires
 
 -- The working words needed, by the slack that was read.
-needed : (c : After-work_needed-w) → c.work_needed-w.result ≡ work_words c.args.tasks (slack c.args.set.now)
-needed c = c.work_needed-w.ensures ∙ ap (work_words c.args.tasks) c.slack_of.ensures
+needed : (c : After-work_needed-w) → c.work_needed-w.result ≡ work_words c.args.measured.tasks (slack c.args.set.now)
+needed c = c.work_needed-w.ensures ∙ ap (work_words c.args.measured.tasks) c.slack_of.ensures
 
 pub slack_of-requires : goal.slack_of-requires
 slack_of-requires c = some_words (counted (goal.at.slack_of-requires c).Start)
