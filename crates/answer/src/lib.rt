@@ -29,19 +29,22 @@ fn answer_plan(set: &[u32], plan: &[u32], planned: Planned, text: &mut [u8; 2048
     requires { PlannedSet set.now plan.now planned.unit planned.load planned.hyper planned.energy }
     ensures { PutSet set.now text.old text.new result }
 {
-    let Ok(WalkEnd::Kept {
-        busy,
-        idle,
-        preempted,
-    }) = walk::walk(set, plan) else {
-        unreachable!();
-    };
-    let w = WalkFigures {
-        busy,
-        idle,
-        preempted,
-    };
-    lines::put_plan(text, planned, plan, w)
+    match walk::walk(set, plan) {
+        Ok(WalkEnd::Kept {
+            busy,
+            idle,
+            preempted,
+        }) => {
+            let w = WalkFigures {
+                busy,
+                idle,
+                preempted,
+            };
+            lines::put_plan(text, planned, plan, w)
+        }
+        Ok(WalkEnd::Missed { .. }) => unreachable!(),
+        Err(_) => unreachable!(),
+    }
 }
 
 // The lines for a set's words: of a plan, or of the planner's refusal.

@@ -18,7 +18,7 @@ use taskset::{Engine, Refusal, WalkEnd};
 const RESULT_BYTES: usize = 32;
 
 // An entry's answer: its four values, or a refusal.
-type Answer = Result<[u64; 4], Refusal>;
+type Answer = Result<(u64, u64, u64, u64), Refusal>;
 
 // A refusal in one number: its number times 2^32, plus its second number.
 fn code_of(r: Refusal) -> u64
@@ -42,11 +42,11 @@ fn leave(d: &mut [u8], answer: Answer) -> u64
     ensures { Left answer d.old d.new result }
 {
     match answer {
-        Ok(values) => {
-            put_value(d, 0, values[0]);
-            put_value(d, 8, values[1]);
-            put_value(d, 16, values[2]);
-            put_value(d, 24, values[3]);
+        Ok((first, second, third, fourth)) => {
+            put_value(d, 0, first);
+            put_value(d, 8, second);
+            put_value(d, 16, third);
+            put_value(d, 24, fourth);
             0
         }
         Err(r) => code_of(r),
@@ -75,8 +75,8 @@ fn walk_values(set: &[u32], plan: &[u32], results_len: usize) -> Answer
             busy,
             idle,
             preempted,
-        } => Ok([1, busy, idle, preempted]),
-        WalkEnd::Missed { tick, task } => Ok([0, tick, task, 0]),
+        } => Ok((1, busy, idle, preempted)),
+        WalkEnd::Missed { tick, task } => Ok((0, tick, task, 0)),
     }
 }
 
@@ -102,7 +102,7 @@ fn plan_values(
     let measured = planner::ready(set, engine, plan.len(), work.len())?;
     enough(results_len)?;
     let p = planner::plan_checked(set, engine, plan, work, measured)?;
-    Ok([p.unit, p.load, p.hyper, p.energy])
+    Ok((p.unit, p.load, p.hyper, p.energy))
 }
 
 // The planner, of the ordinary list: 0 and 32 result bytes, or a refusal.
@@ -126,13 +126,7 @@ pub extern "C" fn seedspell_plan_dull(set: &[u32], plan: &mut [u32], results: &m
     ensures { DullEntry set.now plan.old results.old plan.new results.new result }
 {
     let mut spare = [0u32; 1];
-    let answer = plan_values(
-        set,
-        Engine::Exhaustive,
-        plan,
-        &mut spare,
-        results.len(),
-    );
+    let answer = plan_values(set, Engine::Exhaustive, plan, &mut spare, results.len());
     leave(results, answer)
 }
 
@@ -143,7 +137,7 @@ fn generate_values(seed: u32, n: u32, set: &mut [u32], results_len: usize) -> An
     let needed = generator::ready(n, set.len())?;
     enough(results_len)?;
     generator::put_set(seed, n, set);
-    Ok([needed as u64, 0, 0, 0])
+    Ok((needed as u64, 0, 0, 0))
 }
 
 // The generator: 0 and 32 result bytes, or a refusal.

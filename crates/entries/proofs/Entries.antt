@@ -97,13 +97,13 @@ module _ (s P : List ℕ) (size : ℕ) where
         (results_short s P d x (left.0 ∙ ap code h.0) a (omega (arith, h.1)));
   }
 
-  pub kept_answered : (b i p : ℕ) → Walked s P (Ok (Kept b i p)) → 32 ≤ size → Answers (WalkEntry s P) size (Ok (1 ∷ b ∷ i ∷ p ∷ []))
+  pub kept_answered : (b i p : ℕ) → Walked s P (Ok (Kept b i p)) → 32 ≤ size → Answers (WalkEntry s P) size (Ok (1, b, i, p))
   kept_answered b i p w enough = record {
     fits = enough;
     gives = λ d d' x is left. rw left.0 (entry_kept s P d (omega arith) d' b i p w left.1);
   }
 
-  pub missed_answered : (t k : ℕ) → Walked s P (Ok (Missed t k)) → 32 ≤ size → Answers (WalkEntry s P) size (Ok (0 ∷ t ∷ k ∷ 0 ∷ []))
+  pub missed_answered : (t k : ℕ) → Walked s P (Ok (Missed t k)) → 32 ≤ size → Answers (WalkEntry s P) size (Ok (0, t, k, 0))
   missed_answered t k w enough = record {
     fits = enough;
     gives = λ d d' x is left. rw left.0 (entry_missed s P d (omega arith) d' t k w left.1);

@@ -88,7 +88,7 @@ module _ (seed n : ℕ) (s : List ℕ) (size : ℕ) where
     }
 
     pub words_answered : (s' : List ℕ) → 32 ≤ size → k < 2 ^ 64 → s' ≡ placed (generated seed n) s
-        → Answers (Entry s') size (Ok (k ∷ 0 ∷ 0 ∷ 0 ∷ []))
+        → Answers (Entry s') size (Ok (k, 0, 0, 0))
     words_answered s' enough small words = record {
       fits = enough;
       gives = λ d d' x is left. rw left.0 (entry-generated seed n s d k room s' d' (omega arith) small words left.1);

@@ -1,6 +1,6 @@
 -- From the answers of a call that plans to what its C entry gives.
 -- Assumes nothing.
-use Rattle.std.specs.Prelude.{Result, Ok, Err}
+use Rattle.std.specs.Prelude.{Ok, Err}
 use Prim.Native.Nat.{ℕ, ◌^◌, ◌≤◌, ◌<◌}
 use mathlib.Core.Path.{◌≡◌, refl, sym, ap, subst, ◌∙◌}
 use mathlib.Core.List.{List, [], ◌∷◌, ◌++◌}
@@ -12,7 +12,7 @@ use Rattle.taskset.specs.Quantities.{energy_bits, problem_of}
 use Rattle.taskset.specs.Planning.{Planning, planning, layout_of}
 use Rattle.taskset.specs.Refusals.{number, second, Check, Accepts, Refuses, ◌▹◌, room_check, none_check}
 use Rattle.taskset.specs.Refusals.{ready_checks, planner_checks}
-use Rattle.taskset.specs.Calls.{code, planner_values, SetAfter, RateNumbers, PlanGives}
+use Rattle.taskset.specs.Calls.{code, SetAfter, RateNumbers, PlanGives}
 use Rattle.taskset.specs.DemandThree.{PlanPromise}
 use Rattle.taskset.specs.declared.Engine.{Engine}
 use Rattle.taskset.specs.declared.Engine.TheVariants.{Exhaustive}
@@ -27,14 +27,14 @@ use Rattle.taskset.proofs.Margin.{InBits, margin_small, list_in_bits}
 use Rattle.planner.specs.Answers.{PlannerCall}
 use Rattle.entries.specs.Entry.{result_bytes, result_at, result_size, before_seven, plan_entry_checks, PlansEntry}
 use Rattle.entries.specs.Entry.{PlanEntry, DullEntry}
-use Rattle.entries.specs.Put.{Left, Answers, EnoughAfter}
+use Rattle.entries.specs.Put.{EntryAnswer, Left, Answers, EnoughAfter}
 use Rattle.entries.proofs.Bytes.{result_value}
 use Rattle.entries.proofs.Entries.{code_positive}
 use Rattle.taskset.specs.Answers.{PlannerAnswer, ok_planned}
 
 -- A planner's answer as an entry's; it can be put, and what it leaves.
-abbrev pub values_of : PlannerAnswer → Result (List ℕ) Refusal
-values_of (Ok p) = Ok (planner_values (Ok p))
+abbrev pub values_of : PlannerAnswer → EntryAnswer
+values_of (Ok p) = Ok (p.unit, p.load, p.hyper, p.energy)
 values_of (Err r) = Err r
 
 abbrev AnswerSmall : PlannerAnswer → Type 0
@@ -44,7 +44,6 @@ AnswerSmall (Err r) = second r < 2 ^ 32
 abbrev AnswerPut : PlannerAnswer → (d d' : List ℕ) → ℕ → Type 0
 AnswerPut (Ok p) = Left (values_of (Ok p))
 AnswerPut (Err r) = Left (values_of (Err r))
-
 
 -- m is what is planned, with figures that fit the bytes where the checks pass, and d the result bytes as lent; cs are the
 -- call's own checks but 7, whose second numbers are small, with that of 7. Gives and Unchanged are of the lists that the

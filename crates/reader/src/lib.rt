@@ -91,16 +91,16 @@ pub fn read(text: &[u8], words: &mut [u32]) -> CopyAnswer
             let is_over = 0 < k;
             let is_short = words.len() < n;
             if is_left_over {
-                return CopyAnswer::Refused(Refusal::TextDeparts(i));
+                return Err(Refusal::TextDeparts(i));
             }
             if is_over {
-                return CopyAnswer::Refused(Refusal::EnergyOver(k));
+                return Err(Refusal::EnergyOver(k));
             }
             if is_short {
-                return CopyAnswer::Refused(Refusal::TooShort(n));
+                return Err(Refusal::TooShort(n));
             }
-            CopyAnswer::Wrote(put_words(words, &set[..n]))
+            Ok(put_words(words, &set[..n]))
         }
-        SetRead::Bad(o) => CopyAnswer::Refused(Refusal::TextDeparts(o)),
+        SetRead::Bad(o) => Err(Refusal::TextDeparts(o)),
     }
 }

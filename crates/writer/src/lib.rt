@@ -15,7 +15,7 @@ ghost use Rattle.checks.specs.Steps.{OfTask};
 ghost use Rattle.writer.specs.Lines.{WithRates, WithTasks, optional_text, slack_text, idle_line, rates_text};
 
 use layout::Layout;
-use taskset::{CopyAnswer, Refusal, Shape};
+use taskset::{CopyAnswer, Refusal};
 
 // The least idle energy that has a line of its own, and the least first release that has a form.
 const LEAST_SHOWN: u64 = 1;
@@ -249,15 +249,10 @@ fn count_text(w: &[u32], m: usize, n: usize) -> usize
 pub fn write(set: &[u32], text: &mut [u8]) -> CopyAnswer
     ensures { WriterGives set.now text.old text.new result }
 {
-    let shape = checks::check_words(set, Layout::Ordinary);
-    match shape {
-        Shape::Refused(r) => CopyAnswer::Refused(r),
-        Shape::Whole { rates, tasks } => {
-            let needed = count_text(set, rates, tasks);
-            if text.len() < needed {
-                return CopyAnswer::Refused(Refusal::TooShort(needed));
-            }
-            CopyAnswer::Wrote(put_text(text, set, rates, tasks))
-        }
+    let counts = checks::check_words(set, Layout::Ordinary)?;
+    let needed = count_text(set, counts.rates, counts.tasks);
+    if text.len() < needed {
+        return Err(Refusal::TooShort(needed));
     }
+    Ok(put_text(text, set, counts.rates, counts.tasks))
 }
