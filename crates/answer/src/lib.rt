@@ -30,11 +30,13 @@ fn answer_plan(set: &[u32], plan: &[u32], planned: Planned, text: &mut [u8; 2048
     ensures { PutSet set.now text.old text.new result }
 {
     match walk::walk(set, plan) {
-        Ok(WalkEnd::Kept {
-            busy,
-            idle,
-            preempted,
-        }) => {
+        Ok(
+            WalkEnd::Kept {
+                busy,
+                idle,
+                preempted,
+            },
+        ) => {
             let w = WalkFigures {
                 busy,
                 idle,

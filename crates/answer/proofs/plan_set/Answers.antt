@@ -1,9 +1,8 @@
 -- The checks before 7, then the planner.
 -- Assumes nothing.
-use Prim.Native.Nat.{◌≤◌}
 use mathlib.Core.Path.{refl}
 use native.Mathlib.Omega.{arith}
-use lib.ListN.{length, take}
+use lib.ListN.{take}
 use Rattle.std.proofs.lemmas.Result.{err_from_is_err_and}
 use Rattle.answer.specs.Steps.{PlannedSet}
 use Rattle.answer.proofs.Outputs.{tasks_few}
