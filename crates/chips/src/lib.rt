@@ -4,7 +4,8 @@
 
 ghost use Rattle.std.specs.Prelude.{◌≡◌, ◌+◌, ◌≤◌, length};
 ghost use Rattle.lists.specs.Writing.{written};
-ghost use Rattle.chips.specs.Chips.{milliwatts, chip_count, chip_rate, chip_power, chip_energy, chip_rates, chip_energies, idle_entry, chip_idle};
+ghost use Rattle.chips.specs.Chips.{milliwatts, chip_count, chip_rate, chip_power, chip_energy, chip_rates};
+ghost use Rattle.chips.specs.Chips.{chip_energies, idle_entry, chip_idle};
 
 // The chips that a text can name.
 #[derive(Clone, Copy)]

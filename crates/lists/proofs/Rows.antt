@@ -1,10 +1,11 @@
 -- A part of a list that is written as a slice of its own, and put back.
 -- Assumes nothing.
-use Prim.Native.Nat.{ℕ, zero, suc, ◌+◌, ◌<◌}
+use Prim.Native.Nat.{ℕ, ◌+◌, ◌≤◌, ◌<◌}
 use mathlib.Core.Path.{◌≡◌, refl, sym, ap, ◌∙◌}
-use mathlib.Core.List.{List, ◌∷◌}
+use mathlib.Core.List.{List}
 use native.Mathlib.Omega.{arith}
-use lib.ListN.{length, get_or, replicate}
+use lib.Seq.{length-take-le}
+use lib.ListN.{length-drop, length-replicate, length, get_or, take, drop, replicate}
 use borrow.Rule.Slice.PartMut.{put_mid}
 use Rattle.std.proofs.lemmas.Grind.{same_number_lists}
 use Rattle.numbers.specs.Numbers.{each}
@@ -24,10 +25,10 @@ part_each f ys d at k n e l is =
     (λ j h. let inside : j < n = omega arith in is j inside ∙ sym (each_at f 1 n j inside 0)) in
     rw same (part_written (each f 1 n) d at k (e ∙ sym (each-length f 1 n)))
 
--- Zeros as such a row.
-abbrev pub none : ℕ → ℕ
-none j = 0
-
-pub zeros : (i n : ℕ) → each none i n ≡ replicate n 0
-zeros i zero = refl
-zeros i (suc n) = ap (λ (l : List ℕ). 0 ∷ l) (zeros (suc i) n)
+-- The part was filled with zeros.
+pub part_zeros : (ys d : List ℕ) (at k n : ℕ) → k ≡ n → at + k ≤ length d → ys ≡ replicate (length (take k (drop at d))) 0
+    → put_mid at k d ys ≡ written at (replicate n 0) d
+part_zeros ys d at k n e room is =
+    let size : length (take k (drop at d)) ≡ n = length-take-le k (drop at d) (rw length-drop (omega arith)) ∙ e in
+    let zeros : ys ≡ replicate n 0 = is ∙ ap (λ (l : ℕ). replicate l 0) size in
+    rw zeros (part_written (replicate n 0) d at k (e ∙ sym (length-replicate n 0)))
