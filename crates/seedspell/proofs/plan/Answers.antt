@@ -3,12 +3,12 @@ use Rattle.std.proofs.KnownBytes.{Keeps-refl}
 use Rattle.seedspell.specs.Program.{whole, part}
 use Rattle.seedspell.proofs.plan.Goals as goal
 
-pub returns-in-All : goal.returns-in-All
-returns-in-All g c =
+pub returns-in-Ok : goal.returns-in-Ok
+returns-in-Ok g c =
     let answer = c.answer_bytes-n.ensures in
-    whole _ answer.prints answer.owes c.in-All.ensures.put (Keeps-refl _)
+    whole _ answer.prints answer.owes c.in-Ok.ensures.put (Keeps-refl _)
 
-pub returns-in-CutShort : goal.returns-in-CutShort
-returns-in-CutShort g c =
+pub returns-in-Err : goal.returns-in-Err
+returns-in-Err g c =
     let answer = c.answer_bytes-n.ensures in
-    part _ answer.prints answer.owes c.in-CutShort.field-0 c.in-CutShort.ensures.fits c.in-CutShort.ensures.put c.complain.ensures
+    part _ answer.prints answer.owes _ c.in-Err.ensures.fits c.in-Err.ensures.put c.complain.ensures
