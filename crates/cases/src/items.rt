@@ -28,15 +28,13 @@ impl<'a> Items<'a> {
     // A number. One that starts with 0 has no more digits, so that each number has one text.
     pub(crate) fn number(&mut self) -> Option<u32> {
         let digits = self.word()?;
-        if digits.len() > 1 && digits[0] == b'0' {
+        if let [b'0', _, ..] = digits {
             return None;
         }
-        let mut v = 0u32;
-        for b in digits {
-            let d = char::from(*b).to_digit(10)?;
-            v = v.checked_mul(10)?.checked_add(d)?;
-        }
-        Some(v)
+        digits.iter().try_fold(0u32, |v, b| {
+            let digit = char::from(*b).to_digit(10)?;
+            v.checked_mul(10)?.checked_add(digit)
+        })
     }
 
     // A number, at most `most`.

@@ -85,7 +85,7 @@ pub(crate) fn planned<W: Write>(to: &mut W, a: PlannerAnswer, plan: &[u32]) {
 // The answer of the reader or the generator: the word that names what was done, and the words that were written. The
 // list held 7 before the call.
 pub(crate) fn listed<W: Write>(to: &mut W, done: &str, a: CopyAnswer, list: &[u32]) {
-    copied(to, done, a, list, 7, |to, list| words(to, list));
+    copied(to, done, a, list, 7, words);
 }
 
 // The answer of the writer or the program's call: the word that names what was done, and the text that was written. The

@@ -49,9 +49,8 @@ fn plan<W: Write, E: Write>(writer: &mut W, errors: &mut E, text: &[u8])
 {
     let mut output = [0u8; 2048];
     let n = answer_bytes(text, &mut output);
-    match output::write_answer(writer, text, &output[..n]) {
-        Ok(()) => (),
-        Err(_) => complain(errors, UNWRITABLE),
+    if output::write_answer(writer, text, &output[..n]).is_err() {
+        complain(errors, UNWRITABLE);
     }
 }
 
