@@ -4,8 +4,8 @@ use Rattle.answer.proofs.Outputs.{never_short}
 use Rattle.taskset.proofs.Copied.{count-within}
 use Rattle.seedspell.proofs.answer_bytes.Goals as goal
 
-pub returns-in-Wrote : goal.returns-in-Wrote
-returns-in-Wrote c =
+pub returns : goal.returns
+returns c =
     let responds = c.in-Wrote.ensures in
     record {
       within = count-within responds.gives.0 _ _ _ responds.gives.3;
@@ -13,5 +13,5 @@ returns-in-Wrote c =
       owes = responds.owes.1;
     }
 
-pub returns-in-Refused : goal.returns-in-Refused
-returns-in-Refused c = absurd (never_short _ _ _ _ (omega arith) c.in-Refused.ensures)
+pub unreachable-requires : goal.unreachable-requires
+unreachable-requires c = never_short _ _ _ _ (omega arith) c.in-Refused.ensures
