@@ -6,6 +6,7 @@ use mathlib.Core.Path.{◌≡◌, refl, sym, ap, ◌∙◌, subst}
 use mathlib.Core.Bool.{true, false}
 use mathlib.Core.List.{List, [], ◌∷◌, ◌++◌}
 use mathlib.Core.Logic.{inl, inr, ⊎_elim}
+use native.Mathlib.Nat.{eq-or-lt_of_le}
 use native.Mathlib.Omega.{arith}
 use lib.ListN.{length}
 use Rattle.numbers.specs.Numbers.{running}
@@ -18,7 +19,7 @@ use Rattle.taskset.specs.Refusals.{word_checks, idle_check, hyper_check}
 use Rattle.taskset.specs.Calls.{CountsAfter, SetAfter}
 use Rattle.numbers.specs.Search.{Found}
 use Rattle.taskset.specs.Quantities.{job_time}
-use Rattle.checks.specs.Steps.{Falls, Followed, OfCounts, HasBelow}
+use Rattle.checks.specs.Steps.{Falls, OfCounts}
 use Rattle.taskset.specs.declared.Refusal.TheVariants.{BadWord, NotAbove}
 use Rattle.taskset.proofs.Checks.{no_word_fault, accepts_join, refuses_back}
 use Rattle.taskset.specs.Sets.{Below}
@@ -89,61 +90,43 @@ module _ (layout : Layout) (s : List ℕ) (b : ℕ) (found : Found (OutOfRange l
         is_shape h = ((words_pass, ((λ q r. falls_before q (omega (arith, r.here.1)) r.here), tt)), refl, refl)
 
 -- ---- check 10
-module _ {layout : Layout} {s : List ℕ} {m n : ℕ} (o : OfCounts layout m n s) {t : ℕ} (tasks : Found (HasBelow layout m s) 0 n t) where
-  -- The first task that has an energy that is too low, and the first such of it.
-  module _ {r : ℕ} (rates : Found (Below layout s t) 1 (m + 1) r) (h : t < n) where
-    low : r ≤ m
-    low =
-        let x = tasks.hit h in
-        ⊎_elim
-        (λ (l : m < r). absurd (rates.none x.0 x.1 (omega (arith, x.2)) x.3))
-        (λ (l : r ≤ m). l)
-        (lt_or_le m r)
+-- No task before t has an energy, at one of m rates, that is too low.
+abbrev pub NoneBelow : Layout → List ℕ → ℕ → ℕ → Type 0
+NoneBelow layout s m t = (u : ℕ) → u < t → (r : ℕ) → 1 ≤ r → r ≤ m → Below layout s u r → ⊥
 
+pub none_below_more : (layout : Layout) (s : List ℕ) {m t : ℕ} → NoneBelow layout s m t
+    → Found (Below layout s t) 1 (m + 1) (m + 1) → NoneBelow layout s m (t + 1)
+none_below_more layout s {m} {t} tasks rates u e r a b x =
+    ⊎_elim
+    (λ (z : u ≡ t). rates.none r a (omega arith) (subst (λ (v : ℕ). Below layout s v r) z x))
+    (λ (z : u < t). tasks u z r a b x)
+    (eq-or-lt_of_le (omega arith))
+
+module _ {layout : Layout} {s : List ℕ} {m n : ℕ} (o : OfCounts layout m n s) where
+  -- The first such rate number, r, of the first task that has one, t.
+  module _ {t r : ℕ} (tasks : NoneBelow layout s m t) (rates : Found (Below layout s t) 1 (m + 1) r) (l : r < m + 1) (h : t < n) where
     pub below_places : (m ≤ most_rates) × (t ≤ most_tasks) × (r ≤ most_rates)
     below_places = (
       omega (arith, o.counted, o.whole.rates_range.1),
       omega (arith, o.numbered, o.whole.tasks_range.1),
-      omega (arith, low, o.counted, o.whole.rates_range.1),
+      omega (arith, o.counted, o.whole.rates_range.1),
     )
 
     pub below_idle : IsBelowIdle layout s (energy_place layout m t r)
     below_idle =
         let first : IsBelowIdle layout s (energy_place layout (rate_count layout s) t r) =
-        first_below layout s t r (omega (arith, o.numbered)) rates.from (omega (arith, low, o.counted))
-        (rates.hit (omega (arith, low)))
-        (λ u l q a b x. tasks.none u (omega arith) l (q, a, omega (arith, o.counted), x))
-        (λ q a l x. rates.none q a l x) in
+        first_below layout s t r (omega (arith, o.numbered)) rates.from (omega (arith, o.counted)) (rates.hit l)
+        (λ u e q a b x. tasks u e q a (omega (arith, o.counted)) x)
+        (λ q a e x. rates.none q a e x) in
         subst (λ (x : ℕ). IsBelowIdle layout s (energy_place layout x t r)) (sym o.counted) first
 
-  pub none_below : n ≤ t → Passes (idle_check layout s)
-  none_below h =
+  pub none_below : {t : ℕ} → NoneBelow layout s m t → n ≤ t → Passes (idle_check layout s)
+  none_below {t} tasks h =
       covered_passes layout s (λ u r l a b.
       ⊎_elim
-      (λ (x : Below layout s u r). absurd (tasks.none u (omega arith) (omega (arith, o.numbered)) (r, a, omega (arith, o.counted), x)))
+      (λ (x : Below layout s u r). absurd (tasks u (omega (arith, o.numbered)) r a (omega (arith, o.counted)) x))
       (λ (x : idle s * job_time layout s u r ≤ energy layout s u r). x)
       (lt_or_le (energy layout s u r) (idle s * job_time layout s u r)))
-
--- ---- check 4
-module _ (layout : Layout) (s : List ℕ) (m n : ℕ) (h : OfCounts layout m n s) (t v : ℕ) (followed : Followed layout n s t v) where
-  pub too_long : t < n → IsTooLong layout s (period_place layout m t)
-  too_long l = (
-    t,
-    record {
-      here = (omega (arith, h.numbered), followed.tasks.hit l);
-      before = λ j l p. followed.tasks.none j (omega arith) l p.1;
-    },
-    ap (λ (x : ℕ). period_place layout x t) h.counted,
-  )
-
-  pub is_good : n ≤ t → SetAfter (hyper_check layout s ∷ []) layout s (ok_measured m n v)
-  is_good l =
-      let e : t ≡ task_count layout s = omega (arith, h.numbered, followed.tasks.to) in (
-        ((λ q w. followed.tasks.none w.0 (omega arith) (omega (arith, w.1.here.0, h.numbered)) w.1.here.1), tt),
-        h.counted,
-        h.numbered,
-        followed.value ∙ ap (running (period layout s)) e,
-      )
 
 -- ---- in their order
 module _ (layout : Layout) (s : List ℕ) where

@@ -1,6 +1,6 @@
 -- What the functions below the calls are asked for and give. Not part of what a reader must believe: the calls'
 -- contracts speak of Refusals and Calls alone.
-use Rattle.std.specs.Prelude.{ℕ, suc, ◌-◌, ◌^◌, ◌≤◌, ◌<◌, ◌≡◌, false, cond, List, ltb, length, Result, Ok, Err}
+use Rattle.std.specs.Prelude.{ℕ, suc, ◌-◌, ◌^◌, ◌≤◌, ◌<◌, ◌≡◌, false, cond, List, ltb, length, Option, Some, None, Result, Ok, Err}
 use Rattle.numbers.specs.Numbers.{running}
 use Rattle.numbers.specs.Search.{Found}
 use Rattle.layout.specs.Words.{word, rate_count, task_count, task_count_place, tasks_place, period, kind_at, allows}
@@ -35,13 +35,6 @@ Falls s q = word s q ≤ word s (q - 1)
 abbrev pub Passed : Layout → List ℕ → ℕ → Type 0
 Passed layout s t = hyper_limit < running (period layout s) (suc t)
 
--- How far the running multiple of n tasks was followed, and its value there.
-pub record Followed (layout : Layout) (n : ℕ) (s : List ℕ) (t v : ℕ) : Type 0 where
-  pub tasks : Found (Passed layout s) 0 n t
-  pub value : v ≡ running (period layout s) t
-  pub least : 1 ≤ v
-  pub most : v ≤ hyper_limit
-
 -- The task at place t of a list that passes check 2 and has m rates.
 pub record OfTask (layout : Layout) (m t : ℕ) (s : List ℕ) : Type 0 where
   pub whole : IsWhole layout s
@@ -54,9 +47,10 @@ pub record OfCounts (layout : Layout) (m n : ℕ) (s : List ℕ) : Type 0 where
   pub counted : m ≡ rate_count layout s
   pub numbered : n ≡ task_count layout s
 
--- The task at t has an energy, at one of m rates, that is below what idle ticks draw in the job's time.
-abbrev pub HasBelow : Layout → ℕ → List ℕ → ℕ → Type 0
-HasBelow layout m s t = (r : ℕ) × (1 ≤ r) × (r ≤ m) × Below layout s t r
+-- What a search from lo on and below hi for a number with P gives that answers None where there is none.
+abbrev pub FoundIn : (ℕ → Type 0) → ℕ → ℕ → Option ℕ → Type 0
+FoundIn P lo hi (Some r) = Found P lo hi r × (r < hi)
+FoundIn P lo hi None = Found P lo hi hi
 
 -- What checks answer that count nothing: a refusal is the first that holds.
 abbrev pub PassedAfter : List Check → Result (Unit {0}) Refusal → Type 0

@@ -10,21 +10,16 @@ ghost use Rattle.taskset.specs.Quantities.{job_time};
 ghost use Rattle.taskset.specs.Refusals.{◌▹◌, word_checks, idle_check, idle_checks, hyper_check};
 ghost use Rattle.taskset.specs.Calls.{CountsAfter, SetAfter};
 ghost use Rattle.taskset.specs.Sets.{Below};
-ghost use Rattle.checks.specs.Steps.{front_kind, EndsFront, FrontPassed, Falls, Followed, OfTask, OfCounts, HasBelow, PassedAfter};
+ghost use Rattle.checks.specs.Steps.{front_kind, EndsFront, FrontPassed, Falls, OfTask, FoundIn, PassedAfter};
+
+mod set;
 
 use layout::{Kind, Layout};
+pub use set::Set;
 use taskset::{Checked, Counts, Measured, Refusal, Shape};
 
 // The largest hyper-period.
 const HYPER_LIMIT: u64 = 10_000_000;
-
-// How far the running multiple was followed: the tasks before the first at which it passes the limit, and the multiple
-// of these.
-#[derive(Clone, Copy)]
-struct Multiple {
-    tasks: usize,
-    value: u64,
-}
 
 // What the word at place q stands for, up to the task count, by the words before it; 'left over' behind that.
 fn front_kind(s: &[u32], layout: Layout, q: usize) -> Kind
@@ -153,89 +148,53 @@ pub fn check_words(s: &[u32], layout: Layout) -> Shape
     Ok(Counts { rates: m, tasks: n })
 }
 
-// The running multiple of n periods, followed until it passes the limit.
-fn follow(s: &[u32], layout: Layout, m: usize, n: usize) -> Multiple
-    requires { OfCounts layout m n s.now }
-    ensures { Followed layout n s.now result.tasks result.value }
+// Check 4: the running multiple of the periods.
+fn check_hyper(set: &Set) -> Checked
+    ensures { SetAfter (hyper_check set.now.layout set.now.words.now ∷ []) set.now.layout set.now.words.now result }
 {
-    let mut l: u64 = 1;
-    let mut t = 0;
-    let mut at = places::tasks_place(layout, m);
-    while t < n {
-        let p = s[at] as u64;
-        let g = arithmetic::common_divisor(l, p);
-        let next = l / g.value * p;
+    let mut hyper: u64 = 1;
+    for t in 0..set.tasks {
+        let p = u64::from(set.period(t));
+        let next = hyper / arithmetic::common_divisor(hyper, p).value * p;
         let is_long = HYPER_LIMIT < next;
         if is_long {
-            return Multiple { tasks: t, value: l };
+            let at = places::period_place(set.layout, set.rates, t);
+            return Err(Refusal::TooLong(at));
         }
-        l = next;
-        at += places::task_size(layout, m);
-        t += 1;
-    }
-    Multiple { tasks: t, value: l }
-}
-
-// The first rate number, of m, at which the energy of the task at place t is below what idle ticks draw in the job's
-// time; or m + 1.
-fn below_rate(s: &[u32], layout: Layout, m: usize, t: usize) -> usize
-    requires { OfTask layout m t s.now }
-    ensures { Found (Below layout s.now t) 1 (m + 1) result }
-{
-    let idle = idle_of(s) as u64;
-    let mut r = 1;
-    while r <= m {
-        let time = job_time(s, layout, m, t, r) as u64;
-        let energy = energy_of(s, layout, m, t, r) as u64;
-        if energy < idle * time {
-            return r;
-        }
-        r += 1;
-    }
-    r
-}
-
-// The place of the first of n tasks that has such an energy; or n.
-fn below_task(s: &[u32], layout: Layout, m: usize, n: usize) -> usize
-    requires { OfCounts layout m n s.now }
-    ensures { Found (HasBelow layout m s.now) 0 n result }
-{
-    let mut task = 0;
-    while task < n {
-        if below_rate(s, layout, m, task) <= m {
-            return task;
-        }
-        task += 1;
-    }
-    task
-}
-
-// Check 4, of a list with m rates and n tasks that passes check 2.
-fn check_hyper(s: &[u32], layout: Layout, m: usize, n: usize) -> Checked
-    requires { OfCounts layout m n s.now }
-    ensures { SetAfter (hyper_check layout s.now ∷ []) layout s.now result }
-{
-    let h = follow(s, layout, m, n);
-    let t = h.tasks;
-    if t < n {
-        return Err(Refusal::TooLong(places::period_place(layout, m, t)));
+        hyper = next;
     }
     Ok(Measured {
-        rates: m,
-        tasks: n,
-        hyper: h.value,
+        rates: set.rates,
+        tasks: set.tasks,
+        hyper,
     })
 }
 
-// Check 10, of a list with m rates and n tasks that passes check 2.
-fn check_idle(s: &[u32], layout: Layout, m: usize, n: usize) -> Result<(), Refusal>
-    requires { OfCounts layout m n s.now }
-    ensures { PassedAfter (idle_check layout s.now ∷ []) result }
+// The first rate number at which the energy of the task at place t is below what idle ticks draw in the job's time.
+fn below_rate(set: &Set, t: usize) -> Option<usize>
+    requires { t < set.now.tasks }
+    ensures { FoundIn (Below set.now.layout set.now.words.now t) 1 (set.now.rates + 1) result }
 {
-    let task = below_task(s, layout, m, n);
-    if task < n {
-        let r = below_rate(s, layout, m, task);
-        return Err(Refusal::BelowIdle(places::energy_place(layout, m, task, r)));
+    let idle = u64::from(set.idle());
+    for r in 1..=set.rates {
+        let drawn = idle * u64::from(set.job_time(t, r));
+        let energy = u64::from(set.energy(t, r));
+        if energy < drawn {
+            return Some(r);
+        }
+    }
+    None
+}
+
+// Check 10: the first such energy of the first task that has one.
+fn check_idle(set: &Set) -> Result<(), Refusal>
+    ensures { PassedAfter (idle_check set.now.layout set.now.words.now ∷ []) result }
+{
+    for t in 0..set.tasks {
+        if let Some(r) = below_rate(set, t) {
+            let at = places::energy_place(set.layout, set.rates, t, r);
+            return Err(Refusal::BelowIdle(at));
+        }
     }
     Ok(())
 }
@@ -245,7 +204,13 @@ pub fn check_set(s: &[u32], layout: Layout) -> Checked
     ensures { SetAfter (word_checks layout s.now ▹ hyper_check layout s.now) layout s.now result }
 {
     let counts = check_words(s, layout)?;
-    check_hyper(s, layout, counts.rates, counts.tasks)
+    let set = Set {
+        words: s,
+        layout,
+        rates: counts.rates,
+        tasks: counts.tasks,
+    };
+    check_hyper(&set)
 }
 
 // Checks 2, 3, 10 and 4, in this order: for whoever goes by energies.
@@ -253,8 +218,14 @@ pub fn check_covered(s: &[u32], layout: Layout) -> Checked
     ensures { SetAfter (idle_checks layout s.now ▹ hyper_check layout s.now) layout s.now result }
 {
     let counts = check_words(s, layout)?;
-    check_idle(s, layout, counts.rates, counts.tasks)?;
-    check_hyper(s, layout, counts.rates, counts.tasks)
+    let set = Set {
+        words: s,
+        layout,
+        rates: counts.rates,
+        tasks: counts.tasks,
+    };
+    check_idle(&set)?;
+    check_hyper(&set)
 }
 
 // The slack.

@@ -1,46 +1,28 @@
-use Prim.Native.Nat.{◌*◌, ◌≤◌}
-use mathlib.Core.Path.{◌≡◌, ap₂}
-use native.Mathlib.Nat.{mul-le-mul}
+use Prim.Native.Nat.{◌*◌}
+use mathlib.Core.Path.{◌≡◌, refl, ap₂, ◌∙◌}
 use native.Mathlib.Omega.{arith}
 use Rattle.numbers.proofs.Searches.{found_here, found_end, none_more}
-use Rattle.layout.specs.Words.{most_idle, idle}
+use Rattle.layout.specs.Words.{idle}
 use Rattle.taskset.specs.Quantities.{job_time}
-use Rattle.layout.proofs.Whole.{idle_in_lem}
-use Rattle.checks.proofs.Access.{located}
 use Rattle.checks.proofs.below_rate.Goals as goal
+use Rattle.checks.proofs.below_rate.Goals.{After-from}
 
-pub idle_of-idle-requires : goal.idle_of-idle-requires
-idle_of-idle-requires c = let w = c.requires.whole in omega (arith, w.size)
+drawn : (c : After-from)
+    → c.from-idle.result * c.from.result ≡ idle c.args.set.now.words.now * job_time c.args.set.now.layout c.args.set.now.words.now c.args.t c.loop-r.r
+drawn c = ap₂ ◌*◌ (c.from-idle.ensures ∙ c.idle.ensures) (c.from.ensures ∙ c.job_time.ensures)
 
 pub loop-r-init : goal.loop-r-init
-loop-r-init c = (omega arith, omega arith, (λ k a b. absurd (omega arith)))
+loop-r-init c = λ k a b. absurd (omega arith)
 
-pub job_time-time-requires : goal.job_time-time-requires
-job_time-time-requires c = (c.requires, c.loop-r.invariant.0, omega arith)
-
-pub energy_of-energy-requires : goal.energy_of-energy-requires
-energy_of-energy-requires c = (c.requires, c.loop-r.invariant.0, omega arith)
-
-pub overflow_mul-idle : goal.overflow_mul-idle
-overflow_mul-idle c = let h : c.idle_of-idle.result ≤ most_idle = omega (arith, c.idle_of-idle.ensures, idle_in_lem _ _ c.requires.whole) in
-    omega (arith, mul-le-mul {n₁ = c.idle_of-idle.result} {m₁ = c.job_time-time.result} {n₂ = most_idle} {m₂ = 4294967295} h (omega arith))
-
-pub returns-then-energy-idle : goal.returns-then-energy-idle
-returns-then-energy-idle c =
-    let drawn : let s = c.args in c.idle_of-idle.result * c.job_time-time.result ≡ idle s.s.now * job_time s.layout s.s.now s.t c.loop-r.r = ap₂ ◌*◌ c.idle_of-idle.ensures c.job_time-time.ensures in
-    found_here (omega arith) c.loop-r.invariant.2 (omega arith) (omega (arith, c.if-energy-idle.true, c.energy_of-energy.ensures, drawn))
-
-pub overflow_add-r : goal.overflow_add-r
-overflow_add-r c = let l = located c.requires in omega (arith, l.few_rates)
+pub returns-then-energy-drawn : goal.returns-then-energy-drawn
+returns-then-energy-drawn c = let d = drawn (goal.at.returns-then-energy-drawn c).After-from in
+    (found_here (omega arith) c.loop-r.invariant (omega arith) (omega (arith, d)), omega arith)
 
 pub loop-r-preserved : goal.loop-r-preserved
-loop-r-preserved c =
-    let drawn : let s = c.args in c.idle_of-idle.result * c.job_time-time.result ≡ idle s.s.now * job_time s.layout s.s.now s.t c.loop-r.r = ap₂ ◌*◌ c.idle_of-idle.ensures c.job_time-time.ensures in (
-      omega arith,
-      omega arith,
-      none_more (omega arith) c.loop-r.invariant.2
-          (λ h. omega (arith, c.if-energy-idle.false, c.energy_of-energy.ensures, drawn)),
-    )
+loop-r-preserved c = let d = drawn (goal.at.loop-r-preserved c).After-from in
+    none_more (omega arith) c.loop-r.invariant (λ h. omega (arith, d))
 
-pub returns : goal.returns
-returns c = found_end (omega arith) c.loop-r.invariant.2 (omega arith)
+pub returns-else-energy-drawn : goal.returns-else-energy-drawn
+returns-else-energy-drawn c = let d = drawn (goal.at.returns-else-energy-drawn c).After-from in
+    let last : c.args.set.now.rates ≡ c.loop-r.r = omega arith in
+    rw last (found_end (omega arith) (none_more (omega arith) c.loop-r.invariant (λ h. omega (arith, d))) refl)

@@ -6,11 +6,8 @@ use Rattle.taskset.proofs.Checks.{accepts_join}
 use Rattle.checks.proofs.Judging.{of_counts, after}
 use Rattle.checks.proofs.check_covered.Goals as goal
 
-pub check_idle-requires : goal.check_idle-requires
-check_idle-requires c = of_counts _ _ c.in_ok-counts.ensures
-
-pub check_hyper-requires : goal.check_hyper-requires
-check_hyper-requires c = of_counts _ _ c.in_ok-counts.ensures
+pub invariant_of-set : goal.invariant_of-set
+invariant_of-set c = record { counts = of_counts _ _ c.in_ok-counts.ensures }
 
 pub returns : goal.returns
 returns c = let s = c.args.s.now in

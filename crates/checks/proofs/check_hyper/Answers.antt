@@ -1,20 +1,43 @@
--- Check 4: how far the running multiple was followed decides.
--- Assumes nothing.
-use mathlib.Core.Path.{refl}
+use mathlib.Core.Path.{refl, sym, ◌∙◌}
 use mathlib.Core.Logic.{inl}
 use native.Mathlib.Omega.{arith}
-use Rattle.checks.proofs.Judging.{too_long, is_good}
+use Rattle.numbers.proofs.Multiples.{running_none}
+use Rattle.checks.proofs.Following.{all_followed, divisor_asked, divisor_positive, passed_here, next_turn, product_fits}
 use Rattle.checks.proofs.check_hyper.Goals as goal
 
-pub follow-h-requires : goal.follow-h-requires
-follow-h-requires c = c.requires
+pub loop-t-init : goal.loop-t-init
+loop-t-init c = record {
+  value = sym (running_none _);
+  least = omega arith;
+  most = omega arith;
+  none = λ k a w. absurd (omega arith);
+}
 
-pub period_place-requires : goal.period_place-requires
-period_place-requires c = let o = c.requires in
-    omega (arith, o.counted, o.whole.rates_range.1, o.numbered, o.whole.tasks_range.1, c.follow-h.ensures.tasks.to)
+pub common_divisor-requires : goal.common_divisor-requires
+common_divisor-requires c =
+    divisor_asked c.args.set.now.counts c.loop-t.invariant c.loop-t-test.true (c.from-p.ensures ∙ c.period.ensures)
 
-pub returns-then-t-n : goal.returns-then-t-n
-returns-then-t-n c = rw c.period_place.ensures (inl (refl, too_long c.args.layout c.args.s.now c.args.m c.args.n c.requires c.follow-h.result.tasks c.follow-h.result.value c.follow-h.ensures c.if-t-n.true))
+pub nonzero_div-next : goal.nonzero_div-next
+nonzero_div-next c =
+    divisor_positive c.args.set.now.counts c.loop-t.invariant c.loop-t-test.true (c.from-p.ensures ∙ c.period.ensures)
+    c.common_divisor.ensures.0
+
+pub overflow_mul-next : goal.overflow_mul-next
+overflow_mul-next c = record { fits = product_fits c.loop-t.hyper c.common_divisor.result.value c.from-p.result c.loop-t.invariant.most (omega arith) }
+
+pub returns-then-is_long : goal.returns-then-is_long
+returns-then-is_long c =
+    rw c.period_place-at.ensures
+    (inl (
+      refl,
+      passed_here c.args.set.now.counts c.loop-t.invariant c.loop-t-test.true (c.from-p.ensures ∙ c.period.ensures)
+          c.common_divisor.ensures.0 c.if-is_long.true,
+    ))
+
+pub loop-t-preserved : goal.loop-t-preserved
+loop-t-preserved c =
+    next_turn c.args.set.now.counts c.loop-t.invariant c.loop-t-test.true (c.from-p.ensures ∙ c.period.ensures)
+    c.common_divisor.ensures.0 c.if-is_long.false
 
 pub returns : goal.returns
-returns c = is_good c.args.layout c.args.s.now c.args.m c.args.n c.requires c.follow-h.result.tasks c.follow-h.result.value c.follow-h.ensures c.if-t-n.false
+returns c = all_followed c.args.set.now.counts c.loop-t.invariant (omega arith) (omega arith)

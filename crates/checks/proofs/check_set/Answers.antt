@@ -5,8 +5,8 @@ use Rattle.taskset.specs.Refusals.{word_checks, hyper_check}
 use Rattle.checks.proofs.Judging.{of_counts, after}
 use Rattle.checks.proofs.check_set.Goals as goal
 
-pub check_hyper-requires : goal.check_hyper-requires
-check_hyper-requires c = of_counts _ _ c.in_ok-counts.ensures
+pub invariant_of-set : goal.invariant_of-set
+invariant_of-set c = record { counts = of_counts _ _ c.in_ok-counts.ensures }
 
 pub returns : goal.returns
 returns c = let s = c.args.s.now in
