@@ -1,7 +1,7 @@
 // The parts of the line that answers a record, each written as it comes. What cannot be written is left out: the line is
 // then not the stored one, which shows.
 use std::io::Write;
-use taskset::{Checked, CopyAnswer, PlannerAnswer, Refusal, WalkAnswer};
+use taskset::{Checked, CopyAnswer, PlannerAnswer, Refusal, WalkAnswer, WalkEnd};
 
 pub(crate) fn say<W: Write>(to: &mut W, word: &[u8]) {
     let _ = to.write_all(word);
@@ -34,31 +34,27 @@ fn refused<W: Write>(to: &mut W, f: Refusal) {
 // The answer of check_set.
 pub(crate) fn checked<W: Write>(to: &mut W, a: Checked) {
     match a {
-        Checked::Good {
-            rates,
-            tasks,
-            hyper,
-        } => {
-            let _ = write!(to, " good {rates} {tasks} {hyper}");
+        Ok(set) => {
+            let _ = write!(to, " good {} {} {}", set.rates, set.tasks, set.hyper);
         }
-        Checked::Refused(f) => refused(to, f),
+        Err(f) => refused(to, f),
     }
 }
 
 // The answer of the walk.
 pub(crate) fn walked<W: Write>(to: &mut W, a: WalkAnswer) {
     match a {
-        WalkAnswer::Kept {
+        Ok(WalkEnd::Kept {
             busy,
             idle,
             preempted,
-        } => {
+        }) => {
             let _ = write!(to, " kept {busy} {idle} {preempted}");
         }
-        WalkAnswer::Missed { tick, task } => {
+        Ok(WalkEnd::Missed { tick, task }) => {
             let _ = write!(to, " missed {tick} {task}");
         }
-        WalkAnswer::Refused(f) => refused(to, f),
+        Err(f) => refused(to, f),
     }
 }
 
@@ -66,16 +62,11 @@ pub(crate) fn walked<W: Write>(to: &mut W, a: WalkAnswer) {
 pub(crate) fn planned<W: Write>(to: &mut W, a: PlannerAnswer, plan: &[u32]) {
     let used = used(plan, 0);
     match a {
-        PlannerAnswer::Planned {
-            unit,
-            load,
-            hyper,
-            energy,
-        } => {
-            let _ = write!(to, " planned {unit} {load} {hyper} {energy}");
+        Ok(p) => {
+            let _ = write!(to, " planned {} {} {} {}", p.unit, p.load, p.hyper, p.energy);
             words(to, used);
         }
-        PlannerAnswer::Refused(f) => {
+        Err(f) => {
             refused(to, f);
             changed(to, !used.is_empty());
         }
@@ -110,14 +101,14 @@ fn copied<W: Write, T: Copy + PartialEq, S: FnOnce(&mut W, &[T])>(
 {
     let used = used(list, before).len();
     match a {
-        CopyAnswer::Wrote(count) => {
+        Ok(count) => {
             let _ = write!(to, " {done} {count}");
             if let Some(written) = list.get(..count) {
                 show(to, written);
             }
             changed(to, used > count);
         }
-        CopyAnswer::Refused(f) => {
+        Err(f) => {
             refused(to, f);
             changed(to, used > 0);
         }

@@ -17,7 +17,6 @@ ghost use Rattle.std.specs.Prelude.{IfSome};
 ghost use Rattle.seedspell.specs.Program.{Answered, Begins, Plans, Runs, Answers};
 
 use std::io::{Read, Write};
-use taskset::CopyAnswer;
 
 // What is said on standard error.
 const UNREADABLE: &[u8] = b"seedspell: standard input cannot be read\n";
@@ -30,8 +29,8 @@ fn answer_bytes(text: &[u8], output: &mut [u8; 2048]) -> usize
     ensures { Answered text.now output.new result }
 {
     match answer::respond(text, output) {
-        CopyAnswer::Wrote(n) => n,
-        CopyAnswer::Refused(_) => unreachable!(),
+        Ok(n) => n,
+        Err(_) => unreachable!(),
     }
 }
 

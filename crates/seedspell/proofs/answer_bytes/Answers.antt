@@ -6,7 +6,7 @@ use Rattle.seedspell.proofs.answer_bytes.Goals as goal
 
 pub returns : goal.returns
 returns c =
-    let responds = c.in-Wrote.ensures in
+    let responds = c.in-Ok.ensures in
     record {
       within = count-within responds.gives.0 _ _ _ responds.gives.3;
       prints = responds.owes.0;
@@ -14,4 +14,4 @@ returns c =
     }
 
 pub unreachable-requires : goal.unreachable-requires
-unreachable-requires c = never_short _ _ _ _ (omega arith) c.in-Refused.ensures
+unreachable-requires c = never_short _ _ _ _ (omega arith) c.in-Err.ensures
