@@ -122,7 +122,7 @@ fn put_front(list: &mut [u32], n: u32)
 pub fn ready(n: u32, lent: usize) -> Result<usize, Refusal>
     ensures { RoomAfter n lent result }
 {
-    if !arithmetic::is_between(1, places::MOST_TASKS as u64, n as u64) {
+    if !(1..=places::MOST_TASKS).contains(&(n as usize)) {
         return Err(Refusal::BadWord(0));
     }
     let needed = places::period_place(Layout::Ordinary, RATES, n as usize);
