@@ -8,6 +8,7 @@ use std::io::{ErrorKind, Read};
 // Reads until the input ends or the places are full, and gives how many bytes came: fewer than were asked for are no
 // end, since a pipe hands out what it has. Each turn brings a byte or uses up one of 1,000 retries, so that the loop
 // ends: the room that is left and the retries that are left, together, get less with each turn.
+// std's read_exact gives no count where the input ends, and tries 2^64 times.
 pub(crate) fn read_input<R: Read>(reader: &mut R, bytes: &mut [u8; 8192]) -> io::Result<usize>
     ensures fits { InputFits bytes.new result }
     ensures taken { InputTaken (R.remaining reader.old) (R.remaining reader.new) bytes.new result }

@@ -10,6 +10,7 @@ pub(crate) struct CutShort(usize);
 
 // Writes bytes: all of them, unless a write fails or 1,000 retries are used up. Each turn gets rid of a byte or uses up
 // a retry, so that the loop ends: a write that takes nothing without an error counts as interrupted.
+// std's write_all gives no count where it fails, and tries 2^64 times.
 pub(crate) fn write_bytes<W: Write>(writer: &mut W, bytes: &[u8]) -> Result<(), CutShort>
     ensures fits { OutputFits bytes.now result }
     ensures put { OutputPut (W.contents writer.old) (W.contents writer.new) bytes.now result }
