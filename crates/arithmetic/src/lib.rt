@@ -11,14 +11,14 @@ ghost use Rattle.numbers.specs.Power.{IsPower};
 pub fn is_between(low: u64, high: u64, w: u64) -> bool
     ensures { result ≡ between low high w }
 {
-    if low <= w { w <= high } else { false }
+    (low..=high).contains(&w)
 }
 
 // The lesser of two numbers.
 pub fn lesser(x: u32, y: u32) -> u32
     ensures { result ≡ min x y }
 {
-    if y < x { y } else { x }
+    x.min(y)
 }
 
 // The largest power of two that divides both numbers: the lowest bit that is set in one of them.
@@ -38,35 +38,6 @@ fn is_even(u: u64, n: u64) -> bool
     n & u == 0
 }
 
-// A number, and the halvings and subtractions that were made to come to it.
-#[derive(Clone, Copy)]
-struct Counted {
-    number: u64,
-    steps: u32,
-}
-
-// A halving: one more than were made before it.
-fn halve(n: u64, before: u32) -> Counted
-    requires { before < most_steps }
-    ensures { (result.number ≡ n / 2) × (result.steps ≡ suc before) }
-{
-    Counted {
-        number: n / 2,
-        steps: before + 1,
-    }
-}
-
-// A subtraction: one more than were made.
-fn subtract(larger: u64, smaller: u64, made: u32) -> Counted
-    requires { (smaller ≤ larger) × (made < most_steps) }
-    ensures { (result.number ≡ larger - smaller) × (result.steps ≡ suc made) }
-{
-    Counted {
-        number: larger - smaller,
-        steps: made + 1,
-    }
-}
-
 // Two numbers on the way to their greatest common divisor, and the halvings and subtractions made so far.
 #[derive(Clone, Copy)]
 struct Pair {
@@ -75,41 +46,28 @@ struct Pair {
     steps: u32,
 }
 
-// One step: the number that is an even multiple of u is halved; where neither is, the smaller is subtracted from the
-// larger.
-fn step(u: u64, p: Pair) -> Pair
-    requires { IsPower u × (p.steps < most_steps) }
-    ensures { ((result.a, result.b) ≡ step u p.a p.b) × (result.steps ≡ suc p.steps) }
-{
-    if is_even(u, p.a) {
-        let h = halve(p.a, p.steps);
-        return Pair {
-            a: h.number,
-            b: p.b,
-            steps: h.steps,
-        };
-    }
-    if is_even(u, p.b) {
-        let h = halve(p.b, p.steps);
-        return Pair {
-            a: p.a,
-            b: h.number,
-            steps: h.steps,
-        };
-    }
-    if p.b < p.a {
-        let d = subtract(p.a, p.b, p.steps);
-        return Pair {
-            a: d.number,
-            b: p.b,
-            steps: d.steps,
-        };
-    }
-    let d = subtract(p.b, p.a, p.steps);
-    Pair {
-        a: p.a,
-        b: d.number,
-        steps: d.steps,
+impl Pair {
+    // One step: the number that is an even multiple of u is halved; where neither is, the smaller is subtracted from
+    // the larger.
+    fn step(self, u: u64) -> Pair
+        requires { IsPower u × (self.steps < most_steps) }
+        ensures { ((result.a, result.b) ≡ step u self.a self.b) × (result.steps ≡ suc self.steps) }
+    {
+        let steps = self.steps + 1;
+        if is_even(u, self.a) {
+            let a = self.a / 2;
+            return Pair { a, steps, ..self };
+        }
+        if is_even(u, self.b) {
+            let b = self.b / 2;
+            return Pair { b, steps, ..self };
+        }
+        if self.b < self.a {
+            let a = self.a - self.b;
+            return Pair { a, steps, ..self };
+        }
+        let b = self.b - self.a;
+        Pair { b, steps, ..self }
     }
 }
 
@@ -133,7 +91,7 @@ pub fn common_divisor(x: u64, y: u64) -> Divisor
         steps: 0,
     };
     while p.a != p.b {
-        p = step(u, p);
+        p = p.step(u);
     }
     Divisor {
         value: p.a,
@@ -141,26 +99,36 @@ pub fn common_divisor(x: u64, y: u64) -> Divisor
     }
 }
 
-// A power of two.
+// A power of two that a word holds.
 #[derive(Clone, Copy)]
 pub struct Power {
     pub exponent: u32,
     pub value: u64,
+    pub ghost in_word: { exponent < 64 },
+    pub ghost power: { value ≡ 2 ^ exponent },
+}
+
+impl Power {
+    // Half of it.
+    pub fn halved(self) -> Power
+        requires { 0 < self.exponent }
+        ensures { result.exponent ≡ self.exponent - 1 }
+    {
+        Power {
+            exponent: self.exponent - 1,
+            value: self.value / 2,
+        }
+    }
 }
 
 // The smallest power of two not below x.
 pub fn least_power(x: u64) -> Power
     requires { x ≤ 2 ^ 63 }
-    ensures { LeastPower x result.exponent × (result.value ≡ 2 ^ result.exponent) }
+    ensures { LeastPower x result.exponent }
 {
-    let mut a: u32 = 0;
-    let mut v: u64 = 1;
-    while v < x {
-        v = v * 2;
-        a += 1;
-    }
+    let value = x.next_power_of_two();
     Power {
-        exponent: a,
-        value: v,
+        exponent: value.ilog2(),
+        value,
     }
 }

@@ -5,7 +5,7 @@
 
 ghost use Rattle.std.specs.Prelude.{◌≡◌, ◌||◌, ◌-◌, ◌*◌, ◌/◌, ◌^◌, ◌≤◌, ◌<◌, eqb, leb, replicate};
 ghost use Rattle.numbers.specs.Numbers.{total};
-ghost use Rattle.engine.specs.Arrays.{option_at, Written, cost_of, load_bound, Small, RoundReady, SumReady};
+ghost use Rattle.engine.specs.Arrays.{option_at, Written, cost_of, load_bound, energy_bound, Small, SumReady};
 
 use arithmetic::Power;
 
@@ -28,16 +28,12 @@ pub struct Choice {
 
 // The energies of so many tasks divided by the unit, rounded up.
 pub fn round_up(energies: &[u64; 512], tasks: usize, unit: Power, cost: &mut [usize; 512])
-    requires { RoundReady tasks unit energies.now cost.old }
+    requires { (tasks ≤ 32) × Small energy_bound energies.now }
     ensures { Written (cost_of energies.now unit.exponent) 0 (tasks * 16) cost.old cost.new }
 {
-    let exponent = unit.exponent;
     let less = unit.value - 1;
-    let end = tasks * 16;
-    let mut k = 0;
-    while k < end {
-        cost[k] = ((energies[k] + less) >> exponent) as usize;
-        k += 1;
+    for k in 0..tasks * 16 {
+        cost[k] = ((energies[k] + less) >> unit.exponent) as usize;
     }
 }
 
@@ -47,11 +43,8 @@ pub fn sum(options: &[u64; 512], tasks: usize, plan: &[u32]) -> u64
     ensures { result ≡ total (option_at options.now) tasks plan.now }
 {
     let mut s: u64 = 0;
-    let mut t = 0;
-    while t < tasks {
-        let r = plan[t] as usize;
-        s += options[t * 16 + r];
-        t += 1;
+    for (t, r) in plan[..tasks].iter().enumerate() {
+        s += options[t * 16 + *r as usize];
     }
     s
 }
@@ -65,26 +58,11 @@ pub fn fastest_sum(options: &[u64; 512], tasks: usize, rates: usize) -> u64
     sum(options, tasks, &plan)
 }
 
-// Whether the unit rule stops at a unit with this least rounded energy of a plan that fits: at unit 1, and where slack
+// Whether the unit rule stops at the unit 2 ^ exponent, with this least rounded energy of a plan that fits: at unit 1, and where slack
 // times that energy is at least 2,000 for each task.
-pub fn stops(unit: Power, tasks: usize, slack: u32, least: usize) -> bool
+pub fn stops(exponent: u32, tasks: usize, slack: u32, least: usize) -> bool
     requires { (tasks ≤ 32) × (slack * least < 2 ^ 64) }
-    ensures { result ≡ (eqb unit.exponent 0 || leb (2000 * tasks) (slack * least)) }
+    ensures { result ≡ (eqb exponent 0 || leb (2000 * tasks) (slack * least)) }
 {
-    if unit.exponent == 0 {
-        true
-    } else {
-        2_000 * tasks <= slack as usize * least
-    }
-}
-
-// Half a unit.
-pub fn halved(unit: Power) -> Power
-    requires { 0 < unit.exponent }
-    ensures { (result.exponent ≡ unit.exponent - 1) × (result.value ≡ unit.value / 2) }
-{
-    Power {
-        exponent: unit.exponent - 1,
-        value: unit.value / 2,
-    }
+    exponent == 0 || 2_000 * tasks <= slack as usize * least
 }

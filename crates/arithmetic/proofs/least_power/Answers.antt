@@ -1,20 +1,32 @@
-use mathlib.Core.Path.{refl}
-use native.Mathlib.Omega.{arith}
-use Rattle.numbers.proofs.Powers.{doubled_positive, doubled_turn, doubled_end}
+use Rattle.std.proofs.Common.{◌≡◌, ℕ, ◌*◌, ◌^◌, ◌≤◌, ◌<◌, suc, arith}
+use Rattle.std.proofs.Math.Pow.{pow_mono}
+use Rattle.std.proofs.Math.Nat.{pow-succ', le_antisymm}
+use mathlib.Core.Logic.{⊎_elim}
+use Rattle.numbers.proofs.Tests.{lt_or_le}
+use Rattle.numbers.proofs.Powers.{power_positive}
 use Rattle.arithmetic.proofs.least_power.Goals as goal
 
-pub loop-v-init : goal.loop-v-init
-loop-v-init c = record { power = refl; smallest = λ b h. omega arith }
+-- A power of two below twice another is not above it.
+not_above : (k r : ℕ) → 2 ^ k < 2 * 2 ^ r → k ≤ r
+not_above k r h = ⊎_elim
+    (λ (l : r < k). absurd (omega (arith, pow_mono {i = suc r} {j = k} l, pow-succ' 2 r)))
+    (λ (l : k ≤ r). l)
+    (lt_or_le r k)
 
--- x is at most 2 ^ 63, so no exponent is higher.
-pub overflow_add-a : goal.overflow_add-a
-overflow_add-a c = omega (arith, c.loop-v.invariant.smallest 63 c.requires)
+-- The logarithm of a power of two is its exponent.
+power_of_log : (v r : ℕ) → (k : ℕ) × (v ≡ 2 ^ k) → 2 ^ r ≤ v → v < 2 * 2 ^ r → v ≡ 2 ^ r
+power_of_log v r p low high = le_antisymm (rw p.1 (pow_mono (not_above p.0 r (rw p.1 at high)))) low
 
-pub loop-v-smaller : goal.loop-v-smaller
-loop-v-smaller c = omega (arith, doubled_positive c.loop-v.invariant)
-
-pub loop-v-preserved : goal.loop-v-preserved
-loop-v-preserved c = doubled_turn c.loop-v.invariant (omega arith)
+pub invariant_of-result : goal.invariant_of-result
+invariant_of-result c = record {
+  in_word = c.ilog2.ensures.bound;
+  power = power_of_log _ _ c.next_power_of_two-value.ensures.power c.ilog2.ensures.power_le c.ilog2.ensures.next_power_gt;
+}
 
 pub returns : goal.returns
-returns c = doubled_end c.loop-v.invariant (omega arith)
+returns c =
+    let e = power_of_log _ _ c.next_power_of_two-value.ensures.power c.ilog2.ensures.power_le c.ilog2.ensures.next_power_gt in
+    record {
+      enough = rw (← e) c.next_power_of_two-value.ensures.lower_bound;
+      smallest = λ b h. not_above _ b (omega (arith, e, h, power_positive b, c.next_power_of_two-value.ensures.upper_bound));
+    }
