@@ -2,10 +2,14 @@
 // two numbers, a range. What each one is, numbers defines; tasks, words and times are left to the crates above.
 #![tactic(auto)]
 
+mod power;
+
 ghost use Rattle.std.specs.Prelude.{◌≡◌, suc, ◌-◌, ◌*◌, ◌/◌, ◌^◌, ◌≤◌, ◌<◌, min};
-ghost use Rattle.numbers.specs.Numbers.{between, gcd, LeastPower};
+ghost use Rattle.numbers.specs.Numbers.{between, gcd};
 ghost use Rattle.numbers.specs.Halving.{common_power, is_even, step, steps, most_steps};
 ghost use Rattle.numbers.specs.Power.{IsPower};
+
+pub use power::{Power, least_power};
 
 // Whether w is low to high.
 pub fn is_between(low: u64, high: u64, w: u64) -> bool
@@ -38,6 +42,21 @@ fn is_even(u: u64, n: u64) -> bool
     n & u == 0
 }
 
+// A halving.
+fn half(n: u64) -> u64
+    ensures { result ≡ n / 2 }
+{
+    n / 2
+}
+
+// A subtraction.
+fn difference(larger: u64, smaller: u64) -> u64
+    requires { smaller ≤ larger }
+    ensures { result ≡ larger - smaller }
+{
+    larger - smaller
+}
+
 // Two numbers on the way to their greatest common divisor, and the halvings and subtractions made so far.
 #[derive(Clone, Copy)]
 struct Pair {
@@ -47,26 +66,26 @@ struct Pair {
 }
 
 impl Pair {
-    // One step: the number that is an even multiple of u is halved; where neither is, the smaller is subtracted from
-    // the larger.
+    // One step, which is one halving or one subtraction: the number that is an even multiple of u is halved; where
+    // neither is, the smaller is subtracted from the larger.
     fn step(self, u: u64) -> Pair
         requires { IsPower u × (self.steps < most_steps) }
         ensures { ((result.a, result.b) ≡ step u self.a self.b) × (result.steps ≡ suc self.steps) }
     {
         let steps = self.steps + 1;
         if is_even(u, self.a) {
-            let a = self.a / 2;
+            let a = half(self.a);
             return Pair { a, steps, ..self };
         }
         if is_even(u, self.b) {
-            let b = self.b / 2;
+            let b = half(self.b);
             return Pair { b, steps, ..self };
         }
         if self.b < self.a {
-            let a = self.a - self.b;
+            let a = difference(self.a, self.b);
             return Pair { a, steps, ..self };
         }
-        let b = self.b - self.a;
+        let b = difference(self.b, self.a);
         Pair { b, steps, ..self }
     }
 }
@@ -96,39 +115,5 @@ pub fn common_divisor(x: u64, y: u64) -> Divisor
     Divisor {
         value: p.a,
         steps: p.steps,
-    }
-}
-
-// A power of two that a word holds.
-#[derive(Clone, Copy)]
-pub struct Power {
-    pub exponent: u32,
-    pub value: u64,
-    pub ghost in_word: { exponent < 64 },
-    pub ghost power: { value ≡ 2 ^ exponent },
-}
-
-impl Power {
-    // Half of it.
-    pub fn halved(self) -> Power
-        requires { 0 < self.exponent }
-        ensures { result.exponent ≡ self.exponent - 1 }
-    {
-        Power {
-            exponent: self.exponent - 1,
-            value: self.value / 2,
-        }
-    }
-}
-
-// The smallest power of two not below x.
-pub fn least_power(x: u64) -> Power
-    requires { x ≤ 2 ^ 63 }
-    ensures { LeastPower x result.exponent }
-{
-    let value = x.next_power_of_two();
-    Power {
-        exponent: value.ilog2(),
-        value,
     }
 }
