@@ -43,14 +43,14 @@ fn is_even(u: u64, n: u64) -> bool
 }
 
 // A halving.
-fn half(n: u64) -> u64
+fn halve(n: u64) -> u64
     ensures { result ≡ n / 2 }
 {
     n / 2
 }
 
 // A subtraction.
-fn difference(larger: u64, smaller: u64) -> u64
+fn subtract(larger: u64, smaller: u64) -> u64
     requires { smaller ≤ larger }
     ensures { result ≡ larger - smaller }
 {
@@ -74,18 +74,18 @@ impl Pair {
     {
         let steps = self.steps + 1;
         if is_even(u, self.a) {
-            let a = half(self.a);
+            let a = halve(self.a);
             return Pair { a, steps, ..self };
         }
         if is_even(u, self.b) {
-            let b = half(self.b);
+            let b = halve(self.b);
             return Pair { b, steps, ..self };
         }
         if self.b < self.a {
-            let a = difference(self.a, self.b);
+            let a = subtract(self.a, self.b);
             return Pair { a, steps, ..self };
         }
-        let b = difference(self.b, self.a);
+        let b = subtract(self.b, self.a);
         Pair { b, steps, ..self }
     }
 }
