@@ -1,9 +1,9 @@
-// Whole-number arithmetic in code: common divisors by halving and subtracting, the least power of two, the lesser of
-// two numbers, a range. What each one is, numbers defines; tasks, words and times are left to the crates above.
+// Whole-number arithmetic in code: common divisors by halving and subtracting, the lesser of two numbers, a range. What
+// each one is, numbers defines; tasks, words and times are left to the crates above.
 #![tactic(auto)]
 
 ghost use Rattle.std.specs.Prelude.{◌≡◌, suc, ◌-◌, ◌*◌, ◌/◌, ◌^◌, ◌≤◌, ◌<◌, min};
-ghost use Rattle.numbers.specs.Numbers.{between, gcd, LeastPower};
+ghost use Rattle.numbers.specs.Numbers.{between, gcd};
 ghost use Rattle.numbers.specs.Halving.{common_power, is_even, step, steps, most_steps};
 ghost use Rattle.numbers.specs.Power.{IsPower};
 
@@ -38,6 +38,22 @@ fn is_even(u: u64, n: u64) -> bool
     n & u == 0
 }
 
+// A halving: half the number, and one more than the halvings and subtractions made before it.
+fn halve(n: u64, before: u32) -> (u64, u32)
+    requires { before < most_steps }
+    ensures { result ≡ (n / 2, suc before) }
+{
+    (n / 2, before + 1)
+}
+
+// A subtraction: the difference, and one more than were made.
+fn subtract(larger: u64, smaller: u64, made: u32) -> (u64, u32)
+    requires { (smaller ≤ larger) × (made < most_steps) }
+    ensures { result ≡ (larger - smaller, suc made) }
+{
+    (larger - smaller, made + 1)
+}
+
 // Two numbers on the way to their greatest common divisor, and the halvings and subtractions made so far.
 #[derive(Clone, Copy)]
 struct Pair {
@@ -53,20 +69,19 @@ impl Pair {
         requires { IsPower u × (self.steps < most_steps) }
         ensures { ((result.a, result.b) ≡ step u self.a self.b) × (result.steps ≡ suc self.steps) }
     {
-        let steps = self.steps + 1;
         if is_even(u, self.a) {
-            let a = self.a / 2;
+            let (a, steps) = halve(self.a, self.steps);
             return Pair { a, steps, ..self };
         }
         if is_even(u, self.b) {
-            let b = self.b / 2;
+            let (b, steps) = halve(self.b, self.steps);
             return Pair { b, steps, ..self };
         }
         if self.b < self.a {
-            let a = self.a - self.b;
+            let (a, steps) = subtract(self.a, self.b, self.steps);
             return Pair { a, steps, ..self };
         }
-        let b = self.b - self.a;
+        let (b, steps) = subtract(self.b, self.a, self.steps);
         Pair { b, steps, ..self }
     }
 }
@@ -96,39 +111,5 @@ pub fn common_divisor(x: u64, y: u64) -> Divisor
     Divisor {
         value: p.a,
         steps: p.steps,
-    }
-}
-
-// A power of two that a word holds.
-#[derive(Clone, Copy)]
-pub struct Power {
-    pub exponent: u32,
-    pub value: u64,
-    pub ghost in_word: { exponent < 64 },
-    pub ghost power: { value ≡ 2 ^ exponent },
-}
-
-impl Power {
-    // Half of it.
-    pub fn halved(self) -> Power
-        requires { 0 < self.exponent }
-        ensures { result.exponent ≡ self.exponent - 1 }
-    {
-        Power {
-            exponent: self.exponent - 1,
-            value: self.value / 2,
-        }
-    }
-}
-
-// The smallest power of two not below x.
-pub fn least_power(x: u64) -> Power
-    requires { x ≤ 2 ^ 63 }
-    ensures { LeastPower x result.exponent }
-{
-    let value = x.next_power_of_two();
-    Power {
-        exponent: value.ilog2(),
-        value,
     }
 }

@@ -4,7 +4,7 @@ use Rattle.std.proofs.Math.Nat.{pow-succ', le_antisymm}
 use mathlib.Core.Logic.{⊎_elim}
 use Rattle.numbers.proofs.Tests.{lt_or_le}
 use Rattle.numbers.proofs.Powers.{power_positive}
-use Rattle.arithmetic.proofs.least_power.Goals as goal
+use Rattle.engine.proofs.least_power.Goals as goal
 
 -- A power of two below twice another is not above it.
 not_above : (k r : ℕ) → 2 ^ k < 2 * 2 ^ r → k ≤ r
