@@ -1,15 +1,11 @@
-// Whole-number arithmetic in code: common divisors by halving and subtracting, the least power of two, the lesser of
-// two numbers, a range. What each one is, numbers defines; tasks, words and times are left to the crates above.
+// Whole-number arithmetic in code: common divisors by halving and subtracting, the lesser of two numbers, a range. What
+// each one is, numbers defines; tasks, words and times are left to the crates above.
 #![tactic(auto)]
-
-mod power;
 
 ghost use Rattle.std.specs.Prelude.{◌≡◌, suc, ◌-◌, ◌*◌, ◌/◌, ◌^◌, ◌≤◌, ◌<◌, min};
 ghost use Rattle.numbers.specs.Numbers.{between, gcd};
 ghost use Rattle.numbers.specs.Halving.{common_power, is_even, step, steps, most_steps};
 ghost use Rattle.numbers.specs.Power.{IsPower};
-
-pub use power::{Power, least_power};
 
 // Whether w is low to high.
 pub fn is_between(low: u64, high: u64, w: u64) -> bool
@@ -42,19 +38,20 @@ fn is_even(u: u64, n: u64) -> bool
     n & u == 0
 }
 
-// A halving.
-fn halve(n: u64) -> u64
-    ensures { result ≡ n / 2 }
+// A halving: half the number, and one more than the halvings and subtractions made before it.
+fn halve(n: u64, before: u32) -> (u64, u32)
+    requires { before < most_steps }
+    ensures { result ≡ (n / 2, suc before) }
 {
-    n / 2
+    (n / 2, before + 1)
 }
 
-// A subtraction.
-fn subtract(larger: u64, smaller: u64) -> u64
-    requires { smaller ≤ larger }
-    ensures { result ≡ larger - smaller }
+// A subtraction: the difference, and one more than were made.
+fn subtract(larger: u64, smaller: u64, made: u32) -> (u64, u32)
+    requires { (smaller ≤ larger) × (made < most_steps) }
+    ensures { result ≡ (larger - smaller, suc made) }
 {
-    larger - smaller
+    (larger - smaller, made + 1)
 }
 
 // Two numbers on the way to their greatest common divisor, and the halvings and subtractions made so far.
@@ -66,26 +63,25 @@ struct Pair {
 }
 
 impl Pair {
-    // One step, which is one halving or one subtraction: the number that is an even multiple of u is halved; where
-    // neither is, the smaller is subtracted from the larger.
+    // One step: the number that is an even multiple of u is halved; where neither is, the smaller is subtracted from
+    // the larger.
     fn step(self, u: u64) -> Pair
         requires { IsPower u × (self.steps < most_steps) }
         ensures { ((result.a, result.b) ≡ step u self.a self.b) × (result.steps ≡ suc self.steps) }
     {
-        let steps = self.steps + 1;
         if is_even(u, self.a) {
-            let a = halve(self.a);
+            let (a, steps) = halve(self.a, self.steps);
             return Pair { a, steps, ..self };
         }
         if is_even(u, self.b) {
-            let b = halve(self.b);
+            let (b, steps) = halve(self.b, self.steps);
             return Pair { b, steps, ..self };
         }
         if self.b < self.a {
-            let a = subtract(self.a, self.b);
+            let (a, steps) = subtract(self.a, self.b, self.steps);
             return Pair { a, steps, ..self };
         }
-        let b = subtract(self.b, self.a);
+        let (b, steps) = subtract(self.b, self.a, self.steps);
         Pair { b, steps, ..self }
     }
 }

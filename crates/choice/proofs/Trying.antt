@@ -11,7 +11,7 @@ use lib.ListN.{length, get_or, replicate}
 use Rattle.numbers.specs.Numbers.{total, LeastPower}
 use Rattle.std.proofs.Common.{rules}
 use Rattle.std.specs.Prelude.{Option, Some, None, IsSome}
-use Rattle.arithmetic.specs.declared.power.Power.{Power}
+use Rattle.engine.specs.declared.Power.{Power}
 use Rattle.numbers.proofs.Tests.{lt_or_le}
 use Rattle.numbers.proofs.Powers.{power_positive}
 use Rattle.selection.specs.Plan.{Problem, Fitting, rounded_task, rounded, fastest, IsLeastOf, IsChosenOf}

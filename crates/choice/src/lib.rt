@@ -10,8 +10,7 @@ ghost use Rattle.choice.specs.Choice.{ChoiceReady, Chose};
 ghost use Rattle.choice.specs.Units.{WayReady, WayTaken, cut_of, UnitReady, UnitTabled};
 ghost use Rattle.choice.specs.Units.{SearchReady, UnitUsed};
 
-use arithmetic::Power;
-use engine::{Choice, Request};
+use engine::{Choice, Power, Request};
 use table::Frame;
 
 // The unit used, the size of its table, and the least rounded energy of a plan that fits.
@@ -95,7 +94,7 @@ fn find_unit(
 {
     let cap = q.limit + 1;
     cut(loads, q.tasks, cap, load);
-    let mut unit = arithmetic::least_power(engine::fastest_sum(energies, q.tasks, q.rates));
+    let mut unit = engine::least_power(engine::fastest_sum(energies, q.tasks, q.rates));
     let mut columns = q.tasks + 1;
     loop {
         let frame = Frame {

@@ -12,7 +12,7 @@ use lib.Dec.{eqb, leb}
 use lib.ListN.{replicate}
 use borrow.Author.Tests.{eqb-true, eqb-false, leb-true, leb-false}
 use Rattle.numbers.specs.Numbers.{total, LeastPower}
-use Rattle.arithmetic.specs.declared.power.Power.{Power}
+use Rattle.engine.specs.declared.Power.{Power}
 use Rattle.numbers.proofs.Tests.{or_true, or_false}
 use Rattle.selection.specs.Plan.{Problem, Fitting, plan_energy, fastest, threshold, IsLeastOf, FallsShortOf, IsUsedOf}
 use Rattle.selection.proofs.Bounds.{last_small, tried_in_table}

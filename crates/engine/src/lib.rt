@@ -3,11 +3,9 @@
 // them is asked and gives. Which plan, and how, is left to the engines.
 #![tactic(auto)]
 
-ghost use Rattle.std.specs.Prelude.{◌≡◌, ◌||◌, ◌-◌, ◌*◌, ◌/◌, ◌^◌, ◌≤◌, ◌<◌, eqb, leb, replicate};
-ghost use Rattle.numbers.specs.Numbers.{total};
+ghost use Rattle.std.specs.Prelude.{◌≡◌, ◌||◌, ◌-◌, ◌*◌, ◌^◌, ◌≤◌, ◌<◌, eqb, leb, replicate};
+ghost use Rattle.numbers.specs.Numbers.{total, LeastPower};
 ghost use Rattle.engine.specs.Arrays.{option_at, Written, cost_of, load_bound, energy_bound, Small, SumReady};
-
-use arithmetic::Power;
 
 // What a plan is chosen for: so many tasks and rates, the limit of the plan's load, and the slack.
 #[derive(Clone, Copy)]
@@ -24,6 +22,40 @@ pub struct Choice {
     pub unit: u64,
     pub load: u64,
     pub energy: u64,
+}
+
+// A unit: a power of two that a word holds.
+#[derive(Clone, Copy)]
+pub struct Power {
+    pub exponent: u32,
+    pub value: u64,
+    pub ghost in_word: { exponent < 64 },
+    pub ghost power: { value ≡ 2 ^ exponent },
+}
+
+impl Power {
+    // Half the unit.
+    pub fn halved(self) -> Power
+        requires { 0 < self.exponent }
+        ensures { result.exponent ≡ self.exponent - 1 }
+    {
+        Power {
+            exponent: self.exponent - 1,
+            value: self.value / 2,
+        }
+    }
+}
+
+// The smallest power of two not below x.
+pub fn least_power(x: u64) -> Power
+    requires { x ≤ 2 ^ 63 }
+    ensures { LeastPower x result.exponent }
+{
+    let value = x.next_power_of_two();
+    Power {
+        exponent: value.ilog2(),
+        value,
+    }
 }
 
 // The energies of so many tasks divided by the unit, rounded up.

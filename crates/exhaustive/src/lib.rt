@@ -11,8 +11,7 @@ ghost use Rattle.exhaustive.specs.Engine.{Looked, Seen, ArraysReady, InHand, Cha
 ghost use Rattle.exhaustive.specs.Engine.{BlockReady, AdvanceReady, Advanced, AllReady, ChosenAt};
 ghost use Rattle.exhaustive.specs.Engine.{UnitUsed, PutReady, PlanPut, ExhaustiveReady};
 
-use arithmetic::Power;
-use engine::{Choice, Request};
+use engine::{Choice, Power, Request};
 
 // How many plans the engine goes through at most.
 pub const MOST_PLANS: usize = 1_000_000;
@@ -165,7 +164,7 @@ fn find_unit(loads: &[u64; 512], energies: &[u64; 512], q: Request, plans: usize
     requires { AllReady q loads.now energies.now plans }
     ensures { UnitUsed q loads.now energies.now result }
 {
-    let mut unit = arithmetic::least_power(engine::fastest_sum(energies, q.tasks, q.rates));
+    let mut unit = engine::least_power(engine::fastest_sum(energies, q.tasks, q.rates));
     loop {
         let best = best_at(loads, energies, q, unit, plans);
         if engine::stops(unit.exponent, q.tasks, q.slack, best.sums.cost) {
