@@ -2,7 +2,7 @@
 -- Assumes nothing.
 use Rattle.std.specs.Prelude.{Ok, Err}
 use Prim.Native.Nat.{ℕ, ◌≤◌, ◌<◌}
-use mathlib.Core.Path.{◌≡◌, refl, sym, ◌∙◌}
+use mathlib.Core.Path.{◌≡◌, refl, sym, ap, ◌∙◌}
 use mathlib.Core.List.{List}
 use mathlib.Core.Logic.{inl, inr}
 use native.Mathlib.Omega.{arith}
@@ -18,6 +18,10 @@ use Rattle.text.proofs.Pieces.{Good, no_first_bad}
 use Rattle.text.proofs.Grammar.{dom_of, script_piece}
 use Rattle.text.proofs.Copies.{is_read, is_refused, NoneOver, none_refused, takes}
 use Rattle.lists.specs.Writing.{placed}
+use Rattle.std.specs.Prelude.{Ok, Err}
+use Rattle.scanner.specs.Steps.{Reads}
+use Rattle.scanner.specs.declared.Cursor.{Cursor}
+use Rattle.scanner.specs.declared.Departure.{Departure}
 use Rattle.scanner.proofs.Places.{later-zero}
 
 text_is : (t : List ℕ) → read_text t ≡ ended (length t) (read_at read_script t 0)
@@ -32,6 +36,17 @@ inside t s i e = go (read_script t) (script_piece.good t) (sym (later-zero (read
     go : (x : Res Script) → Good script_text ScriptOk t x → x ≡ got s i → i ≤ length t
     go (got u n) g q = let z : n ≡ i = cc in omega (arith, g.1)
     go (bad o) g q = let z : ◌≡◌ {A = ℕ} 0 1 = cc in absurd (omega arith)
+
+-- What was read from the start of a text, and where reading departs.
+module _ {A : Type 0} (p : List ℕ → Res A) (t : List ℕ) (x : Cursor) (start : (x.text.now ≡ t) × (x.at ≡ 0)) where
+  from_start : read_at p t 0 ≡ read_at p x.text.now x.at
+  from_start = ap (λ (s : List ℕ). read_at p s 0) (sym start.0) ∙ ap (read_at p x.text.now) (sym start.1)
+
+  pub reads_at_start : {y : Cursor} {a : A} {i : ℕ} → i ≡ y.at → Reads p x y (Ok a) → read_at p t 0 ≡ got a i
+  reads_at_start {y} {a} e h = from_start ∙ sym h.answers ∙ ap (got a) (sym e)
+
+  pub departs_at_start : {y : Cursor} {o : Departure} → Reads p x y (Err o) → read_at p t 0 ≡ bad o.at
+  departs_at_start h = from_start ∙ sym h.answers
 
 module _ (t d : List ℕ) where
   departs : (o : ℕ) → read_text t ≡ bad o → ReaderGives t d d (Err (TextDeparts o))

@@ -5,10 +5,14 @@ use Prim.Native.Nat.{◌-◌, ◌<◌, ◌^◌}
 use mathlib.Core.Path.{◌≡◌}
 use lib.ListN.{length}
 use Rattle.text.specs.Reading.{more, read_at}
-use Rattle.scanner.proofs.more.Given as goal
+use Rattle.scanner.proofs.Cursor.more.Given as goal
 
 abbrev pub invariant-loop-d : goal.invariant-loop-d
-invariant-loop-d l = (l.v < 2 ^ 32) × (read_at (more l.first) l.s l.at ≡ read_at (more l.v) l.s l.i)
+invariant-loop-d l = record {
+  fits : l.v < 2 ^ 32;
+  same : l.here.text.now ≡ l.initial.here.text.now;
+  rest : read_at (more l.first) l.initial.here.text.now l.initial.here.at ≡ read_at (more l.v) l.here.text.now l.here.at;
+}
 
 abbrev pub decreases-loop-d : goal.decreases-loop-d
-decreases-loop-d l = length l.s - l.i
+decreases-loop-d l = length l.here.text.now - l.here.at
