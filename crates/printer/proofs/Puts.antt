@@ -4,7 +4,7 @@ use Prim.Native.Nat.{ℕ, zero, suc, ◌+◌, ◌-◌, ◌*◌, ◌/◌, ◌%◌
 use mathlib.Core.Path.{◌≡◌, refl, sym, ap, ◌∙◌}
 use mathlib.Core.List.{List, [], ◌∷◌, ◌++◌, append-nil}
 use mathlib.Core.Bool.{Bool, true, false}
-use native.Mathlib.Nat.{pow-succ', one-le-pow, div-one, div-div-eq-div-mul}
+use native.Mathlib.Nat.{pow-succ', one-le-pow}
 use native.Mathlib.Omega.{arith}
 use lib.ListN.{length, get_or, take, drop, set, length-append, length-drop, length-set}
 use lib.Dec.{ltb}
@@ -54,15 +54,6 @@ length-between (suc j) v h k l =
     let h' : 10 * 10 ^ j ≤ v = rw (pow-succ' 10 j) at h in
     let k' : v < 10 * 10 ^ suc j = rw (pow-succ' 10 (suc j)) at k in
     omega (arith, length_large v (omega arith) l, length-between j (v / 10) (omega arith) (omega arith) (omega arith))
-
--- The lower j digits taken off at once.
-pub length_above : (j v : ℕ) → 10 ^ j ≤ v → v < 2 ^ 64 → length (decimal v) ≡ j + length (decimal (v / 10 ^ j))
-length_above zero v h l = rw div-one (omega arith)
-length_above (suc j) v h l =
-    let p = one-le-pow j 10 (omega arith) in
-    let h' : 10 * 10 ^ j ≤ v = rw (pow-succ' 10 j) at h in
-    let e = length_above j (v / 10) (omega arith) (omega arith) in
-    rw (pow-succ' 10 j, ← div-div-eq-div-mul) (omega (arith, length_large v (omega arith) l))
 
 -- Digits from the back: those of v behind the first i stand in their places of e, which was d; the first i are x's.
 pub record Filled (v : ℕ) (d : List ℕ) (x : ℕ) (e : List ℕ) (i : ℕ) : Type 0 where

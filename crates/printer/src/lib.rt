@@ -109,9 +109,9 @@ fn put_number(buf: &mut [u8], v: u64) -> usize
     let n = count_number(v);
     let mut x = v;
     for i in (1..n).rev() {
-        buf[i] = 48 + (x % 10) as u8;
+        buf[i] = b'0' + (x % 10) as u8;
         x /= 10;
     }
-    buf[0] = 48 + x as u8;
+    buf[0] = b'0' + x as u8;
     n
 }

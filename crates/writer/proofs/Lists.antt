@@ -9,10 +9,9 @@ use native.Mathlib.Omega.{arith}
 use lib.ListN.{length, get_or, take, drop}
 use Rattle.numbers.specs.Numbers.{each, joined}
 use Rattle.numbers.proofs.Lists.{each-length, each_at}
-use Rattle.layout.specs.Words.{slack_place, idle_place, head_size, most_rates, most_tasks, word, slack, idle, rate_count, task_count}
+use Rattle.layout.specs.Words.{head_size, most_rates, most_tasks, word, slack, idle, rate_count, task_count}
 use Rattle.layout.specs.Words.{rate_place, task_count_place, task_size, energy_place, rate, first, energy}
 use Rattle.layout.specs.declared.Layout.TheVariants.{Ordinary}
-use Rattle.layout.proofs.Layouts.{idle_in_head}
 use Rattle.layout.proofs.Whole.{in_list}
 use Rattle.text.specs.Text.{bytes, decimal, spaced, first_text, task_text, idle_text, clock_text, script_text, list_rates}
 use Rattle.text.specs.Text.{shown, line_of, script_of}
@@ -30,12 +29,6 @@ module _ {w : List ℕ} {m : ℕ} (has : WithRates w m) where
 
   pub rates_inside : task_count_place Ordinary m ≤ length w
   rates_inside = omega (arith, has.rates, has.whole.size)
-
-  pub slack_inside : slack_place < length w
-  slack_inside = omega (arith, has.whole.size)
-
-  pub idle_inside : idle_place < length w
-  idle_inside = omega (arith, has.whole.size, idle_in_head Ordinary)
 
   pub rates_are : (a e : ℕ) → a ≡ rate_place Ordinary 1 → e ≡ task_count_place Ordinary m → take (e - a) (drop a w) ≡ list_rates w
   rates_are a e x y =

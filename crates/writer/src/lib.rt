@@ -19,24 +19,13 @@ use taskset::{CopyAnswer, Refusal};
 // The least idle energy that has a line of its own, and the least first release that has a form.
 const LEAST_SHOWN: u64 = 1;
 
-// The words of a list that passes check 2: its rates, and of the task at place t its period, its cycles and its
-// energies.
-fn rates_of(w: &[u32], m: usize) -> &[u32]
-    requires { WithRates w.now m }
-    ensures { result.now ≡ list_rates w.now }
-{
-    let start = places::rate_place(Layout::Ordinary, 1);
-    let end = places::task_count_place(Layout::Ordinary, m);
-    &w[start..end]
-}
-
-fn energies_of(w: &[u32], m: usize, t: usize) -> &[u32]
-    requires { OfTask Ordinary m t w.now }
-    ensures { result.now ≡ (line_of w.now t).energies }
-{
-    let start = places::energy_place(Layout::Ordinary, m, t, 1);
-    let end = start + m;
-    &w[start..end]
+// A list that passes checks 2 and 3, with its rate count and its task count.
+#[derive(Clone, Copy)]
+struct Set<'a> {
+    words: &'a [u32],
+    rates: usize,
+    tasks: usize,
+    ghost counted: { WithTasks words.now rates tasks },
 }
 
 // A space and a number. (A function of its own: a byte string in a loop would be part of the loop's invariant.)
@@ -58,6 +47,7 @@ fn numbers<S: Sink>(sink: &mut S, l: &[u32])
 }
 
 // A form that stands only where its number is above 0: two fixed strings, and the number between them.
+// (No Option: in the words that `seedspell_plan` takes 0 is none.)
 fn shown<S: Sink>(sink: &mut S, front: &[u8], v: u64, end: &[u8])
     requires { S.fits sink.old (optional_text front.now end.now (shown v)) }
     ensures { S.takes sink.old (optional_text front.now end.now (shown v)) sink.new }
@@ -96,46 +86,70 @@ fn rates_line<S: Sink>(sink: &mut S, rates: &[u32])
     sink.put_bytes(b")\n");
 }
 
-// The line of the task at place t.
-fn task_line<S: Sink>(sink: &mut S, w: &[u32], m: usize, t: usize)
-    requires has { OfTask Ordinary m t w.now }
-    requires fits { S.fits sink.old (task_text (line_of w.now t)) }
-    ensures { S.takes sink.old (task_text (line_of w.now t)) sink.new }
-{
-    let period = u64::from(checks::period_of(w, Layout::Ordinary, m, t));
-    let cycles = u64::from(checks::cycles_of(w, Layout::Ordinary, m, t));
-    let first = u64::from(checks::first_of(w, Layout::Ordinary, m, t));
-    let energies = energies_of(w, m, t);
-    sink.put_field(b"(task (period ", period);
-    sink.put_field(b") (cycles ", cycles);
-    sink.put_bytes(b") (energy");
-    numbers(sink, energies);
-    sink.put_bytes(b")");
-    shown(sink, b" (from ", first, b")");
-    sink.put_bytes(b")\n");
-}
+impl Set<'_> {
+    // Its rates, and the energies of the task at place t, as they stand in the words.
+    fn rates(&self) -> &[u32]
+        ensures { result.now ≡ list_rates self.now.words.now }
+    {
+        let start = places::rate_place(Layout::Ordinary, 1);
+        let end = places::task_count_place(Layout::Ordinary, self.rates);
+        &self.words[start..end]
+    }
 
-// The whole text, of m rates and n tasks.
-fn text<S: Sink>(sink: &mut S, w: &[u32], m: usize, n: usize)
-    requires has { WithTasks w.now m n }
-    requires fits { S.fits sink.old (script_text (script_of w.now)) }
-    ensures { S.takes sink.old (script_text (script_of w.now)) sink.new }
-{
-    slack_line(sink, u64::from(checks::slack_of(w)));
-    idle_line(sink, u64::from(checks::idle_of(w)));
-    rates_line(sink, rates_of(w, m));
-    for t in 0..n {
-        task_line(sink, w, m, t);
+    fn energies(&self, t: usize) -> &[u32]
+        requires { t < self.now.tasks }
+        ensures { result.now ≡ (line_of self.now.words.now t).energies }
+    {
+        let start = places::energy_place(Layout::Ordinary, self.rates, t, 1);
+        let end = start + self.rates;
+        &self.words[start..end]
+    }
+
+    // The line of the task at place t.
+    fn task_line<S: Sink>(&self, sink: &mut S, t: usize)
+        requires has { t < self.now.tasks }
+        requires fits { S.fits sink.old (task_text (line_of self.now.words.now t)) }
+        ensures { S.takes sink.old (task_text (line_of self.now.words.now t)) sink.new }
+    {
+        let period = u64::from(checks::period_of(self.words, Layout::Ordinary, self.rates, t));
+        let cycles = u64::from(checks::cycles_of(self.words, Layout::Ordinary, self.rates, t));
+        let first = u64::from(checks::first_of(self.words, Layout::Ordinary, self.rates, t));
+        let energies = self.energies(t);
+        sink.put_field(b"(task (period ", period);
+        sink.put_field(b") (cycles ", cycles);
+        sink.put_bytes(b") (energy");
+        numbers(sink, energies);
+        sink.put_bytes(b")");
+        shown(sink, b" (from ", first, b")");
+        sink.put_bytes(b")\n");
+    }
+
+    // The whole text.
+    fn text<S: Sink>(&self, sink: &mut S)
+        requires { S.fits sink.old (script_text (script_of self.now.words.now)) }
+        ensures { S.takes sink.old (script_text (script_of self.now.words.now)) sink.new }
+    {
+        slack_line(sink, u64::from(checks::slack_of(self.words)));
+        idle_line(sink, u64::from(checks::idle_of(self.words)));
+        rates_line(sink, self.rates());
+        for t in 0..self.tasks {
+            self.task_line(sink, t);
+        }
     }
 }
 
-// How many bytes the text has.
+// How many bytes the text of a list of m rates and n tasks has.
 fn count_text(w: &[u32], m: usize, n: usize) -> usize
     requires { WithTasks w.now m n }
     ensures { result ≡ length (script_text (script_of w.now)) }
 {
+    let set = Set {
+        words: w,
+        rates: m,
+        tasks: n,
+    };
     let mut counter = Count { bytes: 0 };
-    text(&mut counter, w, m, n);
+    set.text(&mut counter);
     counter.bytes
 }
 
@@ -144,8 +158,13 @@ fn put_text(buf: &mut [u8], w: &[u32], m: usize, n: usize) -> usize
     requires { WithTasks w.now m n × (length (script_text (script_of w.now)) ≤ length buf.old) }
     ensures { Put (script_text (script_of w.now)) buf.old buf.new result }
 {
+    let set = Set {
+        words: w,
+        rates: m,
+        tasks: n,
+    };
     let mut lent = Buffer { all: buf, at: 0 };
-    text(&mut lent, w, m, n);
+    set.text(&mut lent);
     lent.at
 }
 

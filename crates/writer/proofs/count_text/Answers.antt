@@ -4,5 +4,5 @@ use native.Mathlib.Omega.{arith}
 use Rattle.writer.proofs.Lists.{text_short}
 use Rattle.writer.proofs.count_text.Goals as goal
 
-pub text-requires-clause-fits : goal.text-requires-clause-fits
-text-requires-clause-fits c = omega (arith, text_short c.requires.list)
+pub text-requires : goal.text-requires
+text-requires c = omega (arith, text_short c.requires.list)

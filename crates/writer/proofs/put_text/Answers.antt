@@ -4,8 +4,8 @@ use Rattle.std.proofs.Common.{refl, rules}
 use Rattle.printer.proofs.Puts.{from_front, front}
 use Rattle.writer.proofs.put_text.Goals as goal
 
-pub text-requires-clause-fits : goal.text-requires-clause-fits
-text-requires-clause-fits c = from_front refl c.requires.1
+pub text-requires : goal.text-requires
+text-requires c = from_front refl c.requires.1
 
 pub returns : goal.returns
 returns c = front (search rules) c.text.ensures.added
