@@ -4,18 +4,17 @@ use Rattle.std.specs.Prelude.{Ok, Err}
 use Prim.Native.Nat.{ℕ, ◌+◌, ◌*◌, ◌≤◌, ◌<◌}
 use mathlib.Core.Path.{◌≡◌, refl, sym, ap, ◌∙◌, subst}
 use mathlib.Core.Bool.{true, false}
-use mathlib.Core.List.{List, [], ◌∷◌, ◌++◌}
+use mathlib.Core.List.{List, ◌++◌}
 use mathlib.Core.Logic.{inl, inr, ⊎_elim}
 use native.Mathlib.Nat.{eq-or-lt_of_le}
 use native.Mathlib.Omega.{arith}
 use lib.ListN.{length}
-use Rattle.numbers.specs.Numbers.{running}
 use Rattle.numbers.proofs.Tests.{bool_cases, lt_or_le}
 use Rattle.layout.specs.Words.{head_size, most_rates, most_tasks, word, idle, rate_count, task_count, word_count, rate_place}
-use Rattle.layout.specs.Words.{task_count_place, period_place, energy_place, period, energy, kind_at, allows, OutOfRange}
+use Rattle.layout.specs.Words.{task_count_place, energy_place, energy, kind_at, allows, OutOfRange}
 use Rattle.layout.specs.Words.{WordFault}
-use Rattle.taskset.specs.Refusals.{number, second, IsBadWord, RateFault, IsBelowIdle, IsTooLong, Check, Passes, Accepts}
-use Rattle.taskset.specs.Refusals.{word_checks, idle_check, hyper_check}
+use Rattle.taskset.specs.Refusals.{number, second, IsBadWord, RateFault, IsBelowIdle, Check, Passes, Accepts}
+use Rattle.taskset.specs.Refusals.{word_checks, idle_check}
 use Rattle.taskset.specs.Calls.{CountsAfter, SetAfter}
 use Rattle.numbers.specs.Search.{Found}
 use Rattle.taskset.specs.Quantities.{job_time}
@@ -26,7 +25,7 @@ use Rattle.taskset.specs.Sets.{Below}
 use Rattle.taskset.proofs.Idle.{covered_passes, first_below}
 use Rattle.layout.proofs.Whole.{whole_of, rates_in_lem, tasks_in}
 use Rattle.layout.specs.declared.Layout.{Layout}
-use Rattle.taskset.specs.Answers.{Checked, ok_counts, ok_measured}
+use Rattle.taskset.specs.Answers.{Checked, ok_counts}
 
 -- What the code reads of a list: its head's size h, the rate count there, its task count's place c, the count there.
 pub record Counts (layout : Layout) (s : List ℕ) (h c : ℕ) : Type 0 where

@@ -11,7 +11,6 @@ use Rattle.taskset.specs.Quantities.{hyper_limit}
 use Rattle.layout.specs.Whole.{IsWhole}
 use Rattle.taskset.specs.Refusals.{number, second, Check, Accepts, Refuses}
 use Rattle.taskset.specs.declared.Refusal.{Refusal}
-use Rattle.taskset.specs.Sets.{Below}
 
 -- What the word at q stands for, up to the task count; 'left over' behind that, where nothing is allowed. So the front
 -- ends at q: its word is out of its range, or stands behind the task count.
