@@ -1,39 +1,38 @@
 -- What the functions below the calls are asked for and give. Not part of what a reader must believe: the calls'
 -- contracts speak of Refusals and Calls alone.
-use Rattle.std.specs.Prelude.{ℕ, suc, ◌-◌, ◌^◌, ◌≤◌, ◌<◌, ◌≡◌, false, cond, List, ltb, length, Option, Some, None, Result, Ok, Err}
-use Rattle.numbers.specs.Numbers.{running}
+use Rattle.std.specs.Prelude.{ℕ, ◌≤◌, ◌<◌, ◌≡◌, true, false, List, [], ◌∷◌, length, Option, Some, None, Result, Ok, Err}
 use Rattle.numbers.specs.Search.{Found}
-use Rattle.layout.specs.Words.{word, rate_count, task_count, task_count_place, tasks_place, period, kind_at, allows}
+use Rattle.layout.specs.Words.{most_rates, most_tasks, word, rate_count, task_count, tasks_place, allows, OutOfRange}
 use Rattle.layout.specs.declared.Kind.{Kind}
-use Rattle.layout.specs.declared.Kind.TheVariants.{LeftOver}
 use Rattle.layout.specs.declared.Layout.{Layout}
-use Rattle.taskset.specs.Quantities.{hyper_limit}
 use Rattle.layout.specs.Whole.{IsWhole}
-use Rattle.taskset.specs.Refusals.{number, second, Check, Accepts, Refuses}
+use Rattle.taskset.specs.Answers.{Shape}
+use Rattle.taskset.specs.Refusals.{number, second, Check, Accepts, Refuses, word_check}
 use Rattle.taskset.specs.declared.Refusal.{Refusal}
-use Rattle.taskset.specs.Sets.{Below}
+use Rattle.taskset.specs.declared.Refusal.TheVariants.{BadWord}
 
--- What the word at q stands for, up to the task count; 'left over' behind that, where nothing is allowed. So the front
--- ends at q: its word is out of its range, or stands behind the task count.
-unfoldable pub front_kind : Layout → List ℕ → ℕ → Kind
-front_kind layout s q = cond (ltb (task_count_place layout (rate_count layout s)) q) LeftOver (kind_at layout s q)
+-- What is answered of the word at place q, which must be of kind k: itself, or that it is missing or out of its range.
+abbrev pub WordAfter : List ℕ → ℕ → Kind → Result ℕ Refusal → Type 0
+WordAfter s q k (Ok w) = (q < length s) × (allows s q k ≡ true) × (w ≡ word s q)
+WordAfter s q k (Err r) = (r ≡ BadWord q) × (q < length s → allows s q k ≡ false)
 
-abbrev pub EndsFront : Layout → List ℕ → ℕ → Type 0
-EndsFront layout s q = allows s q (front_kind layout s q) ≡ false
+-- No word before place q is missing or out of its range.
+pub record GoodBefore (layout : Layout) (s : List ℕ) (q : ℕ) : Type 0 where
+  pub inside : q ≤ length s
+  pub good : (j : ℕ) → j < q → OutOfRange layout s j → ⊥
 
--- A list of m rates and n tasks by its own counts, which goes on behind the task count or ends there.
+-- A list of m rates and n tasks by its own counts, of which no word up to the task count is missing or out of its range.
 pub record FrontPassed (layout : Layout) (m n : ℕ) (s : List ℕ) : Type 0 where
-  pub word_rates : m < 2 ^ 32
   pub counted : m ≡ rate_count layout s
   pub numbered : n ≡ task_count layout s
-  pub words : tasks_place layout m ≤ length s
+  pub rates_range : (2 ≤ m) × (m ≤ most_rates)
+  pub tasks_range : (1 ≤ n) × (n ≤ most_tasks)
+  pub words : GoodBefore layout s (tasks_place layout m)
 
--- The word at q is not above the one before; the running multiple passes the limit at task t.
-abbrev pub Falls : List ℕ → ℕ → Type 0
-Falls s q = word s q ≤ word s (q - 1)
-
-abbrev pub Passed : Layout → List ℕ → ℕ → Type 0
-Passed layout s t = hyper_limit < running (period layout s) (suc t)
+-- What check 2 answers of the words up to the task count.
+abbrev pub FrontAfter : Layout → List ℕ → Shape → Type 0
+FrontAfter layout s (Ok p) = FrontPassed layout p.rates p.tasks s
+FrontAfter layout s (Err r) = Refuses (word_check layout s ∷ []) (number r) (second r)
 
 -- The task at place t of a list that passes check 2 and has m rates.
 pub record OfTask (layout : Layout) (m t : ℕ) (s : List ℕ) : Type 0 where

@@ -7,10 +7,10 @@ ghost use Rattle.numbers.specs.Search.{Found};
 ghost use Rattle.layout.specs.Words.{rate_place, task_count_place, tasks_place, most_rates, idle_place, slack, idle, rate};
 ghost use Rattle.layout.specs.Words.{period, cycles, first, energy, OutOfRange};
 ghost use Rattle.taskset.specs.Quantities.{job_time};
-ghost use Rattle.taskset.specs.Refusals.{◌▹◌, word_checks, idle_check, idle_checks, hyper_check};
+ghost use Rattle.taskset.specs.Refusals.{◌▹◌, word_check, rate_check, word_checks, idle_check, idle_checks, hyper_check};
 ghost use Rattle.taskset.specs.Calls.{CountsAfter, SetAfter};
 ghost use Rattle.taskset.specs.Sets.{Below};
-ghost use Rattle.checks.specs.Steps.{front_kind, EndsFront, FrontPassed, Falls, OfTask, FoundIn, PassedAfter};
+ghost use Rattle.checks.specs.Steps.{WordAfter, FrontAfter, FrontPassed, OfTask, FoundIn, PassedAfter};
 
 mod set;
 
@@ -21,131 +21,75 @@ use taskset::{Checked, Counts, Measured, Refusal, Shape};
 // The largest hyper-period.
 const HYPER_LIMIT: u64 = 10_000_000;
 
-// What the word at place q stands for, up to the task count, by the words before it; 'left over' behind that.
-fn front_kind(s: &[u32], layout: Layout, q: usize) -> Kind
-    requires { q < length s.now }
-    ensures { result ≡ front_kind layout s.now q }
+// The word at place q, which must be there and in the range of its kind.
+fn word_at(s: &[u32], q: usize, kind: Kind) -> Result<usize, Refusal>
+    requires { q ≤ length s.now }
+    ensures { WordAfter s.now q kind result }
+{
+    if q < s.len() && places::is_allowed(s, q, kind) {
+        Ok(s[q] as usize)
+    } else {
+        Err(Refusal::BadWord(q))
+    }
+}
+
+// Check 2 of the words up to the task count.
+fn check_front(s: &[u32], layout: Layout) -> Shape
+    ensures { FrontAfter layout s.now result }
 {
     let head = places::head_size(layout);
-    if q < head {
-        return places::head_kind(layout, q);
+    for q in 0..head {
+        word_at(s, q, places::head_kind(layout, q))?;
     }
-    if q == head {
-        return Kind::RateCount;
+    let rates = word_at(s, head, Kind::RateCount)?;
+    let c = places::task_count_place(layout, rates);
+    for q in head + 1..c {
+        word_at(s, q, Kind::Rate)?;
     }
-    let m = s[head] as usize;
-    let c = places::task_count_place(layout, m);
-    if q < c {
-        return Kind::Rate;
-    }
-    if q == c {
-        return Kind::TaskCount;
-    }
-    Kind::LeftOver
+    let tasks = word_at(s, c, Kind::TaskCount)?;
+    Ok(Counts { rates, tasks })
 }
 
-// The first place up to the task count whose word is out of its range, or the place behind the task count, or the
-// list's length.
-fn front_end(s: &[u32], layout: Layout) -> usize
-    ensures { Found (EndsFront layout s.now) 0 (length s.now) result }
+// Check 2 of the words behind it, task by task.
+fn check_tasks(s: &[u32], layout: Layout, counts: Counts) -> Result<(), Refusal>
+    requires { FrontPassed layout counts.rates counts.tasks s.now }
+    ensures { PassedAfter (word_check layout s.now ∷ []) result }
 {
-    let mut q = 0;
-    while q < s.len() {
-        let k = front_kind(s, layout, q);
-        if !places::is_allowed(s, q, k) {
-            return q;
+    let size = places::task_size(layout, counts.rates);
+    for t in 0..counts.tasks {
+        let at = places::period_place(layout, counts.rates, t);
+        for k in 0..size {
+            word_at(s, at + k, places::task_kind(layout, k))?;
         }
-        q += 1;
     }
-    q
+    let end = places::period_place(layout, counts.rates, counts.tasks);
+    if end < s.len() {
+        return Err(Refusal::BadWord(end));
+    }
+    Ok(())
 }
 
-// The first place behind the task count whose word is out of its range or left over, or the list's length. Words are
-// counted task by task, so that none is divided for; the list may have any number for its task count.
-fn tasks_end(s: &[u32], layout: Layout, m: usize, n: usize) -> usize
-    requires { FrontPassed layout m n s.now }
-    ensures { Found (OutOfRange layout s.now) (tasks_place layout m) (length s.now) result }
+// Check 3.
+fn check_rates(s: &[u32], layout: Layout, counts: Counts) -> Result<(), Refusal>
+    requires { FrontPassed layout counts.rates counts.tasks s.now }
+    ensures { PassedAfter (rate_check layout s.now ∷ []) result }
 {
-    let size = places::task_size(layout, m);
-    let mut q = places::tasks_place(layout, m);
-    let mut task = 0;
-    let mut k = 0;
-    while q < s.len() {
-        if n <= task {
-            return q;
-        }
-        if !places::is_allowed(s, q, places::task_kind(layout, k)) {
-            return q;
-        }
-        q += 1;
-        k += 1;
-        if k == size {
-            k = 0;
-            task += 1;
-        }
-    }
-    q
-}
-
-// The first place whose word is out of its range or left over, or the list's length.
-fn first_bad(s: &[u32], layout: Layout) -> usize
-    ensures { Found (OutOfRange layout s.now) 0 (length s.now) result }
-{
-    let front = front_end(s, layout);
-    let head = places::head_size(layout);
-    if front <= head {
-        return front;
-    }
-    let m = s[head] as usize;
-    let c = places::task_count_place(layout, m);
-    if front <= c {
-        return front;
-    }
-    tasks_end(s, layout, m, s[c] as usize)
-}
-
-// The place of the first of m rates that is not above the one before it, or the place after the rates.
-fn first_fall(s: &[u32], layout: Layout, m: usize) -> usize
-    requires { (1 ≤ m) × (m ≤ most_rates) × (task_count_place layout m ≤ length s.now) }
-    ensures { Found (Falls s.now) (rate_place layout 2) (task_count_place layout m) result }
-{
-    let end = places::task_count_place(layout, m);
-    let mut q = places::rate_place(layout, 2);
-    while q < end {
+    for q in places::rate_place(layout, 2)..places::task_count_place(layout, counts.rates) {
         if s[q] <= s[q - 1] {
-            return q;
+            return Err(Refusal::NotAbove(q));
         }
-        q += 1;
     }
-    q
+    Ok(())
 }
 
 // Checks 2 and 3, in this order.
 pub fn check_words(s: &[u32], layout: Layout) -> Shape
     ensures { CountsAfter (word_checks layout s.now) layout s.now result }
 {
-    let b = first_bad(s, layout);
-    if b < s.len() {
-        return Err(Refusal::BadWord(b));
-    }
-    let head = places::head_size(layout);
-    if s.len() <= head {
-        return Err(Refusal::BadWord(s.len()));
-    }
-    let m = s[head] as usize;
-    let c = places::task_count_place(layout, m);
-    if s.len() <= c {
-        return Err(Refusal::BadWord(s.len()));
-    }
-    let n = s[c] as usize;
-    if s.len() < places::period_place(layout, m, n) {
-        return Err(Refusal::BadWord(s.len()));
-    }
-    let f = first_fall(s, layout, m);
-    if f < c {
-        return Err(Refusal::NotAbove(f));
-    }
-    Ok(Counts { rates: m, tasks: n })
+    let counts = check_front(s, layout)?;
+    check_tasks(s, layout, counts)?;
+    check_rates(s, layout, counts)?;
+    Ok(counts)
 }
 
 // Check 4: the running multiple of the periods.
@@ -288,13 +232,4 @@ pub fn job_time(s: &[u32], layout: Layout, m: usize, t: usize, r: usize) -> u32
     let c = cycles_of(s, layout, m, t);
     let f = rate_of(s, layout, m, t, r);
     figures::job_ticks(c, f)
-}
-
-// The energy of one job of the task at place t at rate number r.
-pub fn energy_of(s: &[u32], layout: Layout, m: usize, t: usize, r: usize) -> u32
-    requires { OfTask layout m t s.now × (1 ≤ r) × (r ≤ m) }
-    ensures { result ≡ energy layout s.now t r }
-{
-    let at = places::energy_place(layout, m, t, r);
-    s[at]
 }

@@ -1,6 +1,6 @@
 -- The checks of a call that plans, up to 6: 2, 3, 10 and 4, then one of its own, c, then the plan list.
 -- Assumes nothing.
-use Rattle.std.specs.Prelude.{Err}
+use Rattle.std.specs.Prelude.{Ok, Err}
 use Prim.Native.Nat.{ℕ, ◌≤◌, ◌<◌}
 use mathlib.Core.Path.{refl}
 use mathlib.Core.List.{List, [], ◌∷◌}
@@ -17,9 +17,9 @@ use Rattle.taskset.specs.declared.Refusal.TheVariants.{TooShort}
 use Rattle.checks.specs.Steps.{PassedAfter}
 use Rattle.options.specs.Posed.{SetPassed}
 use Rattle.taskset.proofs.Checks.{no_word_fault, accepts_next, refuses_next, refuses_back, refuses_before, passed}
-use Rattle.taskset.specs.Answers.{ok_measured}
+use Rattle.taskset.specs.declared.Measured.{Measured}
 
-module _ {layout : Layout} {s : List ℕ} {m n l : ℕ} (passed-set : SetPassed layout s m n l) where
+module _ {layout : Layout} {s : List ℕ} {p : Measured} (passed-set : SetPassed layout s p) where
   pub whole : IsWhole layout s
   whole =
       whole_of layout s
@@ -37,8 +37,8 @@ module _ (layout : Layout) (s : List ℕ) (c : Check) (planLength : ℕ) where
       → SetAfter (set ▹ c ▹ room) layout s (Err r)
   set_refused r h = refuses_before (set ▹ c) room (number r) (second r) (refuses_before set c (number r) (second r) h)
 
-  module _ {m n l : ℕ} (passed-set : SetPassed layout s m n l) where
-    good : SetAfter set layout s (ok_measured m n l)
+  module _ {p : Measured} (passed-set : SetPassed layout s p) where
+    good : SetAfter set layout s (Ok p)
     good = passed-set.after
 
     -- The call's own check holds.
@@ -51,8 +51,8 @@ module _ (layout : Layout) (s : List ℕ) (c : Check) (planLength : ℕ) where
       own : Accepts (set ▹ c)
       own = accepts_next set c good.0 pass
 
-      pub plan_short : planLength < n → SetAfter (set ▹ c ▹ room) layout s (Err (TooShort n))
-      plan_short h = refuses_next (set ▹ c) room n own (omega (arith, good.2), good.2)
+      pub plan_short : planLength < p.tasks → SetAfter (set ▹ c ▹ room) layout s (Err (TooShort p.tasks))
+      plan_short h = refuses_next (set ▹ c) room p.tasks own (omega (arith, good.2), good.2)
 
-      pub is_ready : n ≤ planLength → SetAfter (set ▹ c ▹ room) layout s (ok_measured m n l)
+      pub is_ready : p.tasks ≤ planLength → SetAfter (set ▹ c ▹ room) layout s (Ok p)
       is_ready h = (accepts_next (set ▹ c) room own (λ k x. omega (arith, x.0, good.2)), good.1, good.2, good.3)

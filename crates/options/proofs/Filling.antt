@@ -11,12 +11,14 @@ use lib.ListN.{get_or, set, length-set, replicate, length-replicate}
 use lib.Seq.{get_or-set_same, get_or-set_other}
 use Rattle.engine.specs.Arrays.{load_bound, energy_bound}
 use Rattle.engine.proofs.Writing.{zeros_at}
-use Rattle.layout.specs.Words.{most_rates, most_tasks, idle, rate_count, period, energy}
+use Rattle.layout.specs.Words.{most_rates, most_tasks, idle, rate_count, task_count, period, energy}
 use Rattle.layout.specs.declared.Layout.{Layout}
 use Rattle.taskset.specs.Quantities.{job_time, task_load, task_net}
 use Rattle.taskset.specs.Sets.{IsSet}
 use Rattle.taskset.proofs.Sets.{job_energy_at, task-load_small, task_net_small}
-use Rattle.options.specs.Options.{Laid, LaidBoth, TaskGiven}
+use Rattle.checks.specs.Steps.{OfCounts}
+use Rattle.options.specs.Options.{Laid, LaidBoth}
+use Rattle.options.specs.Posed.{SetGiven}
 
 -- ---- one array
 put_none : (f : ℕ → ℕ → ℕ) (bound m : ℕ) → 0 < bound → Laid f bound m 0 1 (replicate 512 0)
@@ -82,40 +84,43 @@ both-next layout s m t r ls es e b = record {
   energies = put_next (task_net layout s) energy_bound m t r es e b.energies;
 }
 
-module _ {layout : Layout} {m l t : ℕ} {s : List ℕ} (g : TaskGiven layout m l t s) where
+module _ {layout : Layout} {m n : ℕ} {s : List ℕ} (o : OfCounts layout m n s) {l : ℕ} (g : SetGiven layout s l) {t : ℕ} (i : t < n) where
   set_is : IsSet layout s
   set_is = g.set
 
+  task_in : t < task_count layout s
+  task_in = omega (arith, o.numbered)
+
   pub task_few : t < most_tasks
-  task_few = omega (arith, g.of_task.task, set_is.whole.tasks_range.1)
+  task_few = omega (arith, task_in, set_is.whole.tasks_range.1)
 
   pub rates_few : m ≤ most_rates
-  rates_few = omega (arith, g.of_task.counted, set_is.whole.rates_range.1)
+  rates_few = omega (arith, o.counted, set_is.whole.rates_range.1)
 
   pub period_positive : 1 ≤ period layout s t
-  period_positive = (set_is.whole.period_range t g.of_task.task).0
+  period_positive = (set_is.whole.period_range t task_in).0
 
   -- the period p as it was read
   module _ (p : ℕ) (p-is : p ≡ period layout s t) where
     -- job time x and energy y at rate number r, and the idle energy h of a tick, as they were read
     module _ (r x y h : ℕ) (from : 1 ≤ r) (to : r ≤ m) where
       rate-number : r ≤ rate_count layout s
-      rate-number = omega (arith, g.of_task.counted)
+      rate-number = omega (arith, o.counted)
 
       -- Loads and energies are below the bounds of the arrays.
       pub load_fits : x ≡ job_time layout s t r → l / p * x < load_bound
       load_fits x-is =
-          let most = task-load_small layout s set_is t r g.of_task.task from rate-number in
+          let most = task-load_small layout s set_is t r task_in from rate-number in
           rw (g.hyper, p-is, x-is) (omega (arith, most))
 
       -- What idle ticks draw in the job's time is no more than its energy, so that the rest is one.
       pub drawn_fits : x ≡ job_time layout s t r → y ≡ energy layout s t r → h ≡ idle s → h * x ≤ y
-      drawn_fits x-is y-is h-is = rw (h-is, x-is, y-is) (g.covered t r g.of_task.task from rate-number)
+      drawn_fits x-is y-is h-is = rw (h-is, x-is, y-is) (g.covered t r task_in from rate-number)
 
       pub energy_fits : x ≡ job_time layout s t r → y ≡ energy layout s t r → h ≡ idle s
           → l / p * (y - h * x) < energy_bound
       energy_fits x-is y-is h-is =
-          let most = task_net_small layout s set_is t r g.of_task.task from rate-number in
+          let most = task_net_small layout s set_is t r task_in from rate-number in
           rw (g.hyper, p-is, h-is, x-is, y-is, ← job_energy_at layout s t r from) (omega (arith, most))
 
       pub both-more : (ls es : List ℕ) → x ≡ job_time layout s t r → y ≡ energy layout s t r → h ≡ idle s

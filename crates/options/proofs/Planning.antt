@@ -1,7 +1,7 @@
 -- From what an engine chose over the arrays to what a call that plans gives: it is what document 01 selects of what is
 -- planned.
 -- Assumes nothing.
-use Rattle.std.specs.Prelude.{Err}
+use Rattle.std.specs.Prelude.{Ok, Err}
 use Prim.Native.Nat.{ℕ, ◌+◌, ◌*◌, ◌^◌, ◌≤◌, ◌<◌}
 use mathlib.Core.Path.{◌≡◌, refl, ◌∙◌}
 use mathlib.Core.List.{List}
@@ -27,7 +27,8 @@ use Rattle.engine.specs.Arrays.{arrays, EngineReady, ChosenBy}
 use Rattle.engine.specs.declared.Request.{Request}
 use Rattle.engine.specs.declared.Choice.{Choice}
 use Rattle.options.specs.Posed.{SetGiven, Poses}
-use Rattle.taskset.specs.Answers.{ok_measured, ok_planned}
+use Rattle.taskset.specs.Answers.{ok_planned}
+use Rattle.taskset.specs.declared.Measured.{Measured}
 
 -- Where a list is not too short, it is long enough.
 pub long_enough : (needed lent : ℕ) → ((k : ℕ) → IsShort needed lent k → ⊥) → needed ≤ lent
@@ -98,16 +99,10 @@ module _ {m : Planning} {loads energies : List ℕ} {q : Request} (p : Poses m l
 -- ---- a list
 -- What has passed the checks before 7 is a set.
 pub set_given : {layout : Layout} {s : List ℕ} {cs : List Check} → PlansList layout s cs
-    → {m n l : ℕ} → SetAfter cs layout s (ok_measured m n l) → SetGiven layout s m n l
-set_given plans after = record {
-  set = plans.set after.0;
-  covered = plans.covered after.0;
-  rates = after.1;
-  tasks = after.2;
-  hyper = after.3;
-}
+    → (p : Measured) → SetAfter cs layout s (Ok p) → SetGiven layout s p.hyper
+set_given plans p after = record { set = plans.set after.0; covered = plans.covered after.0; hyper = after.3 }
 
-module _ {layout : Layout} {s : List ℕ} {m n l : ℕ} (given : SetGiven layout s m n l)
+module _ {layout : Layout} {s : List ℕ} {l : ℕ} (given : SetGiven layout s l)
     {loads energies : List ℕ} {q : Request} (p : Poses (planning layout s) loads energies q)
     {plan plan' : List ℕ} {c : Choice} (chose : ChosenBy q loads energies plan plan' c) where
   -- With the idle energy of every tick the energy is the one reported.

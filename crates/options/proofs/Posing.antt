@@ -6,13 +6,13 @@ use mathlib.Core.Path.{◌≡◌, ◌∙◌}
 use mathlib.Core.List.{List}
 use mathlib.Core.Logic.{◌↔◌}
 use native.Mathlib.Omega.{arith}
-use lib.ListN.{length, replicate}
+use lib.ListN.{replicate}
 use Rattle.numbers.specs.Numbers.{total}
 use Rattle.selection.specs.Plan.{Problem, plan_load, Fitting, fastest}
 use Rattle.selection.proofs.Fastest.{some_fits_iff_fastest}
 use Rattle.selection.specs.Same.{Same}
 use Rattle.selection.proofs.Same.{fastest-load_same}
-use Rattle.layout.specs.Words.{most_rates, most_tasks, slack_place, slack}
+use Rattle.layout.specs.Words.{most_rates, most_tasks, slack}
 use Rattle.layout.specs.declared.Layout.{Layout}
 use Rattle.layout.proofs.Whole.{slack_in}
 use Rattle.taskset.specs.Quantities.{hyper_limit, hyper_period, problem_of}
@@ -20,35 +20,22 @@ use Rattle.taskset.specs.Planning.{planning}
 use Rattle.taskset.proofs.Sets.{falling}
 use Rattle.engine.specs.Arrays.{option_at, load_bound, Small, arrays}
 use Rattle.engine.specs.declared.Request.{Request}
-use Rattle.options.specs.Options.{LaidBoth, TasksGiven}
+use Rattle.checks.specs.Steps.{OfCounts}
+use Rattle.options.specs.Options.{LaidBoth}
 use Rattle.options.specs.Posed.{SetGiven, Poses}
 
-module _ {layout : Layout} {s : List ℕ} {m n l : ℕ} (given : SetGiven layout s m n l) where
+module _ {layout : Layout} {m n : ℕ} {s : List ℕ} (o : OfCounts layout m n s) {l : ℕ} (given : SetGiven layout s l) where
   pub hyper_fits : l ≤ hyper_limit
   hyper_fits = omega (arith, given.hyper, given.set.hyper_range.1)
 
-  pub some_words : slack_place < length s
-  some_words = omega (arith, given.set.whole.size)
-
   rates_range : (2 ≤ m) × (m ≤ most_rates)
   rates_range = (
-    omega (arith, given.rates, given.set.whole.rates_range.0),
-    omega (arith, given.rates, given.set.whole.rates_range.1),
+    omega (arith, o.counted, given.set.whole.rates_range.0),
+    omega (arith, o.counted, given.set.whole.rates_range.1),
   )
 
   few : n ≤ most_tasks
-  few = omega (arith, given.tasks, given.set.whole.tasks_range.1)
-
-  pub tasks_given : TasksGiven layout m n l s
-  tasks_given = record {
-    few = few;
-    each = λ t h. record {
-      set = given.set;
-      covered = given.covered;
-      of_task = record { whole = given.set.whole; counted = given.rates; task = omega (arith, given.tasks) };
-      hyper = given.hyper;
-    };
-  }
+  few = omega (arith, o.numbered, given.set.whole.tasks_range.1)
 
   module _ {loads energies : List ℕ} (put : LaidBoth layout s m n 1 loads energies) where
     -- What is asked at slack g, and the problem that the arrays then give, at any slack.
@@ -61,8 +48,8 @@ module _ {layout : Layout} {s : List ℕ} {m n l : ℕ} (given : SetGiven layout
     -- The arrays give the set's own problem.
     same : Same chosen_from (problem_of layout s)
     same = record {
-      count = given.tasks;
-      rates = given.rates;
+      count = o.numbered;
+      rates = o.counted;
       limit = given.hyper;
       loads = put.loads.before;
       energies = put.energies.before;

@@ -3,10 +3,7 @@
 use Rattle.std.specs.Prelude.{ℕ, ◌+◌, ◌*◌, ◌≤◌, ◌<◌, ◌≡◌, List, length, get_or}
 use Rattle.engine.specs.Arrays.{option_at, load_bound, energy_bound, Small}
 use Rattle.layout.specs.declared.Layout.{Layout}
-use Rattle.taskset.specs.Quantities.{hyper_period, task_load, task_net}
-use Rattle.taskset.specs.Sets.{IsSet}
-use Rattle.taskset.specs.Sets.{Covered}
-use Rattle.checks.specs.Steps.{OfTask}
+use Rattle.taskset.specs.Quantities.{task_load, task_net}
 
 -- The place k is that of no rate number 1 to m of a task before place t, and of none before r of the task at place t.
 pub record NoOption (m t r k : ℕ) : Type 0 where
@@ -26,15 +23,3 @@ pub record Laid (f : ℕ → ℕ → ℕ) (bound m t r : ℕ) (d : List ℕ) : T
 pub record LaidBoth (layout : Layout) (s : List ℕ) (m t r : ℕ) (ls es : List ℕ) : Type 0 where
   pub loads : Laid (task_load layout s) load_bound m t r ls
   pub energies : Laid (task_net layout s) energy_bound m t r es
-
--- What a task's options ask: the task is one of a set of m rates that passes check 10, and l is the set's hyper-period.
-pub record TaskGiven (layout : Layout) (m l t : ℕ) (s : List ℕ) : Type 0 where
-  pub set : IsSet layout s
-  pub covered : Covered layout s
-  pub of_task : OfTask layout m t s
-  pub hyper : l ≡ hyper_period layout s
-
--- The same of the first n tasks.
-pub record TasksGiven (layout : Layout) (m n l : ℕ) (s : List ℕ) : Type 0 where
-  pub few : n ≤ 32
-  pub each : (t : ℕ) → t < n → TaskGiven layout m l t s

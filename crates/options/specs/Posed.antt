@@ -3,32 +3,28 @@
 use Rattle.std.specs.Prelude.{ℕ, ◌≡◌, List, Result, Ok, Err}
 use Rattle.selection.specs.Plan.{Fitting}
 use Rattle.selection.specs.Same.{Same}
-use Rattle.layout.specs.Words.{rate_count, task_count}
 use Rattle.layout.specs.declared.Layout.{Layout}
 use Rattle.taskset.specs.Quantities.{hyper_period}
-use Rattle.taskset.specs.Planning.{Planning, planning}
+use Rattle.taskset.specs.Planning.{Planning}
 use Rattle.taskset.specs.Refusals.{◌▹◌, idle_checks, hyper_check}
 use Rattle.taskset.specs.Calls.{SetAfter}
 use Rattle.taskset.specs.Sets.{IsSet}
 use Rattle.taskset.specs.Sets.{Covered}
 use Rattle.engine.specs.Arrays.{load_bound, energy_bound, arrays, Asked, Small}
 use Rattle.engine.specs.declared.Request.{Request}
-use Rattle.options.specs.Options.{LaidBoth}
 use Rattle.taskset.specs.declared.Refusal.{Refusal}
 use Rattle.taskset.specs.declared.Refusal.TheVariants.{NoPlan}
-use Rattle.taskset.specs.Answers.{ok_measured}
+use Rattle.taskset.specs.declared.Measured.{Measured}
 
--- A set that passes checks 2, 3, 10 and 4, with its counts and its hyper-period.
-pub record SetGiven (layout : Layout) (s : List ℕ) (m n l : ℕ) : Type 0 where
+-- A set that passes checks 2, 3, 10 and 4, with its hyper-period.
+pub record SetGiven (layout : Layout) (s : List ℕ) (l : ℕ) : Type 0 where
   pub set : IsSet layout s
   pub covered : Covered layout s
-  pub rates : m ≡ rate_count layout s
-  pub tasks : n ≡ task_count layout s
   pub hyper : l ≡ hyper_period layout s
 
 -- It has passed them: what the checks answered.
-pub record SetPassed (layout : Layout) (s : List ℕ) (m n l : ℕ) : Type 0 where
-  pub after : SetAfter (idle_checks layout s ▹ hyper_check layout s) layout s (ok_measured m n l)
+pub record SetPassed (layout : Layout) (s : List ℕ) (p : Measured) : Type 0 where
+  pub after : SetAfter (idle_checks layout s ▹ hyper_check layout s) layout s (Ok p)
 
 -- The request and the arrays give the planning's own problem, with its slack; and a plan fits.
 pub record Poses (m : Planning) (loads energies : List ℕ) (q : Request) : Type 0 where
@@ -42,8 +38,3 @@ pub record Poses (m : Planning) (loads energies : List ℕ) (q : Request) : Type
 abbrev pub PosedFor : Planning → (loads energies : List ℕ) → Result Request Refusal → Type 0
 PosedFor m loads energies (Ok q) = Poses m loads energies q
 PosedFor m loads energies (Err r) = (r ≡ NoPlan) × ((P : List ℕ) → Fitting m.problem P → ⊥)
-
--- What is asked for a set of m rates and n tasks, and what both arrays then hold, also where no plan fits.
-pub record SetPosed (layout : Layout) (s : List ℕ) (m n : ℕ) (loads energies : List ℕ) (r : Result Request Refusal) : Type 0 where
-  pub laid : LaidBoth layout s m n 1 loads energies
-  pub posed : PosedFor (planning layout s) loads energies r

@@ -33,31 +33,32 @@ use Rattle.options.proofs.Planning.{long_enough, engine_ready}
 use Rattle.planner.specs.Engines.{Asks, clears, EngineAsked, EngineChose}
 use Rattle.checks.specs.Steps.{PassedAfter}
 use Rattle.taskset.specs.declared.Refusal.{Refusal}
+use Rattle.taskset.specs.declared.Measured.{Measured}
 
 -- ---- the check that is an engine's own, of a set that has passed those before it
 -- What it answers.
 abbrev pub OwnAfter : Engine → List ℕ → ℕ → Result (Unit {0}) Refusal → Type 0
 OwnAfter e s workLength = PassedAfter (engine_check e s workLength ∷ [])
 
-module _ {layout : Layout} {s : List ℕ} {m n l : ℕ} (counted : SetPassed layout s m n l) where
+module _ {layout : Layout} {s : List ℕ} {p : Measured} (counted : SetPassed layout s p) where
   pub some_words : slack_place < length s
   some_words = omega (arith, (whole counted).size)
 
-  pub tasks_few : n ≤ most_tasks
+  pub tasks_few : p.tasks ≤ most_tasks
   tasks_few = omega (arith, counted.after.2, (whole counted).tasks_range.1)
 
   pub slack_positive : 1 ≤ slack s
   slack_positive = (slack_in layout s (whole counted)).0
 
-  pub rates_range : (1 ≤ m) × (m ≤ 8)
+  pub rates_range : (1 ≤ p.rates) × (p.rates ≤ 8)
   rates_range = (
     omega (arith, counted.after.1, (whole counted).rates_range.0),
     omega (arith, counted.after.1, (whole counted).rates_range.1),
   )
 
 -- Check 5, with w the words needed.
-module _ (layout : Layout) {s : List ℕ} {m n l : ℕ} (counted : SetPassed layout s m n l)
-    {w : ℕ} (is : w ≡ work_words n (slack s)) (workLength : ℕ) where
+module _ (layout : Layout) {s : List ℕ} {p : Measured} (counted : SetPassed layout s p)
+    {w : ℕ} (is : w ≡ work_words p.tasks (slack s)) (workLength : ℕ) where
   needed : w ≡ work_needed layout s
   needed = rw (← counted.after.2) is
 
@@ -68,9 +69,9 @@ module _ (layout : Layout) {s : List ℕ} {m n l : ℕ} (counted : SetPassed lay
   table_enough h = ((λ k x. omega (arith, x.0, needed)), tt)
 
 -- Check 11, with k the plans as they were counted.
-module _ {s : List ℕ} {m n l : ℕ} (counted : SetPassed Ordinary s m n l)
-    {k : ℕ} (is : k ≡ min (m ^ n) (suc most_plans)) (workLength : ℕ) where
-  power : m ^ n ≡ rate_count Ordinary s ^ task_count Ordinary s
+module _ {s : List ℕ} {p : Measured} (counted : SetPassed Ordinary s p)
+    {k : ℕ} (is : k ≡ min (p.rates ^ p.tasks) (suc most_plans)) (workLength : ℕ) where
+  power : p.rates ^ p.tasks ≡ rate_count Ordinary s ^ task_count Ordinary s
   power = ap₂ ◌^◌ counted.after.1 counted.after.2
 
   plans_many : most_plans < k → OwnAfter Exhaustive s workLength (Err TooManyPlans)
@@ -80,10 +81,10 @@ module _ {s : List ℕ} {m n l : ℕ} (counted : SetPassed Ordinary s m n l)
   plans_few h = ((λ j x. omega (arith, power, x.1)), tt)
 
 -- The same of an engine that is known to be the one or the other.
-module _ {e : Engine} {s : List ℕ} {m n l : ℕ} (counted : SetPassed (layout_of e) s m n l) (workLength : ℕ) where
-  module _ {layout : Layout} (is : e ≡ Table layout) {w : ℕ} (w-is : w ≡ work_words n (slack s)) where
-    by_table : SetPassed layout s m n l
-    by_table = subst (λ (x : Engine). SetPassed (layout_of x) s m n l) is counted
+module _ {e : Engine} {s : List ℕ} {p : Measured} (counted : SetPassed (layout_of e) s p) (workLength : ℕ) where
+  module _ {layout : Layout} (is : e ≡ Table layout) {w : ℕ} (w-is : w ≡ work_words p.tasks (slack s)) where
+    by_table : SetPassed layout s p
+    by_table = subst (λ (x : Engine). SetPassed (layout_of x) s p) is counted
 
     pub work_short : workLength < w → OwnAfter e s workLength (Err (WorkShort w))
     work_short h =
@@ -94,9 +95,9 @@ module _ {e : Engine} {s : List ℕ} {m n l : ℕ} (counted : SetPassed (layout_
     work-enough h =
         subst (λ (x : Engine). OwnAfter x s workLength (Ok tt)) (sym is) (table_enough layout by_table w-is workLength h)
 
-  module _ (is : e ≡ Exhaustive) {k : ℕ} (k-is : k ≡ min (m ^ n) (suc most_plans)) where
-    through_all : SetPassed Ordinary s m n l
-    through_all = subst (λ (x : Engine). SetPassed (layout_of x) s m n l) is counted
+  module _ (is : e ≡ Exhaustive) {k : ℕ} (k-is : k ≡ min (p.rates ^ p.tasks) (suc most_plans)) where
+    through_all : SetPassed Ordinary s p
+    through_all = subst (λ (x : Engine). SetPassed (layout_of x) s p) is counted
 
     pub too_many : most_plans < k → OwnAfter e s workLength (Err TooManyPlans)
     too_many h =

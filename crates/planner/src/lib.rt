@@ -13,6 +13,7 @@ ghost use Rattle.options.specs.Posed.{SetPassed};
 ghost use Rattle.planner.specs.Answers.{PlannerCall};
 ghost use Rattle.planner.specs.Engines.{EngineAsked, EngineChose};
 
+use checks::Set;
 use engine::{Choice, Request};
 use layout::Layout;
 use taskset::{Checked, Engine, Measured, PlannerAnswer, Refusal};
@@ -43,7 +44,7 @@ fn own_check(
     measured: Measured,
     work_len: usize,
 ) -> Result<(), Refusal>
-    requires { SetPassed (layout_of engine) set.now measured.rates measured.tasks measured.hyper }
+    requires { SetPassed (layout_of engine) set.now measured }
     ensures { PassedAfter (engine_check engine set.now work_len ∷ []) result }
 {
     match engine {
@@ -109,12 +110,17 @@ pub fn plan_checked(
     requires { SetAfter (ready_checks engine set.now (length plan.old) (length work.old)) (layout_of engine) set.now (Ok measured) }
     ensures { PlannerCall engine set.now plan.old work.old plan.new work.new result }
 {
+    let set = Set {
+        words: set,
+        layout: layout_of(engine),
+        rates: measured.rates,
+        tasks: measured.tasks,
+    };
     let mut loads = [0u64; 512];
     let mut energies = [0u64; 512];
-    let layout = layout_of(engine);
-    let q = options::pose(&mut loads, &mut energies, set, layout, measured)?;
+    let q = options::pose(&mut loads, &mut energies, &set, measured.hyper)?;
     let c = choose(engine, &loads, &energies, q, plan, work);
-    Ok(options::planned(set, measured.hyper, c))
+    Ok(options::planned(&set, measured.hyper, c))
 }
 
 // The call: a refusal that leaves plan and work as they were, or the plan that document 01 selects.

@@ -1,7 +1,7 @@
 use mathlib.Core.Path.{refl}
 use mathlib.Core.Logic.{inl}
 use native.Mathlib.Omega.{arith}
-use Rattle.checks.proofs.Judging.{below_places, below_idle, none_below, none_below_more}
+use Rattle.checks.proofs.Judging.{below_idle, none_below, none_below_more}
 use Rattle.checks.proofs.check_idle.Goals as goal
 
 pub loop-t-init : goal.loop-t-init

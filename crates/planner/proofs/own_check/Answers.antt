@@ -11,7 +11,7 @@ use Rattle.planner.proofs.Engines.{work_short, work-enough, too_many, few_enough
 use Rattle.planner.proofs.own_check.Goals as goal
 use Rattle.planner.proofs.own_check.Goals.{Start, After-work_needed-w}
 
-counted : (c : Start) → SetPassed (layout_of c.args.engine) c.args.set.now c.args.measured.rates c.args.measured.tasks c.args.measured.hyper
+counted : (c : Start) → SetPassed (layout_of c.args.engine) c.args.set.now c.args.measured
 counted c = c.requires
 
 -- The working words needed, by the slack that was read.

@@ -10,8 +10,7 @@ use Rattle.planner.proofs.ready.Goals.{In_ok-measured}
 
 -- What the set's checks answered, by the engine's layout.
 passed : (c : In_ok-measured)
-    → SetPassed (layout_of c.args.engine) c.args.set.now c.in_ok-measured.measured.rates c.in_ok-measured.measured.tasks
-    c.in_ok-measured.measured.hyper
+    → SetPassed (layout_of c.args.engine) c.args.set.now c.in_ok-measured.measured
 passed c = record { after = rw c.layout_of.ensures at c.in_ok-measured.ensures }
 
 pub returns-in_err-measured : goal.returns-in_err-measured
