@@ -25,12 +25,12 @@ returns-in-Refused c = let set : List ℕ = c.args.set.now in
     set_refused set c.args.plan.now c.in-Refused.r
     (subst (Said set) c.in-Refused.is c.check_set-checked.ensures)
 
-pub returns-in-At : goal.returns-in-At
-returns-in-At c = let plan : List ℕ = c.args.plan.now in
-    plan_refused c.args.set.now plan _ _ _ (good (goal.at.returns-in-At c).In-Good) c.in-At.k
-    (subst (PlanAnswers _ _ plan) c.in-At.is c.check_plan-sound.ensures)
+pub returns-in-Err : goal.returns-in-Err
+returns-in-Err c = let plan : List ℕ = c.args.plan.now in
+    plan_refused c.args.set.now plan _ _ _ (good (goal.at.returns-in-Err c).In-Good) c.in-Err.k
+    (subst (PlanAnswers _ _ plan) c.in-Err.is c.check_plan-sound.ensures)
 
-pub returns-in-Sound : goal.returns-in-Sound
-returns-in-Sound c = let plan : List ℕ = c.args.plan.now in
-    plan_sound c.args.set.now plan _ _ _ (good (goal.at.returns-in-Sound c).In-Good)
-    (subst (PlanAnswers _ _ plan) c.in-Sound.is c.check_plan-sound.ensures)
+pub returns-in-Ok : goal.returns-in-Ok
+returns-in-Ok c = let plan : List ℕ = c.args.plan.now in
+    plan_sound c.args.set.now plan _ _ _ (good (goal.at.returns-in-Ok c).In-Good)
+    (subst (PlanAnswers _ _ plan) c.in-Ok.is c.check_plan-sound.ensures)
