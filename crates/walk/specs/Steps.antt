@@ -1,17 +1,15 @@
 -- What the functions below the walk's call take and give. Not part of what a reader must believe.
-use Rattle.std.specs.Prelude.{ℕ, ◌+◌, ◌*◌, ◌^◌, ◌≤◌, ◌<◌, ◌≡◌, List, length, get_or}
+use Rattle.std.specs.Prelude.{ℕ, ◌+◌, ◌*◌, ◌^◌, ◌≤◌, ◌<◌, ◌≡◌, Result, Ok, Err, List, length, get_or}
 use Rattle.layout.specs.Words.{most_tasks, word, rate_count, task_count}
 use Rattle.layout.specs.declared.Layout.TheVariants.{Ordinary}
 use Rattle.taskset.specs.Quantities.{job_time}
 use Rattle.taskset.specs.Refusals.{IsBadPlan}
 use Rattle.taskset.specs.Sets.{IsSet}
-use Rattle.walk.specs.declared.PlanCheck.{PlanCheck}
-use Rattle.walk.specs.declared.PlanCheck.TheVariants.{At, Sound}
 
 -- Check 8.
-abbrev pub PlanAnswers : ℕ → ℕ → List ℕ → PlanCheck → Type 0
-PlanAnswers m n P (At k) = IsBadPlan m n P k
-PlanAnswers m n P Sound = (k : ℕ) → IsBadPlan m n P k → ⊥
+abbrev pub PlanAnswers : ℕ → ℕ → List ℕ → Result (Unit {0}) ℕ → Type 0
+PlanAnswers m n P (Err k) = IsBadPlan m n P k
+PlanAnswers m n P (Ok x) = (k : ℕ) → IsBadPlan m n P k → ⊥
 
 -- A set of m rates and n tasks; a plan that passes check 8.
 pub record SetGiven (m n : ℕ) (s : List ℕ) : Type 0 where
