@@ -5,20 +5,22 @@ use mathlib.Core.List.{◌++◌}
 use Rattle.numbers.specs.Numbers.{joined}
 use Rattle.text.specs.Text.{bytes, spaced, task_text, shown, line_of}
 use Rattle.writer.specs.Lines.{optional_text}
-use Rattle.writer.proofs.Lists.{task_of, line_text, line_same}
-use Rattle.writer.proofs.Set.task_line.Given.{Over}
-use Rattle.writer.proofs.Set.task_line.Goals as goal
-use Rattle.writer.proofs.Set.task_line.Goals.{After-energies-energies, After-put_bytes}
+use Rattle.layout.specs.Words.{period, cycles, first}
+use Rattle.layout.specs.declared.Layout.{Layout}
+use Rattle.writer.proofs.Lists.{task_of, line_text, line_same, counts_of, at_ordinary}
+use Rattle.writer.proofs.Listed.task_line.Given.{Over}
+use Rattle.writer.proofs.Listed.task_line.Goals as goal
+use Rattle.writer.proofs.Listed.task_line.Goals.{After-energies-energies, After-put_bytes}
 
 -- What was taken from the list makes the task's line; it has room, and so has its end from the energies on.
 is_line : (g : Over) (c : After-energies-energies g)
     → line_text c.from-period.result c.from-cycles.result c.energies-energies.result.now c.from-first.result ≡
-    task_text (line_of c.args.self.now.words.now c.args.t)
+    task_text (line_of c.args.self.now.set.words.now c.args.t)
 is_line g c =
-    line_same (task_of c.args.self.now.counted c.args.t c.requires.has) (c.from-period.ensures ∙ c.period_of.ensures)
-    (c.from-cycles.ensures ∙ c.cycles_of.ensures)
+    line_same (task_of (counts_of c.args.self.now) c.args.t c.requires.has) (c.from-period.ensures ∙ at_ordinary (λ (l : Layout). period l c.args.self.now.set.words.now c.args.t) c.args.self.now c.period.ensures)
+    (c.from-cycles.ensures ∙ at_ordinary (λ (l : Layout). cycles l c.args.self.now.set.words.now c.args.t) c.args.self.now c.cycles.ensures)
     c.energies-energies.ensures
-    (c.from-first.ensures ∙ c.first_of.ensures)
+    (c.from-first.ensures ∙ at_ordinary (λ (l : Layout). first l c.args.self.now.set.words.now c.args.t) c.args.self.now c.first.ensures)
 
 has : (g : Over) (c : After-energies-energies g)
     → g.S.Sink.fits c.args.sink.now (line_text c.from-period.result c.from-cycles.result c.energies-energies.result.now c.from-first.result)
