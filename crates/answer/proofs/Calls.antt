@@ -1,5 +1,6 @@
 -- From the functions below it to the call: what the reader, the planner and the walk give is what is printed.
 -- Assumes nothing.
+use Rattle.std.specs.Prelude.{Ok, Err}
 use Prim.Native.Nat.{ℕ, ◌≤◌, ◌<◌}
 use mathlib.Core.Path.{◌≡◌, refl, sym, ap, ◌∙◌, subst}
 use mathlib.Core.List.{List, [], ◌++◌}
@@ -15,11 +16,6 @@ use Rattle.taskset.specs.Refusals.{room_check, none_check, plan_check, ready_che
 use Rattle.taskset.specs.Calls.{SetAfter}
 use Rattle.taskset.specs.declared.Refusal.{Refusal}
 use Rattle.taskset.specs.declared.Refusal.TheVariants.{TooShort}
-use Rattle.taskset.specs.declared.Checked.TheVariants.{Good, Refused as NotGood}
-use Rattle.taskset.specs.declared.CopyAnswer.{CopyAnswer}
-use Rattle.taskset.specs.declared.CopyAnswer.TheVariants.{Wrote, Refused as NotCopied}
-use Rattle.taskset.specs.declared.PlannerAnswer.TheVariants.{Planned, Refused as NotPlanned}
-use Rattle.taskset.specs.declared.WalkAnswer.TheVariants.{Kept, Missed, Refused as NotWalked}
 use Rattle.taskset.specs.declared.Engine.TheVariants.{Table}
 use Rattle.taskset.proofs.Checks.{accepts_but_last, accepts_next, refuses_next, refuses_before, passed, not-both}
 use Rattle.taskset.proofs.DemandThree.{outcome_kept, sound_plan, own_firsts}
@@ -39,13 +35,15 @@ use Rattle.answer.specs.Answer.{RespondGives, Responds}
 use Rattle.answer.specs.Steps as steps
 use Rattle.answer.specs.Steps.{PlannedSet, PrintsSet, PutSet, PutAnswer}
 use Rattle.answer.proofs.Outputs.{is_set, is_plan, plan_length, promise, owes, output_short}
+use Rattle.taskset.specs.Answers.{CopyAnswer, ok_measured, ok_planned}
+use Rattle.taskset.specs.declared.WalkEnd.TheVariants.{Kept, Missed}
 
 -- ---- a plan and its walk
 module _ {s P : List ℕ} {unit load hyper energy : ℕ} (given : PlannedSet s P unit load hyper energy) where
   pub plan_room : (b i p : ℕ) → length (plan_line unit load hyper energy ++ (rate_lines 1 P ++ walk_line b i p)) ≤ 2048
   plan_room b i p = plan_short unit load hyper energy P b i p (plan_length s given.accepts P unit load hyper energy given.selected)
 
-  pub plan_kept : (b i p : ℕ) (d d' : List ℕ) (n : ℕ) → Walked s P (Kept b i p)
+  pub plan_kept : (b i p : ℕ) (d d' : List ℕ) (n : ℕ) → Walked s P (Ok (Kept b i p))
       → Put (plan_line unit load hyper energy ++ (rate_lines 1 P ++ walk_line b i p)) d d' n → PutSet s d d' n
   plan_kept b i p d d' n w put = (
     plan_line unit load hyper energy ++ (rate_lines 1 P ++ walk_line b i p),
@@ -55,7 +53,7 @@ module _ {s P : List ℕ} {unit load hyper energy : ℕ} (given : PlannedSet s P
   )
 
   -- The two other answers of the walk do not occur.
-  pub not_missed : (t k : ℕ) → Walked s P (Missed t k) → ⊥
+  pub not_missed : (t k : ℕ) → Walked s P (Ok (Missed t k)) → ⊥
   not_missed t k w =
       w.owes.from_these
       ((promise s given.accepts P unit load hyper energy given.selected).granted (first Ordinary s)
@@ -70,7 +68,7 @@ module _ {s P : List ℕ} {unit load hyper energy : ℕ} (given : PlannedSet s P
       (passed 2 checks refl given.accepts, (passed 3 checks refl given.accepts, tt)) (passed 4 checks refl given.accepts))
       (sound_plan s P (is_plan s given.accepts P unit load hyper energy given.selected))
 
-  pub not_refused : (r : Refusal) → Walked s P (NotWalked r) → ⊥
+  pub not_refused : (r : Refusal) → Walked s P (Err r) → ⊥
   not_refused r w = not-both (walk_checks s P) (number r) (second r) accepted w.answers
 
 -- ---- a set
@@ -79,7 +77,7 @@ pub set_refused : (s d d' : List ℕ) (n : ℕ) (r : Refusal)
     → Put (refused_line (number r) (second r)) d d' n → PutSet s d d' n
 set_refused s d d' n r h put = (refused_line (number r) (second r), steps.refused (number r) (second r) h refl, put)
 
-pub ready_refused : (s : List ℕ) (r : Refusal) → SetAfter (ready_checks (Table Ordinary) s plan_lent work_lent) Ordinary s (NotGood r)
+pub ready_refused : (s : List ℕ) (r : Refusal) → SetAfter (ready_checks (Table Ordinary) s plan_lent work_lent) Ordinary s (Err r)
     → Refuses (planner_checks (Table Ordinary) s plan_lent work_lent) (number r) (second r)
 ready_refused s r h =
     refuses_before (ready_checks (Table Ordinary) s plan_lent work_lent) (none_check (Fitting (problem_of Ordinary s)))
@@ -87,8 +85,8 @@ ready_refused s r h =
 
 -- What passes the checks before 7 with some words passes them with more.
 pub more_room : (s : List ℕ) (p w p' w' m n l : ℕ) → p ≤ p' → w ≤ w'
-    → SetAfter (ready_checks (Table Ordinary) s p w) Ordinary s (Good m n l)
-    → SetAfter (ready_checks (Table Ordinary) s p' w') Ordinary s (Good m n l)
+    → SetAfter (ready_checks (Table Ordinary) s p w) Ordinary s (ok_measured m n l)
+    → SetAfter (ready_checks (Table Ordinary) s p' w') Ordinary s (ok_measured m n l)
 more_room s p w p' w' m n l a b h =
     let set = idle_checks Ordinary s ▹ hyper_check Ordinary s in
     let five = work_check (work_needed Ordinary s) w in
@@ -104,11 +102,11 @@ more_room s p w p' w' m n l a b h =
 
 -- The plan list and the working list as the call lent them.
 module _ (s plan work plan' work' : List ℕ) (lp : length plan ≡ plan_lent) (lw : length work ≡ work_lent) where
-  pub call_refused : (r : Refusal) → PlannerCall (Table Ordinary) s plan work plan' work' (NotPlanned r)
+  pub call_refused : (r : Refusal) → PlannerCall (Table Ordinary) s plan work plan' work' (Err r)
       → Refuses (planner_checks (Table Ordinary) s plan_lent work_lent) (number r) (second r)
   call_refused r c = rw (lp, lw) at c.gives.0.0
 
-  pub call_planned : (n u l h e : ℕ) → n ≡ task_count Ordinary s → PlannerCall (Table Ordinary) s plan work plan' work' (Planned u l h e)
+  pub call_planned : (n u l h e : ℕ) → n ≡ task_count Ordinary s → PlannerCall (Table Ordinary) s plan work plan' work' (ok_planned u l h e)
       → PlannedSet s (take n plan') u l h e
   call_planned n u l h e count c =
       let g = c.gives.0.1 in
@@ -118,10 +116,10 @@ module _ (s plan work plan' work' : List ℕ) (lp : length plan ≡ plan_lent) (
 -- ---- a text
 module _ (t set set' : List ℕ) (lent : length set ≡ set_lent) where
   -- A script's words are few enough for the list.
-  pub read_fits : (n : ℕ) → ReaderGives t set set' (Wrote n) → n ≤ set_lent
+  pub read_fits : (n : ℕ) → ReaderGives t set set' (Ok n) → n ≤ set_lent
   read_fits n g = omega (arith, count_is (words g.1.0) set set' n g.1.2, words-length g.1.0 g.1.1.script)
 
-  pub read_set : (n : ℕ) (d d' : List ℕ) (k : ℕ) → ReaderGives t set set' (Wrote n) → PutSet (take n set') d d' k
+  pub read_set : (n : ℕ) (d d' : List ℕ) (k : ℕ) → ReaderGives t set set' (Ok n) → PutSet (take n set') d d' k
       → PutAnswer t d d' k
   read_set n d d' k g p =
       let s = g.1.0 in
@@ -133,7 +131,7 @@ module _ (t set set' : List ℕ) (lent : length set ≡ set_lent) where
       go s h out (steps.planned P u l hh e b i p x) = planned s P u l hh e b i p h x
 
   -- The reader's refusal, whichever it is.
-  pub text_refused : (r : Refusal) (d d' : List ℕ) (k : ℕ) → ReaderGives t set set' (NotCopied r)
+  pub text_refused : (r : Refusal) (d d' : List ℕ) (k : ℕ) → ReaderGives t set set' (Err r)
       → Put (refused_line (number r) (second r)) d d' k → PutAnswer t d d' k
   text_refused r d d' k g put =
       (refused_line (number r) (second r), unread (number r) (second r) (rw lent at g.0) refl, put)
@@ -142,13 +140,13 @@ module _ (t set set' : List ℕ) (lent : length set ≡ set_lent) where
 module _ (t d : List ℕ) where
   -- The bytes written are an output, and what it owes holds.
   responds : (d' : List ℕ) (a : CopyAnswer) → RespondGives t d d' a → Responds t d d' a
-  responds d' (Wrote n) g = record {
+  responds d' (Ok n) g = record {
     gives = g;
     owes =
         let p : Prints t (take n d') = subst (Prints t) (sym (front_is g.0 d d' n g.3)) g.1 in
         (p, owes t (take n d') p);
   }
-  responds d' (NotCopied r) g = record { gives = g; owes = tt }
+  responds d' (Err r) g = record { gives = g; owes = tt }
 
   module _ (text text' : List ℕ) (n : ℕ) (answer : PutAnswer t text text' n) where
     -- The lines lie inside the call's own buffer.
@@ -161,18 +159,18 @@ module _ (t d : List ℕ) where
     unfolding placed
     answer_is = ap (take n) answer.2.is ∙ take_at answer.0 (drop (length answer.0) text) n (sym answer.2.size)
 
-    pub too_short : length d < n → Responds t d d (NotCopied (TooShort n))
+    pub too_short : length d < n → Responds t d d (Err (TooShort n))
     too_short h =
         let e = answer.2.size in
-        responds d (NotCopied (TooShort n))
+        responds d (Err (TooShort n))
         (answer.0, answer.1, refuses_next [] (room_check (length answer.0) (length d)) n tt (omega (arith, e), e), refl)
 
-    pub wrote : (d' : List ℕ) (k : ℕ) → n ≤ length d → Put (take n text') d d' k → Responds t d d' (Wrote k)
+    pub wrote : (d' : List ℕ) (k : ℕ) → n ≤ length d → Put (take n text') d d' k → Responds t d d' (Ok k)
     unfolding placed
     wrote d' k h put =
         let e = answer.2.size in
         let size : k ≡ length answer.0 = put.size ∙ ap length answer_is in
-        responds d' (Wrote k) (
+        responds d' (Ok k) (
           answer.0,
           answer.1,
           accepts_next [] (room_check (length answer.0) (length d)) tt (λ j x. omega (arith, e, x.0)),

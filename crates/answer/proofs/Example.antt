@@ -1,6 +1,7 @@
 -- Document 01's example: for its input the program prints its four lines. And texts with a first release, with a chip,
 -- and with an idle line.
 -- Assumes nothing.
+use Rattle.std.specs.Prelude.{Ok}
 use Prim.Native.Nat.{ℕ, ◌≤◌}
 use mathlib.Core.Path.{◌≡◌, refl, sym, ◌∙◌, subst}
 use mathlib.Core.List.{List, [], ◌∷◌, ◌++◌}
@@ -14,8 +15,6 @@ use Rattle.taskset.specs.Quantities.{problem_of, work_needed}
 use Rattle.taskset.specs.Refusals.{Accepts, Refuses, ◌▹◌, word_checks, idle_check, idle_checks, hyper_check, work_check}
 use Rattle.taskset.specs.Refusals.{room_check, none_check, ready_checks, planner_checks}
 use Rattle.taskset.specs.Calls.{walk_values, outcome_values, walk_of, Selected, PlannerGives}
-use Rattle.taskset.specs.declared.PlannerAnswer.TheVariants.{Planned}
-use Rattle.taskset.specs.declared.WalkAnswer.TheVariants.{Kept}
 use Rattle.taskset.specs.Planning.{planning}
 use Rattle.taskset.specs.declared.Engine.TheVariants.{Table}
 use Rattle.taskset.proofs.Checks.{accepts_next, passed}
@@ -32,13 +31,15 @@ use Rattle.lines.specs.Lines.{plan_line, rate_lines, walk_line}
 use Rattle.lines.proofs.Example.{printed, printed_lines, chip_printed, chip_lines, refused_9_2, idle_printed}
 use Rattle.lines.proofs.Example.{idle_lines, refused_10_9, from_printed, from_lines}
 use Rattle.answer.specs.Answer.{work_lent, plan_lent, set_lent, PrintsPlan, Read, Prints, unread, refused, planned}
+use Rattle.taskset.specs.Answers.{ok_planned}
+use Rattle.taskset.specs.declared.WalkEnd.TheVariants.{Kept}
 
 -- A case of the planner, where just the words needed are lent; more of them change nothing. P is its plan, with the four
 -- values, and the walk of P is kept with the three counts.
 module _ (s P out lent words words' : List ℕ) (unit load hyper energy busy idle preempted : ℕ)
-    (gives : PlannerGives (Table Ordinary) s lent words P words' (Planned unit load hyper energy))
+    (gives : PlannerGives (Table Ordinary) s lent words P words' (ok_planned unit load hyper energy))
     (work : work_needed Ordinary s ≤ work_lent) (room : task_count Ordinary s ≤ plan_lent) (size : length P ≡ task_count Ordinary s)
-    (walked : walk_values (Kept busy idle preempted) ≡ outcome_values (walk_of s P))
+    (walked : walk_values (Ok (Kept busy idle preempted)) ≡ outcome_values (walk_of s P))
     (lines : out ≡ plan_line unit load hyper energy ++ (rate_lines 1 P ++ walk_line busy idle preempted)) where
   accepts : Accepts (planner_checks (Table Ordinary) s plan_lent work_lent)
   accepts =

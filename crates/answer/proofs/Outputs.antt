@@ -1,6 +1,7 @@
 -- What the program prints: one output for an input, at most 2,048 bytes of it; after a plan the walk is kept; and what
 -- is printed keeps demand 3.
 -- Assumes nothing.
+use Rattle.std.specs.Prelude.{Ok, Err}
 use Prim.Native.Nat.{ℕ, suc, ◌≤◌, ◌<◌}
 use mathlib.Core.Path.{◌≡◌, sym, ap, ◌∙◌, subst}
 use mathlib.Core.List.{List, [], ◌∷◌, ◌++◌}
@@ -16,8 +17,6 @@ use Rattle.taskset.specs.Quantities.{problem_of}
 use Rattle.taskset.specs.Refusals.{number, second, Accepts, Refuses, room_check, none_check, ready_checks, planner_checks}
 use Rattle.taskset.specs.Calls.{Selected, Copied, walk_of}
 use Rattle.taskset.specs.DemandThree.{PlanPromise}
-use Rattle.taskset.specs.declared.CopyAnswer.{CopyAnswer}
-use Rattle.taskset.specs.declared.CopyAnswer.TheVariants.{Wrote, Refused as NotCopied}
 use Rattle.taskset.proofs.Checks.{accepts_but_last, accepts_next, refuses_unique, not-both}
 use Rattle.taskset.specs.Sets.{IsSet}
 use Rattle.taskset.specs.Planning.{planning}
@@ -33,6 +32,7 @@ use Rattle.text.proofs.Copies.{one_script, reader_single}
 use Rattle.lines.proofs.Lengths.{plan_short, refused_short}
 use Rattle.answer.specs.Answer.{work_lent, plan_lent, set_lent, PrintsPlan, Prints, unread, refused, planned}
 use Rattle.answer.specs.Answer.{Owes, output_checks, RespondGives, Responds}
+use Rattle.taskset.specs.Answers.{CopyAnswer}
 
 -- ---- of a set that the planner takes
 module _ (s : List ℕ) (accepts : Accepts (planner_checks (Table Ordinary) s plan_lent work_lent)) where
@@ -215,25 +215,25 @@ pub respond_unique : (t d d₁ d₂ : List ℕ) (a b : CopyAnswer) → Responds 
 respond_unique t d d₁ d₂ a b x y = go a b x.gives y.gives
   where
     go : (a b : CopyAnswer) → RespondGives t d d₁ a → RespondGives t d d₂ b → SameCopied a b d₁ d₂
-    go (Wrote n) (Wrote k) x y =
+    go (Ok n) (Ok k) x y =
         let same = one_output t x.0 y.0 x.1 y.1 in
-        copied_one y.0 d d₁ d₂ (Wrote n) (Wrote k) (subst (λ (o : List ℕ). Copied o d d₁ (Wrote n)) same x.3) y.3
-    go (Wrote n) (NotCopied r) x y =
+        copied_one y.0 d d₁ d₂ (Ok n) (Ok k) (subst (λ (o : List ℕ). Copied o d d₁ (Ok n)) same x.3) y.3
+    go (Ok n) (Err r) x y =
         let same = one_output t x.0 y.0 x.1 y.1 in
         absurd (not-both (output_checks (length y.0) (length d)) (number r) (second r) (subst (λ (o : List ℕ). Accepts (output_checks (length o) (length d))) same x.2) y.2)
-    go (NotCopied r) (Wrote n) x y =
+    go (Err r) (Ok n) x y =
         let same = one_output t y.0 x.0 y.1 x.1 in
         absurd (not-both (output_checks (length x.0) (length d)) (number r) (second r) (subst (λ (o : List ℕ). Accepts (output_checks (length o) (length d))) same y.2) x.2)
-    go (NotCopied q) (NotCopied r) x y =
+    go (Err q) (Err r) x y =
         let same = one_output t y.0 x.0 y.1 x.1 in
         let z = subst (λ (o : List ℕ). Refuses (output_checks (length o) (length d)) (number r) (second r)) same y.2 in
         record {
-          answer = ap NotCopied (refusal_unique (output_checks (length x.0) (length d)) (single_next [] (room_check (length x.0) (length d)) tt (short_single (length x.0) (length d))) q r x.2 z);
+          answer = ap Err (refusal_unique (output_checks (length x.0) (length d)) (single_next [] (room_check (length x.0) (length d)) tt (short_single (length x.0) (length d))) q r x.2 z);
           list = x.3 ∙ sym y.3;
         }
 
 -- In a buffer of 2,048 bytes the answer has room: the program never runs short.
-pub never_short : (t d d' : List ℕ) (r : _) → 2048 ≤ length d → Responds t d d' (NotCopied r) → ⊥
+pub never_short : (t d d' : List ℕ) (r : _) → 2048 ≤ length d → Responds t d d' (Err r) → ⊥
 never_short t d d' r room x =
     not-both (output_checks (length x.gives.0) (length d)) (number r) (second r)
     (accepts_next [] (room_check (length x.gives.0) (length d)) tt (λ k h. omega (arith, h.0, output_short t x.gives.0 x.gives.1)))

@@ -1,19 +1,18 @@
 -- What the program prints for an input, byte by byte (document 01, 'The bracketed text': "Input of the program, on
 -- standard input" and "All that it prints"), and the contract of the call that does it.
-use Rattle.std.specs.Prelude.{ℕ, ◌≡◌, List, [], ◌∷◌, ◌++◌, ◌↔◌, length, take}
+use Rattle.std.specs.Prelude.{ℕ, ◌≡◌, List, [], ◌∷◌, ◌++◌, ◌↔◌, length, take, Ok, Err}
 use Rattle.layout.specs.Words.{most_tasks, most_words}
 use Rattle.schedule.specs.Counted.{kept}
 use Rattle.taskset.specs.Refusals.{number, second, Check, Accepts, Refuses, room_check, ready_checks, planner_checks}
 use Rattle.taskset.specs.Calls.{Selected, Copied, walk_of}
 use Rattle.taskset.specs.DemandThree.{PlanPromise, NoneKeeps}
-use Rattle.taskset.specs.declared.CopyAnswer.{CopyAnswer}
-use Rattle.taskset.specs.declared.CopyAnswer.TheVariants.{Wrote, Refused as NotCopied}
 use Rattle.taskset.specs.Planning.{planning}
 use Rattle.taskset.specs.declared.Engine.TheVariants.{Table}
 use Rattle.layout.specs.declared.Layout.TheVariants.{Ordinary}
 use Rattle.text.specs.Text.{Script, IsTextOf, words}
 use Rattle.text.specs.Calls.{reader_checks}
 use Rattle.lines.specs.Lines.{plan_line, rate_lines, walk_line, refused_line}
+use Rattle.taskset.specs.Answers.{CopyAnswer}
 
 -- "It has 16,384 working words": and a plan word for each of as many tasks as a set can have.
 abbrev pub work_lent : ℕ
@@ -55,9 +54,9 @@ abbrev pub output_checks : ℕ → ℕ → List Check
 output_checks needed lent = room_check needed lent ∷ []
 
 abbrev pub RespondGives : (t d d' : List ℕ) → CopyAnswer → Type 0
-RespondGives t d d' (Wrote n) =
-    (out : List ℕ) × Prints t out × Accepts (output_checks (length out) (length d)) × Copied out d d' (Wrote n)
-RespondGives t d d' (NotCopied r) =
+RespondGives t d d' (Ok n) =
+    (out : List ℕ) × Prints t out × Accepts (output_checks (length out) (length d)) × Copied out d d' (Ok n)
+RespondGives t d d' (Err r) =
     (out : List ℕ) × Prints t out × Refuses (output_checks (length out) (length d)) (number r) (second r) × (d' ≡ d)
 
 -- WHAT AN OUTPUT OWES (demand 3, with notes 5 and 6): the lines of a plan its promise, by the unit and the energy that
@@ -71,8 +70,8 @@ Owes (planned s P unit load hyper energy busy idle preempted h x) = PlanPromise 
 
 -- The bytes that the call writes are an output, with all that it owes.
 abbrev pub RespondOwes : (t d' : List ℕ) → CopyAnswer → Type 0
-RespondOwes t d' (Wrote n) = (p : Prints t (take n d')) × Owes p
-RespondOwes t d' (NotCopied r) = Unit {0}
+RespondOwes t d' (Ok n) = (p : Prints t (take n d')) × Owes p
+RespondOwes t d' (Err r) = Unit {0}
 
 -- The call's contract.
 pub record Responds (t d d' : List ℕ) (a : CopyAnswer) : Type 0 where

@@ -3,37 +3,49 @@
 #![tactic(auto)]
 
 ghost use Rattle.answer.specs.Answer.{Responds};
-ghost use Rattle.answer.specs.Steps.{PutAnswer, PutSet, PlannedSet};
+ghost use Rattle.answer.specs.Steps.{PutAnswer, PutSet, PlannedSet, PlannedAfter};
 
 use layout::Layout;
-use lines::{PlanFigures, WalkFigures};
+use lines::WalkFigures;
 use places::{MOST_TASKS, MOST_WORDS};
-use taskset::{Checked, CopyAnswer, Engine, PlannerAnswer, Refusal, WalkAnswer};
+use taskset::{CopyAnswer, Engine, Planned, Refusal, WalkEnd};
 
 // The working words that the program has.
 const WORK_WORDS: usize = 16_384;
 
-// The lines of a plan that was given, with those of its walk. A plan from the planner is always kept, so the other
-// answers do not occur.
-fn answer_plan(set: &[u32], plan: &[u32], p: PlanFigures, text: &mut [u8; 2048]) -> usize
-    requires { PlannedSet set.now plan.now p.unit p.load p.hyper p.energy }
+// The plan for a set's words, to the front of the plan list: how many tasks it has, and what it comes to.
+fn plan_set(set: &[u32], plan: &mut [u32; MOST_TASKS]) -> Result<(usize, Planned), Refusal>
+    ensures { PlannedAfter set.now plan.new result }
+{
+    let mut work = [0u32; WORK_WORDS];
+    let engine = Engine::Table(Layout::Ordinary);
+    let measured = planner::ready(set, engine, MOST_TASKS, WORK_WORDS)?;
+    let planned = planner::plan_checked(set, engine, plan, &mut work, measured)?;
+    Ok((measured.tasks, planned))
+}
+
+// The lines of a plan that was given, with those of its walk. A plan from the planner is always kept.
+fn answer_plan(set: &[u32], plan: &[u32], planned: Planned, text: &mut [u8; 2048]) -> usize
+    requires { PlannedSet set.now plan.now planned.unit planned.load planned.hyper planned.energy }
     ensures { PutSet set.now text.old text.new result }
 {
     match walk::walk(set, plan) {
-        WalkAnswer::Kept {
-            busy,
-            idle,
-            preempted,
-        } => {
+        Ok(
+            WalkEnd::Kept {
+                busy,
+                idle,
+                preempted,
+            },
+        ) => {
             let w = WalkFigures {
                 busy,
                 idle,
                 preempted,
             };
-            lines::put_plan(text, p, plan, w)
+            lines::put_plan(text, planned, plan, w)
         }
-        WalkAnswer::Missed { tick: _, task: _ } => 0,
-        WalkAnswer::Refused(_) => 0,
+        Ok(WalkEnd::Missed { .. }) => unreachable!(),
+        Err(_) => unreachable!(),
     }
 }
 
@@ -42,33 +54,9 @@ fn answer_set(set: &[u32], text: &mut [u8; 2048]) -> usize
     ensures { PutSet set.now text.old text.new result }
 {
     let mut plan = [0u32; MOST_TASKS];
-    let mut work = [0u32; WORK_WORDS];
-    let engine = Engine::Table(Layout::Ordinary);
-    match planner::ready(set, engine, MOST_TASKS, WORK_WORDS) {
-        Checked::Refused(r) => lines::put_refused(text, r),
-        Checked::Good {
-            rates,
-            tasks,
-            hyper,
-        } => {
-            match planner::plan_checked(set, engine, &mut plan, &mut work, rates, tasks, hyper) {
-                PlannerAnswer::Refused(r) => lines::put_refused(text, r),
-                PlannerAnswer::Planned {
-                    unit,
-                    load,
-                    hyper,
-                    energy,
-                } => {
-                    let p = PlanFigures {
-                        unit,
-                        load,
-                        hyper,
-                        energy,
-                    };
-                    answer_plan(set, &plan[..tasks], p, text)
-                }
-            }
-        }
+    match plan_set(set, &mut plan) {
+        Ok((tasks, planned)) => answer_plan(set, &plan[..tasks], planned, text),
+        Err(r) => lines::put_refused(text, r),
     }
 }
 
@@ -78,8 +66,8 @@ fn answer_text(input: &[u8], text: &mut [u8; 2048]) -> usize
 {
     let mut set = [0u32; MOST_WORDS];
     match reader::read(input, &mut set) {
-        CopyAnswer::Wrote(n) => answer_set(&set[..n], text),
-        CopyAnswer::Refused(r) => lines::put_refused(text, r),
+        Ok(n) => answer_set(&set[..n], text),
+        Err(r) => lines::put_refused(text, r),
     }
 }
 
@@ -91,7 +79,7 @@ pub fn respond(input: &[u8], output: &mut [u8]) -> CopyAnswer
     let mut text = [0u8; 2048];
     let n = answer_text(input, &mut text);
     if output.len() < n {
-        return CopyAnswer::Refused(Refusal::TooShort(n));
+        return Err(Refusal::TooShort(n));
     }
-    CopyAnswer::Wrote(printer::put_bytes(output, &text[..n]))
+    Ok(printer::put_bytes(output, &text[..n]))
 }

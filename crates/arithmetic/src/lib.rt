@@ -1,9 +1,9 @@
-// Whole-number arithmetic in code: common divisors by halving and subtracting, the least power of two, the lesser of
-// two numbers, a range. What each one is, numbers defines; tasks, words and times are left to the crates above.
+// Whole-number arithmetic in code: common divisors by halving and subtracting, the lesser of two numbers, a range. What
+// each one is, numbers defines; tasks, words and times are left to the crates above.
 #![tactic(auto)]
 
 ghost use Rattle.std.specs.Prelude.{◌≡◌, suc, ◌-◌, ◌*◌, ◌/◌, ◌^◌, ◌≤◌, ◌<◌, min};
-ghost use Rattle.numbers.specs.Numbers.{between, gcd, LeastPower};
+ghost use Rattle.numbers.specs.Numbers.{between, gcd};
 ghost use Rattle.numbers.specs.Halving.{common_power, is_even, step, steps, most_steps};
 ghost use Rattle.numbers.specs.Power.{IsPower};
 
@@ -11,14 +11,14 @@ ghost use Rattle.numbers.specs.Power.{IsPower};
 pub fn is_between(low: u64, high: u64, w: u64) -> bool
     ensures { result ≡ between low high w }
 {
-    if low <= w { w <= high } else { false }
+    (low..=high).contains(&w)
 }
 
 // The lesser of two numbers.
 pub fn lesser(x: u32, y: u32) -> u32
     ensures { result ≡ min x y }
 {
-    if y < x { y } else { x }
+    x.min(y)
 }
 
 // The largest power of two that divides both numbers: the lowest bit that is set in one of them.
@@ -38,33 +38,20 @@ fn is_even(u: u64, n: u64) -> bool
     n & u == 0
 }
 
-// A number, and the halvings and subtractions that were made to come to it.
-#[derive(Clone, Copy)]
-struct Counted {
-    number: u64,
-    steps: u32,
-}
-
-// A halving: one more than were made before it.
-fn halve(n: u64, before: u32) -> Counted
+// A halving: half the number, and one more than the halvings and subtractions made before it.
+fn halve(n: u64, before: u32) -> (u64, u32)
     requires { before < most_steps }
-    ensures { (result.number ≡ n / 2) × (result.steps ≡ suc before) }
+    ensures { result ≡ (n / 2, suc before) }
 {
-    Counted {
-        number: n / 2,
-        steps: before + 1,
-    }
+    (n / 2, before + 1)
 }
 
-// A subtraction: one more than were made.
-fn subtract(larger: u64, smaller: u64, made: u32) -> Counted
+// A subtraction: the difference, and one more than were made.
+fn subtract(larger: u64, smaller: u64, made: u32) -> (u64, u32)
     requires { (smaller ≤ larger) × (made < most_steps) }
-    ensures { (result.number ≡ larger - smaller) × (result.steps ≡ suc made) }
+    ensures { result ≡ (larger - smaller, suc made) }
 {
-    Counted {
-        number: larger - smaller,
-        steps: made + 1,
-    }
+    (larger - smaller, made + 1)
 }
 
 // Two numbers on the way to their greatest common divisor, and the halvings and subtractions made so far.
@@ -75,41 +62,27 @@ struct Pair {
     steps: u32,
 }
 
-// One step: the number that is an even multiple of u is halved; where neither is, the smaller is subtracted from the
-// larger.
-fn step(u: u64, p: Pair) -> Pair
-    requires { IsPower u × (p.steps < most_steps) }
-    ensures { ((result.a, result.b) ≡ step u p.a p.b) × (result.steps ≡ suc p.steps) }
-{
-    if is_even(u, p.a) {
-        let h = halve(p.a, p.steps);
-        return Pair {
-            a: h.number,
-            b: p.b,
-            steps: h.steps,
-        };
-    }
-    if is_even(u, p.b) {
-        let h = halve(p.b, p.steps);
-        return Pair {
-            a: p.a,
-            b: h.number,
-            steps: h.steps,
-        };
-    }
-    if p.b < p.a {
-        let d = subtract(p.a, p.b, p.steps);
-        return Pair {
-            a: d.number,
-            b: p.b,
-            steps: d.steps,
-        };
-    }
-    let d = subtract(p.b, p.a, p.steps);
-    Pair {
-        a: p.a,
-        b: d.number,
-        steps: d.steps,
+impl Pair {
+    // One step: the number that is an even multiple of u is halved; where neither is, the smaller is subtracted from
+    // the larger.
+    fn step(self, u: u64) -> Pair
+        requires { IsPower u × (self.steps < most_steps) }
+        ensures { ((result.a, result.b) ≡ step u self.a self.b) × (result.steps ≡ suc self.steps) }
+    {
+        if is_even(u, self.a) {
+            let (a, steps) = halve(self.a, self.steps);
+            return Pair { a, steps, ..self };
+        }
+        if is_even(u, self.b) {
+            let (b, steps) = halve(self.b, self.steps);
+            return Pair { b, steps, ..self };
+        }
+        if self.b < self.a {
+            let (a, steps) = subtract(self.a, self.b, self.steps);
+            return Pair { a, steps, ..self };
+        }
+        let (b, steps) = subtract(self.b, self.a, self.steps);
+        Pair { b, steps, ..self }
     }
 }
 
@@ -133,34 +106,10 @@ pub fn common_divisor(x: u64, y: u64) -> Divisor
         steps: 0,
     };
     while p.a != p.b {
-        p = step(u, p);
+        p = p.step(u);
     }
     Divisor {
         value: p.a,
         steps: p.steps,
-    }
-}
-
-// A power of two.
-#[derive(Clone, Copy)]
-pub struct Power {
-    pub exponent: u32,
-    pub value: u64,
-}
-
-// The smallest power of two not below x.
-pub fn least_power(x: u64) -> Power
-    requires { x ≤ 2 ^ 63 }
-    ensures { LeastPower x result.exponent × (result.value ≡ 2 ^ result.exponent) }
-{
-    let mut a: u32 = 0;
-    let mut v: u64 = 1;
-    while v < x {
-        v = v * 2;
-        a += 1;
-    }
-    Power {
-        exponent: a,
-        value: v,
     }
 }

@@ -1,125 +1,69 @@
-// The items of a record: numbers, lists of numbers, and a text. What reads an item takes the place of the one space in
-// front of it, and gives the place behind it; where no such item stands, that is NOWHERE. From there nothing can be
-// read, so that a record is tested once, at its end.
-ghost use Rattle.std.specs.Prelude.{◌≡◌, ◌≤◌, length};
+// The items of a record: numbers, lists of numbers, and a text.
+ghost use Rattle.std.specs.Prelude.{IfSome, ◌≤◌};
 
-// A place that no record has.
-const NOWHERE: usize = usize::MAX;
-
-// A number, or how many numbers a list has, and the place behind.
+// What is left of a record. What takes an item takes the one space in front of it too, and gives `None` where no such
+// item stands.
 #[derive(Clone, Copy)]
-pub(crate) struct Item {
-    pub(crate) value: usize,
-    pub(crate) next: usize,
+pub(crate) struct Items<'a> {
+    rest: &'a [u8],
 }
 
-// No item.
-fn none() -> Item
-    ensures { result.value ≡ 0 }
-{
-    Item {
-        value: 0,
-        next: NOWHERE,
+impl<'a> Items<'a> {
+    pub(crate) fn new(rest: &'a [u8]) -> Items<'a> {
+        Items { rest }
     }
-}
 
-// The place behind a space.
-pub(crate) fn after_space(s: &[u8], at: usize) -> usize {
-    if s.len() <= at {
-        return NOWHERE;
-    }
-    if s[at] != b' ' {
-        return NOWHERE;
-    }
-    at + 1
-}
-
-// Where the item that starts at a place ends: at the first space, or at the end of the record.
-pub(crate) fn item_end(s: &[u8], from: usize) -> usize
-    ensures { result ≤ length s.now }
-{
-    let mut i = from;
-    while i < s.len() {
-        if s[i] == b' ' {
-            return i;
+    // The bytes up to the next space, or to the end of the record, at least one.
+    pub(crate) fn word(&mut self) -> Option<&'a [u8]> {
+        let rest = self.rest.strip_prefix(b" ")?;
+        let end = rest.iter().position(|b| *b == b' ').unwrap_or(rest.len());
+        let (word, rest) = rest.split_at(end);
+        if word.is_empty() {
+            return None;
         }
-        i += 1;
+        self.rest = rest;
+        Some(word)
     }
-    s.len()
-}
 
-// The value of a digit, or 10 for another byte.
-fn digit(b: u8) -> usize
-    ensures { result ≤ 10 }
-{
-    if b < b'0' {
-        return 10;
-    }
-    if b > b'9' {
-        return 10;
-    }
-    (b - b'0') as usize
-}
-
-// A space and a number, at most `most`. One that starts with 0 has no more digits, so that each number has one text.
-pub(crate) fn number(s: &[u8], at: usize, most: u32) -> Item
-    ensures { result.value ≤ most }
-{
-    let start = after_space(s, at);
-    let end = item_end(s, start);
-    if end <= start {
-        return none();
-    }
-    let mut v: usize = 0;
-    let mut i = start;
-    while i < end {
-        let d = digit(s[i]);
-        if d > 9 {
-            return none();
+    // A number. One that starts with 0 has no more digits, so that each number has one text.
+    pub(crate) fn number(&mut self) -> Option<u32> {
+        let digits = self.word()?;
+        if let [b'0', _, ..] = digits {
+            return None;
         }
-        if v == 0 {
-            if i > start {
-                return none();
-            }
-        }
-        v = v * 10 + d;
-        if v > most as usize {
-            return none();
-        }
-        i += 1;
+        digits.iter().try_fold(0u32, |v, b| {
+            let digit = char::from(*b).to_digit(10)?;
+            v.checked_mul(10)?.checked_add(digit)
+        })
     }
-    Item {
-        value: v,
-        next: end,
-    }
-}
 
-// A count, at most `most`, and so many numbers, to the front of a list.
-pub(crate) fn list(s: &[u8], at: usize, most: u32, out: &mut [u32]) -> Item
-    requires { most ≤ length out.old }
-    ensures { result.value ≤ length out.new }
-{
-    let count = number(s, at, most);
-    let k = count.value;
-    let mut next = count.next;
-    let mut i = 0;
-    while i < k {
-        let word = number(s, next, u32::MAX);
-        out[i] = word.value as u32;
-        next = word.next;
-        i += 1;
+    // A number, at most `most`.
+    pub(crate) fn count(&mut self, most: usize) -> Option<usize>
+        ensures { IfSome result (λ n. n ≤ most) }
+    {
+        let n = self.number()? as usize;
+        (n <= most).then_some(n)
     }
-    Item { value: k, next }
-}
 
-// Where a text starts, behind its space: it is all that is left of the record, at most 16384 bytes.
-pub(crate) fn text(s: &[u8], at: usize) -> usize {
-    let start = after_space(s, at);
-    if start > s.len() {
-        return NOWHERE;
+    // A count, and so many numbers, to the front of a list that has room for them.
+    pub(crate) fn list<'b>(&mut self, out: &'b mut [u32]) -> Option<&'b [u32]> {
+        let count = self.number()?;
+        let list = out.get_mut(..count as usize)?;
+        for word in list.iter_mut() {
+            *word = self.number()?;
+        }
+        Some(list)
     }
-    if s.len() - start > 16384 {
-        return NOWHERE;
+
+    // A text: all that is left of the record, at most 16384 bytes.
+    pub(crate) fn text(self) -> Option<&'a [u8]> {
+        self.rest
+            .strip_prefix(b" ")
+            .filter(|text| text.len() <= 16384)
     }
-    start
+
+    // The end of the record.
+    pub(crate) fn end(self) -> Option<()> {
+        self.rest.is_empty().then_some(())
+    }
 }

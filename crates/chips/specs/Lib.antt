@@ -1,2 +1,1 @@
 pub mod Chips
-pub mod Steps

@@ -4,21 +4,14 @@
 
 ghost use Rattle.std.specs.Prelude.{◌≡◌, ◌+◌, ◌≤◌, length};
 ghost use Rattle.lists.specs.Writing.{written};
-ghost use Rattle.chips.specs.Chips.{chip_count, chip_rate, chip_power, chip_energy, chip_rates, chip_energies, idle_entry, chip_idle};
-ghost use Rattle.chips.specs.Steps.{chip_figure, chip_figures};
+ghost use Rattle.chips.specs.Chips.{milliwatts, chip_count, chip_rate, chip_power, chip_energy, chip_rates};
+ghost use Rattle.chips.specs.Chips.{chip_energies, idle_entry, chip_idle};
 
 // The chips that a text can name.
 #[derive(Clone, Copy)]
 pub enum Chip {
     Xscale,
     Ppc405lp,
-}
-
-// Which figure of a chip: its rate, or the energy of a job of so many cycles.
-#[derive(Clone, Copy)]
-enum Figure {
-    Rate,
-    Energy(u32),
 }
 
 // Rates in cycles per tick, which is a millisecond: MHz × 1,000. Powers in mW, at each rate.
@@ -33,14 +26,33 @@ const PPC405LP_POWERS: [u32; 4] = [19, 72, 600, 750];
 // Idle energies in microjoules per tick, of the ppc405lp and of the xscale.
 const IDLE: [u32; 2] = [12, 40];
 
+// A chip's rates, from rate number 1 on.
+#[tactic(auto, unfolding(crate::specs::Chips::megahertz, crate::specs::Chips::chip_rates))]
+fn rates(chip: Chip) -> &'static [u32]
+    ensures { result.now ≡ chip_rates chip }
+{
+    match chip {
+        Chip::Xscale => &XSCALE_RATES,
+        Chip::Ppc405lp => &PPC405LP_RATES,
+    }
+}
+
+// A chip's powers, at each of its rates.
+#[tactic(auto, unfolding(crate::specs::Chips::milliwatts))]
+fn powers(chip: Chip) -> &'static [u32]
+    ensures { result.now ≡ milliwatts chip }
+{
+    match chip {
+        Chip::Xscale => &XSCALE_POWERS,
+        Chip::Ppc405lp => &PPC405LP_POWERS,
+    }
+}
+
 // How many rates a chip has.
 pub fn rate_count(chip: Chip) -> usize
     ensures { result ≡ chip_count chip }
 {
-    match chip {
-        Chip::Xscale => 5,
-        Chip::Ppc405lp => 4,
-    }
+    rates(chip).len()
 }
 
 // The rate with rate number r, which counts from 1.
@@ -48,10 +60,7 @@ fn rate(chip: Chip, r: usize) -> u32
     requires { (1 ≤ r) × (r ≤ chip_count chip) }
     ensures { result ≡ chip_rate chip r }
 {
-    match chip {
-        Chip::Xscale => XSCALE_RATES[r - 1],
-        Chip::Ppc405lp => PPC405LP_RATES[r - 1],
-    }
+    rates(chip)[r - 1]
 }
 
 // The power at rate number r.
@@ -59,10 +68,7 @@ fn power(chip: Chip, r: usize) -> u32
     requires { (1 ≤ r) × (r ≤ chip_count chip) }
     ensures { result ≡ chip_power chip r }
 {
-    match chip {
-        Chip::Xscale => XSCALE_POWERS[r - 1],
-        Chip::Ppc405lp => PPC405LP_POWERS[r - 1],
-    }
+    powers(chip)[r - 1]
 }
 
 // The energy of a job of so many cycles at rate number r: it fits a word whatever the cycles.
@@ -74,7 +80,7 @@ fn energy(chip: Chip, cycles: u32, r: usize) -> u32
     power(chip, r) * time
 }
 
-// Where a chip's entry stands in the table of idle energies.
+// Where a chip's entry stands in the table of idle energies: a table, and no arm for each chip, for `idle_in_order`.
 fn idle_entry(chip: Chip) -> usize
     ensures { result ≡ idle_entry chip }
 {
@@ -91,36 +97,13 @@ pub fn idle(chip: Chip) -> u32
     IDLE[idle_entry(chip)]
 }
 
-// The figure at rate number r.
-fn figure_at(chip: Chip, which: Figure, r: usize) -> u32
-    requires { (1 ≤ r) × (r ≤ chip_count chip) }
-    ensures { result ≡ chip_figure chip which r }
-{
-    match which {
-        Figure::Rate => rate(chip, r),
-        Figure::Energy(cycles) => energy(chip, cycles, r),
-    }
-}
-
-// The figures, one per rate, to the list from a place on.
-fn put_figures(list: &mut [u32], at: usize, chip: Chip, which: Figure)
-    requires { at + chip_count chip ≤ length list.old }
-    ensures { list.new ≡ written at (chip_figures chip which) list.old }
-{
-    let count = rate_count(chip);
-    let mut i: usize = 0;
-    while i < count {
-        list[at + i] = figure_at(chip, which, 1 + i);
-        i += 1;
-    }
-}
-
 // The chip's rates, to the list from a place on.
 pub fn put_rates(list: &mut [u32], at: usize, chip: Chip)
     requires { at + chip_count chip ≤ length list.old }
     ensures { list.new ≡ written at (chip_rates chip) list.old }
 {
-    put_figures(list, at, chip, Figure::Rate);
+    let table = rates(chip);
+    list[at..at + table.len()].copy_from_slice(table);
 }
 
 // The energies of a job of so many cycles, one per rate, to the list from a place on.
@@ -128,5 +111,5 @@ pub fn put_energies(list: &mut [u32], at: usize, chip: Chip, cycles: u32)
     requires { at + chip_count chip ≤ length list.old }
     ensures { list.new ≡ written at (chip_energies chip cycles) list.old }
 {
-    put_figures(list, at, chip, Figure::Energy(cycles));
+    lists::put_each(list, at, rate_count(chip), |r| energy(chip, cycles, r));
 }

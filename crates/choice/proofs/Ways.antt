@@ -18,11 +18,10 @@ use Rattle.choice.specs.Units.{WayReady, WayTaken}
 abbrev Follow : Frame → List ℕ → List ℕ → ℕ → ℕ → List ℕ → Type 0
 Follow f cost load i e P = Way (option_at cost) (option_at load) f.rates f.cap i e P
 
--- What holds before the task i - 1 is taken: the entry in row i, which begins at start, column e, is not 'none', and
--- whatever list goes back from there and has the plan's numbers from i on goes back from the last row.
-pub record OnWay (f : Frame) (column : ℕ) (cost load plan₀ plan : List ℕ) (e i start : ℕ) : Type 0 where
+-- What holds before the task i - 1 is taken: the entry in row i, column e, is not 'none', and whatever list goes back
+-- from there and has the plan's numbers from i on goes back from the last row.
+pub record OnWay (f : Frame) (column : ℕ) (cost load plan₀ plan : List ℕ) (e i : ℕ) : Type 0 where
   pub tasks : i ≤ f.tasks
-  pub row : start ≡ i * f.columns
   pub place : e < f.columns
   pub some : entry_of f cost load i e < f.cap
   pub same : length plan ≡ length plan₀
@@ -31,10 +30,9 @@ pub record OnWay (f : Frame) (column : ℕ) (cost load plan₀ plan : List ℕ) 
       → Follow f cost load i e P → Follow f cost load f.tasks column P
 
 module _ {f : Frame} {column : ℕ} {cost load d plan₀ : List ℕ} (g : WayReady f column cost load d plan₀) where
-  pub way_start : OnWay f column cost load plan₀ plan₀ column f.tasks (f.tasks * f.columns)
+  pub way_start : OnWay f column cost load plan₀ plan₀ column f.tasks
   way_start = record {
     tasks = omega arith;
-    row = refl;
     place = g.place;
     some = g.some;
     same = refl;
@@ -42,20 +40,18 @@ module _ {f : Frame} {column : ℕ} {cost load d plan₀ : List ℕ} (g : WayRea
     leads = λ P s w. w;
   }
 
-  module _ {plan : List ℕ} {e i start : ℕ} (w : OnWay f column cost load plan₀ plan e i start) (h : 0 < i) where
+  module _ {plan : List ℕ} {e i : ℕ} (w : OnWay f column cost load plan₀ plan e i) (h : 0 < i) where
     one_more : i ≡ i - 1 + 1
     one_more = omega arith
 
-    row_before : start ≡ (i - 1) * f.columns + f.columns
-    row_before = omega (arith, w.row, next_row (i - 1) f.columns, ap (λ (x : ℕ). x * f.columns) one_more)
+    row_before : i * f.columns ≡ (i - 1) * f.columns + f.columns
+    row_before = omega (arith, next_row (i - 1) f.columns, ap (λ (x : ℕ). x * f.columns) one_more)
 
-    -- Row i is within the table, and a row lies before it.
-    pub row_here : (f.columns ≤ start) × (start + f.columns ≤ length d)
+    -- Row i is within the table.
+    pub row_here : i * f.columns + f.columns ≤ length d
     row_here =
         omega (
           arith,
-          row_before,
-          w.row,
           g.holds.words,
           next_row i f.columns,
           mul-le-mul_right {m = i + 1} {n = f.tasks + 1} f.columns (omega (arith, w.tasks)),
@@ -64,14 +60,14 @@ module _ {f : Frame} {column : ℕ} {cost load d plan₀ : List ℕ} (g : WayRea
     some_next : entry_of f cost load (i - 1 + 1) e < f.cap
     some_next = rw (← one_more) w.some
 
-    pub rate_ready : RateReady f (start - f.columns) e (i - 1) cost load d
+    pub rate_ready : RateReady f ((i - 1) * f.columns) e (i - 1) cost load d
     rate_ready = record {
       framed = g.framed;
       is_task = omega (arith, w.tasks);
-      rows = omega (arith, row_here);
-      prev = λ j l. ap (λ (x : ℕ). get_or d (x + j) 0) (omega (arith, row_before)) ∙ g.holds.cells (i - 1) (omega (arith, w.tasks)) j l;
+      rows = omega (arith, row_here, row_before);
+      prev = g.holds.cells (i - 1) (omega (arith, w.tasks));
       next = λ j l.
-          ap (λ (x : ℕ). get_or d (x + j) 0) (omega (arith, row_here, w.row)) ∙ g.holds.cells i w.tasks j l ∙
+          ap (λ (x : ℕ). get_or d (x + j) 0) (sym row_before) ∙ g.holds.cells i w.tasks j l ∙
           ap (λ (x : ℕ). entry_of f cost load x j) one_more;
       place = w.place;
       some = some_next;
@@ -81,15 +77,10 @@ module _ {f : Frame} {column : ℕ} {cost load d plan₀ : List ℕ} (g : WayRea
       pub way_sound : Sound (option_at cost) (option_at load) f.rates f.cap (i - 1) e r
       way_sound = rw is (rate_sound (option_at cost) (option_at load) f.rates f.cap (i - 1) e some_next)
 
-      -- The rate's number and the task's place are small.
-      pub way_small : (r ≤ 8) × (i ≤ 32)
-      way_small = omega (arith, way_sound.below, g.framed.rates, g.framed.tasks, w.tasks)
-
       pub way_turn : {k : ℕ} → k ≡ option_at cost (i - 1) r
-          → OnWay f column cost load plan₀ (set plan (i - 1) r) (e - k) (i - 1) (start - f.columns)
+          → OnWay f column cost load plan₀ (set plan (i - 1) r) (e - k) (i - 1)
       way_turn {k} q = record {
         tasks = omega (arith, w.tasks);
-        row = omega (arith, row_before);
         place = omega (arith, w.place);
         some = rw q (omega (arith, way_sound.sum, some_next));
         same = length-set plan (i - 1) r ∙ w.same;
@@ -111,9 +102,9 @@ module _ {f : Frame} {column : ℕ} {cost load d plan₀ : List ℕ} (g : WayRea
               (subst (λ (x : ℕ). Follow f cost load x e P) (sym one_more) step)
 
   -- With no task left the plan list is the way back.
-  pub way_whole : {plan : List ℕ} {e i start : ℕ} → OnWay f column cost load plan₀ plan e i start → i ≡ 0
+  pub way_whole : {plan : List ℕ} {e i : ℕ} → OnWay f column cost load plan₀ plan e i → i ≡ 0
       → WayTaken f column cost load plan₀ plan
-  way_whole {plan} {e} {i} {start} w z = record {
+  way_whole {plan} {e} {i} w z = record {
     same = w.same;
     way =
         w.leads plan (λ p x y. refl)

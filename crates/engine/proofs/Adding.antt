@@ -1,17 +1,15 @@
--- Sums over the tasks of a plan, a task a turn, and costs by the unit.
+-- Sums over the tasks of a plan, a task a turn.
 -- Assumes nothing.
-use Prim.Native.Nat.{ℕ, ◌+◌, ◌-◌, ◌*◌, ◌/◌, ◌^◌, ◌≤◌, ◌<◌}
-use mathlib.Core.Path.{◌≡◌, refl, sym, ap, ◌∙◌}
+use Prim.Native.Nat.{ℕ, ◌+◌, ◌-◌, ◌*◌, ◌^◌, ◌≤◌, ◌<◌}
+use mathlib.Core.Path.{◌≡◌, sym, ap, ◌∙◌}
 use mathlib.Core.List.{List}
-use native.Mathlib.Nat.{mul-le-mul_right, pow-le-pow_right}
+use native.Mathlib.Nat.{mul-le-mul_right}
 use native.Mathlib.Numerals.{add-one}
 use native.Mathlib.Omega.{arith}
 use lib.ListN.{get_or, replicate, length-replicate, get_or-replicate}
 use Rattle.numbers.specs.Numbers.{total}
-use Rattle.arithmetic.specs.declared.Power.{Power}
 use Rattle.numbers.proofs.Sums.{total-more, total_bound, total_same}
-use Rattle.numbers.proofs.Powers.{power_positive}
-use Rattle.engine.specs.Arrays.{option_at, load_bound, energy_bound, Small, SumReady, cost_of, RoundReady}
+use Rattle.engine.specs.Arrays.{option_at, load_bound, energy_bound, Small, SumReady}
 
 -- ---- sums
 -- Of at most 32 options below a bound.
@@ -54,15 +52,3 @@ module _ (tasks rates : ℕ) (few : tasks ≤ 32) where
     numbers = λ t l. rw (every t l) h;
     small = small;
   }
-
--- ---- costs
-module _ {tasks : ℕ} {unit : Power} {energies cost : List ℕ} (g : RoundReady tasks unit energies cost) where
-  pub unit_positive : 1 ≤ unit.value
-  unit_positive = rw g.power (power_positive unit.exponent)
-
-  pub unit_low : unit.value ≤ 2 ^ 63
-  unit_low = rw g.power (pow-le-pow_right (omega arith) g.low)
-
-  pub cost_is : (k : ℕ)
-      → (get_or energies k 0 + (unit.value - 1)) / 2 ^ unit.exponent ≡ cost_of energies unit.exponent k
-  cost_is k = rw g.power refl

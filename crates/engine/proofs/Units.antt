@@ -1,7 +1,7 @@
 -- The unit rule, whichever engine finds the least rounded energies: the first unit, half a unit that falls short, and
 -- the unit used.
 -- Assumes nothing.
-use Prim.Native.Nat.{ℕ, suc, ◌-◌, ◌*◌, ◌/◌, ◌^◌, ◌≤◌, ◌<◌}
+use Prim.Native.Nat.{ℕ, suc, ◌-◌, ◌*◌, ◌^◌, ◌≤◌, ◌<◌}
 use mathlib.Core.Path.{◌≡◌, ap, ◌∙◌}
 use mathlib.Core.Bool.{true, false, ◌||◌}
 use mathlib.Core.List.{List}
@@ -12,7 +12,7 @@ use lib.Dec.{eqb, leb}
 use lib.ListN.{replicate}
 use borrow.Author.Tests.{eqb-true, eqb-false, leb-true, leb-false}
 use Rattle.numbers.specs.Numbers.{total, LeastPower}
-use Rattle.arithmetic.specs.declared.Power.{Power}
+use Rattle.engine.specs.declared.Power.{Power}
 use Rattle.numbers.proofs.Tests.{or_true, or_false}
 use Rattle.selection.specs.Plan.{Problem, Fitting, plan_energy, fastest, threshold, IsLeastOf, FallsShortOf, IsUsedOf}
 use Rattle.selection.proofs.Bounds.{last_small, tried_in_table}
@@ -24,20 +24,18 @@ use Rattle.engine.proofs.Adding.{energies_low}
 -- What holds before a unit is tried, where 2 ^ first is the first unit.
 pub record Tried (p : Problem) (G first : ℕ) (unit : Power) : Type 0 where
   pub is_first : LeastPower (plan_energy p (fastest p)) first
-  pub power : unit.value ≡ 2 ^ unit.exponent
   pub tried : unit.exponent ≤ first
   pub goes_on : (b : ℕ) → unit.exponent < b → b ≤ first → FallsShortOf (Fitting p) p G (2 ^ b)
 
 -- The unit is the smallest power of two not below x, the energy with every task at the highest rate.
 module _ (q : Request) (loads energies : List ℕ) {x : ℕ} {unit : Power}
     (e : x ≡ total (option_at energies) q.tasks (replicate q.tasks q.rates))
-    (least : LeastPower x unit.exponent × (unit.value ≡ 2 ^ unit.exponent)) where
+    (least : LeastPower x unit.exponent) where
   pub tried_start : Tried (arrays q loads energies) q.slack unit.exponent unit
   unfolding fastest
   tried_start =
       record {
-        is_first = rw (← e) least.0;
-        power = least.1;
+        is_first = rw (← e) least;
         tried = omega arith;
         goes_on = λ b x y. absurd (omega arith);
       }
@@ -58,16 +56,15 @@ module _ {p : Problem} {G first k : ℕ} {unit : Power} (w : Tried p G first uni
     (least : IsLeastOf (Fitting p) p (2 ^ unit.exponent) k) where
   -- The rule goes on: half the unit is tried next.
   pub tried_turn : {next : Power} → 0 < unit.exponent → G * k < threshold p
-      → (next.exponent ≡ unit.exponent - 1) × (next.value ≡ unit.value / 2) → Tried p G first next
+      → next.exponent ≡ unit.exponent - 1 → Tried p G first next
   tried_turn {next} pos short is = record {
     is_first = w.is_first;
-    power = rw (is.0, is.1) (omega (arith, w.power, doubled pos));
-    tried = omega (arith, w.tried, is.0);
+    tried = omega (arith, w.tried, is);
     goes_on = λ b x y.
         ⊎_elim
         (λ (e : unit.exponent ≡ b). rw (← e) (k, least, short))
         (λ (e : unit.exponent < b). w.goes_on b e y)
-        (eq-or-lt_of_le (omega (arith, is.0)));
+        (eq-or-lt_of_le (omega (arith, is)));
   }
 
   -- The rule stops: the unit is used.

@@ -2,7 +2,6 @@
 -- gives. Not part of what a reader must believe: the calls' contracts speak of the set's own problem.
 use Rattle.std.specs.Prelude.{ℕ, ◌+◌, ◌*◌, ◌^◌, ◌≤◌, ◌<◌, ◌≡◌, List, length, get_or, take, drop}
 use Rattle.numbers.specs.Numbers.{ceil}
-use Rattle.arithmetic.specs.declared.Power.{Power}
 use Rattle.selection.specs.Plan.{Problem, plan_load, plan_energy, fastest, IsPlanned}
 use Rattle.engine.specs.declared.Request.{Request}
 use Rattle.engine.specs.declared.Choice.{Choice}
@@ -38,16 +37,9 @@ pub record SumReady (tasks : ℕ) (options plan : List ℕ) : Type 0 where
   pub numbers : (t : ℕ) → t < tasks → get_or plan t 0 ≤ 8
   pub small : Small load_bound options
 
--- An energy by the unit 2 ^ exponent; and what costs by a unit ask.
+-- An energy by the unit 2 ^ exponent.
 abbrev pub cost_of : List ℕ → ℕ → ℕ → ℕ
 cost_of energies exponent k = ceil (get_or energies k 0) (2 ^ exponent)
-
-pub record RoundReady (tasks : ℕ) (unit : Power) (energies cost : List ℕ) : Type 0 where
-  pub few : tasks ≤ 32
-  pub power : unit.value ≡ 2 ^ unit.exponent
-  pub low : unit.exponent ≤ 63
-  pub small : Small energy_bound energies
-  pub size : length cost ≡ 512
 
 -- The problem that the arrays give.
 abbrev pub arrays : Request → List ℕ → List ℕ → Problem

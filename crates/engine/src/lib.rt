@@ -3,11 +3,9 @@
 // them is asked and gives. Which plan, and how, is left to the engines.
 #![tactic(auto)]
 
-ghost use Rattle.std.specs.Prelude.{◌≡◌, ◌||◌, ◌-◌, ◌*◌, ◌/◌, ◌^◌, ◌≤◌, ◌<◌, eqb, leb, replicate};
-ghost use Rattle.numbers.specs.Numbers.{total};
-ghost use Rattle.engine.specs.Arrays.{option_at, Written, cost_of, load_bound, Small, RoundReady, SumReady};
-
-use arithmetic::Power;
+ghost use Rattle.std.specs.Prelude.{◌≡◌, ◌||◌, ◌-◌, ◌*◌, ◌^◌, ◌≤◌, ◌<◌, eqb, leb, replicate};
+ghost use Rattle.numbers.specs.Numbers.{total, LeastPower};
+ghost use Rattle.engine.specs.Arrays.{option_at, Written, cost_of, load_bound, energy_bound, Small, SumReady};
 
 // What a plan is chosen for: so many tasks and rates, the limit of the plan's load, and the slack.
 #[derive(Clone, Copy)]
@@ -26,18 +24,48 @@ pub struct Choice {
     pub energy: u64,
 }
 
+// A unit: a power of two that a word holds.
+#[derive(Clone, Copy)]
+pub struct Power {
+    pub exponent: u32,
+    pub value: u64,
+    pub ghost in_word: { exponent < 64 },
+    pub ghost power: { value ≡ 2 ^ exponent },
+}
+
+impl Power {
+    // Half the unit.
+    pub fn halved(self) -> Power
+        requires { 0 < self.exponent }
+        ensures { result.exponent ≡ self.exponent - 1 }
+    {
+        Power {
+            exponent: self.exponent - 1,
+            value: self.value / 2,
+        }
+    }
+}
+
+// The smallest power of two not below x.
+pub fn least_power(x: u64) -> Power
+    requires { x ≤ 2 ^ 63 }
+    ensures { LeastPower x result.exponent }
+{
+    let value = x.next_power_of_two();
+    Power {
+        exponent: value.ilog2(),
+        value,
+    }
+}
+
 // The energies of so many tasks divided by the unit, rounded up.
 pub fn round_up(energies: &[u64; 512], tasks: usize, unit: Power, cost: &mut [usize; 512])
-    requires { RoundReady tasks unit energies.now cost.old }
+    requires { (tasks ≤ 32) × Small energy_bound energies.now }
     ensures { Written (cost_of energies.now unit.exponent) 0 (tasks * 16) cost.old cost.new }
 {
-    let exponent = unit.exponent;
     let less = unit.value - 1;
-    let end = tasks * 16;
-    let mut k = 0;
-    while k < end {
-        cost[k] = ((energies[k] + less) >> exponent) as usize;
-        k += 1;
+    for k in 0..tasks * 16 {
+        cost[k] = ((energies[k] + less) >> unit.exponent) as usize;
     }
 }
 
@@ -47,11 +75,8 @@ pub fn sum(options: &[u64; 512], tasks: usize, plan: &[u32]) -> u64
     ensures { result ≡ total (option_at options.now) tasks plan.now }
 {
     let mut s: u64 = 0;
-    let mut t = 0;
-    while t < tasks {
-        let r = plan[t] as usize;
-        s += options[t * 16 + r];
-        t += 1;
+    for (t, r) in plan[..tasks].iter().enumerate() {
+        s += options[t * 16 + *r as usize];
     }
     s
 }
@@ -65,26 +90,11 @@ pub fn fastest_sum(options: &[u64; 512], tasks: usize, rates: usize) -> u64
     sum(options, tasks, &plan)
 }
 
-// Whether the unit rule stops at a unit with this least rounded energy of a plan that fits: at unit 1, and where slack
+// Whether the unit rule stops at the unit 2 ^ exponent, with this least rounded energy of a plan that fits: at unit 1, and where slack
 // times that energy is at least 2,000 for each task.
-pub fn stops(unit: Power, tasks: usize, slack: u32, least: usize) -> bool
+pub fn stops(exponent: u32, tasks: usize, slack: u32, least: usize) -> bool
     requires { (tasks ≤ 32) × (slack * least < 2 ^ 64) }
-    ensures { result ≡ (eqb unit.exponent 0 || leb (2000 * tasks) (slack * least)) }
+    ensures { result ≡ (eqb exponent 0 || leb (2000 * tasks) (slack * least)) }
 {
-    if unit.exponent == 0 {
-        true
-    } else {
-        2_000 * tasks <= slack as usize * least
-    }
-}
-
-// Half a unit.
-pub fn halved(unit: Power) -> Power
-    requires { 0 < unit.exponent }
-    ensures { (result.exponent ≡ unit.exponent - 1) × (result.value ≡ unit.value / 2) }
-{
-    Power {
-        exponent: unit.exponent - 1,
-        value: unit.value / 2,
-    }
+    exponent == 0 || 2_000 * tasks <= slack as usize * least
 }

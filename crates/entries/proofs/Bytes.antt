@@ -1,15 +1,19 @@
 -- Bytes put into a list, and read back.
 -- Assumes nothing.
-use Prim.Native.Nat.{ℕ, zero, suc, ◌+◌, ◌-◌, ◌*◌, ◌/◌, ◌%◌, ◌^◌, ◌≤◌, ◌<◌}
+use Prim.Native.Nat.{ℕ, zero, suc, ◌+◌, ◌*◌, ◌/◌, ◌%◌, ◌^◌, ◌≤◌, ◌<◌}
 use mathlib.Core.Path.{◌≡◌, refl, sym, ap, ◌∙◌}
 use mathlib.Core.List.{List, [], ◌∷◌, ◌++◌, append_assoc, append-nil}
-use native.Mathlib.Nat.{add-zero, pow-succ', div-lt_iff_lt-mul}
-use native.Mathlib.Numerals.{add-one}
+use native.Mathlib.Nat.{pow-succ', div-lt_iff_lt-mul}
 use native.Mathlib.Omega.{arith}
-use lib.ListN.{length, get_or, take, drop, set, length-append, take-append-drop}
-use lib.Seq.{take-suc-set, drop-set-lt, take-append_seam, drop-append-add, drop-drop, take_at}
+use lib.ListN.{length, get_or, take, drop, length-append}
+use lib.Seq.{take-append_seam, drop-append-add, drop-drop, take_at}
 use Rattle.entries.specs.Entry.{bytes_of, result_bytes, value_of, result_at}
-use Rattle.entries.specs.Put.{placed, Placed, Four}
+use borrow.Rule.Slice.PartMut.{put_mid}
+use Rattle.std.specs.Int.{w64, bytes_low_first, to_le_bytes}
+use Rattle.std.proofs.Math.Nat.{div-div-eq-div-mul}
+use lib.ListN.{length-drop}
+use lib.Seq.{length-take-le}
+use Rattle.entries.specs.Put.{placed, Placed}
 
 -- "lowest byte first": 258 is 2 and 1 × 256.
 lowest_first : result_bytes (258 ∷ []) ≡ 2 ∷ 1 ∷ 0 ∷ 0 ∷ 0 ∷ 0 ∷ 0 ∷ 0 ∷ []
@@ -21,26 +25,29 @@ unfolding bytes_of
 length-bytes zero v = refl
 length-bytes (suc k) v = ap suc (length-bytes k (v / 256))
 
--- ---- putting
-pub placed-none : (k : ℕ) (d : List ℕ) → placed k [] d ≡ d
-unfolding placed
-placed-none k d = rw (add-zero k) (take-append-drop k d)
-
-pub placed-set : (k b : ℕ) (xs d : List ℕ) → k < length d → placed (k + 1) xs (set d k b) ≡ placed k (b ∷ xs) d
-unfolding placed
-placed-set k b xs d l =
-    let e : k + 1 + length xs ≡ k + suc (length xs) = omega arith in
-    rw (drop-set-lt (k + 1 + length xs) d k b (omega arith), e, add-one k, take-suc-set d k b l)
-    (append_assoc (take k d) (b ∷ []) (xs ++ drop (k + suc (length xs)) d))
-
--- the turn of the loop: the lowest byte is put, the rest goes on
-pub bytes-step : (i v : ℕ) → i < 8 → bytes_of (8 - i) v ≡ v % 256 ∷ bytes_of (8 - (i + 1)) (v / 256)
+-- ---- putting: the library's bytes of a number, lowest first, are these
+low_first : (i k v : ℕ) → bytes_low_first (suc i) k v ≡ bytes_of k (v / 256 ^ suc i)
 unfolding bytes_of
-bytes-step i v h = let e : 8 - i ≡ suc (8 - (i + 1)) = omega arith in rw e refl
+low_first i zero v = refl
+low_first i (suc k) v =
+    let shifted : v / 256 ^ suc i / 256 ≡ v / 256 ^ suc (suc i)
+    = div-div-eq-div-mul v (256 ^ suc i) 256 ∙ ap (λ (x : ℕ). v / x) (omega (arith, pow-succ' 256 (suc i))) in
+    ap (λ (xs : List ℕ). v / 256 ^ suc i % 256 ∷ xs) (low_first (suc i) k v ∙ ap (bytes_of k) (sym shifted))
 
-pub bytes-end : (i v : ℕ) → 8 ≤ i → bytes_of (8 - i) v ≡ []
+bytes_are : (v : ℕ) → to_le_bytes w64 v ≡ bytes_of 8 v
 unfolding bytes_of
-bytes-end i v h = let e : 8 - i ≡ 0 = omega arith in rw e refl
+bytes_are v = ap (λ (xs : List ℕ). v % 256 ∷ xs) (low_first 0 7 v ∙ ap (bytes_of 7) (ap (λ (x : ℕ). v / x) (omega arith)))
+
+-- They are put in a part of a list.
+pub part_placed : (at k v : ℕ) (ys d : List ℕ) → k ≡ 8 → ys ≡ to_le_bytes w64 v → at + 8 ≤ length d → Placed at v d (put_mid at k d ys)
+unfolding placed
+part_placed at k v ys d e is room =
+    let same : ys ≡ bytes_of 8 v = is ∙ bytes_are v in
+    let bytes : put_mid at k d ys ≡ placed at (bytes_of 8 v) d = rw (same, e, drop-drop, length-bytes) refl in
+    record {
+      bytes = bytes;
+      size = ap length bytes ∙ rw (length-append, length-append, length-bytes, length-drop, length-take-le at d (omega arith)) (omega arith);
+    }
 
 -- ---- four values, one behind the other
 placed-next : (f xs d : List ℕ) (k : ℕ) → placed (length f) xs (f ++ drop k d) ≡ (f ++ xs) ++ drop (k + length xs) d
@@ -58,7 +65,7 @@ put_next k v f d d₁ d₂ s e p =
 longer : (k v : ℕ) (f : List ℕ) → length f ≡ k → length (f ++ bytes_of 8 v) ≡ k + 8
 longer k v f s = simp length-append (omega (arith, length-bytes 8 v))
 
-pub four : (a b c e : ℕ) (d d₁ d₂ d₃ d₄ : List ℕ) → Placed 0 a d d₁ → Placed 8 b d₁ d₂ → Placed 16 c d₂ d₃ → Placed 24 e d₃ d₄ → Four a b c e d d₄
+pub four : (a b c e : ℕ) (d d₁ d₂ d₃ d₄ : List ℕ) → Placed 0 a d d₁ → Placed 8 b d₁ d₂ → Placed 16 c d₂ d₃ → Placed 24 e d₃ d₄ → d₄ ≡ result_bytes (a ∷ b ∷ c ∷ e ∷ []) ++ drop 32 d
 unfolding result_bytes
 four a b c e d d₁ d₂ d₃ d₄ p q r s =
     let x₁ = put_next 0 a [] d d d₁ refl refl p in
@@ -66,7 +73,7 @@ four a b c e d d₁ d₂ d₃ d₄ p q r s =
     let two = longer 8 b (bytes_of 8 a) (length-bytes 8 a) in
     let x₃ = put_next 16 c (bytes_of 8 a ++ bytes_of 8 b) d d₂ d₃ two x₂ r in
     let x₄ = put_next 24 e ((bytes_of 8 a ++ bytes_of 8 b) ++ bytes_of 8 c) d d₃ d₄ (longer 16 c (bytes_of 8 a ++ bytes_of 8 b) two) x₃ s in
-    record { bytes = x₄ ∙ simp (append_assoc, append-nil); size = s.size ∙ r.size ∙ q.size ∙ p.size }
+    x₄ ∙ simp (append_assoc, append-nil)
 
 -- ---- reading
 pub value_of_bytes : (k v : ℕ) → v < 256 ^ k → value_of (bytes_of k v) ≡ v

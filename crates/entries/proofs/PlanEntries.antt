@@ -1,5 +1,6 @@
 -- From the answers of a call that plans to what its C entry gives.
 -- Assumes nothing.
+use Rattle.std.specs.Prelude.{Ok, Err}
 use Prim.Native.Nat.{ℕ, ◌^◌, ◌≤◌, ◌<◌}
 use mathlib.Core.Path.{◌≡◌, refl, sym, ap, subst, ◌∙◌}
 use mathlib.Core.List.{List, [], ◌∷◌, ◌++◌}
@@ -13,13 +14,10 @@ use Rattle.taskset.specs.Refusals.{number, second, Check, Accepts, Refuses, ◌�
 use Rattle.taskset.specs.Refusals.{ready_checks, planner_checks}
 use Rattle.taskset.specs.Calls.{code, SetAfter, RateNumbers, PlanGives}
 use Rattle.taskset.specs.DemandThree.{PlanPromise}
-use Rattle.taskset.specs.declared.Checked.TheVariants.{Refused as NotGood}
 use Rattle.taskset.specs.declared.Engine.{Engine}
 use Rattle.taskset.specs.declared.Engine.TheVariants.{Exhaustive}
 use Rattle.taskset.specs.declared.Refusal.{Refusal}
 use Rattle.taskset.specs.declared.Refusal.TheVariants.{TooShort}
-use Rattle.taskset.specs.declared.PlannerAnswer.{PlannerAnswer}
-use Rattle.taskset.specs.declared.PlannerAnswer.TheVariants.{Planned, Refused as NotPlanned}
 use Rattle.taskset.proofs.Checks.{without_next, accepts_back, accepts_but_last, accepts_next}
 use Rattle.taskset.proofs.Checks.{refuses_next, refuses_before, refuses_back, refuses_rest}
 use Rattle.taskset.proofs.Small.{planner_second_small}
@@ -29,9 +27,23 @@ use Rattle.taskset.proofs.Margin.{InBits, margin_small, list_in_bits}
 use Rattle.planner.specs.Answers.{PlannerCall}
 use Rattle.entries.specs.Entry.{result_bytes, result_at, result_size, before_seven, plan_entry_checks, PlansEntry}
 use Rattle.entries.specs.Entry.{PlanEntry, DullEntry}
-use Rattle.entries.specs.Put.{Four, AnswerSmall, AnswerPut}
+use Rattle.entries.specs.Put.{EntryAnswer, Left, Answers, EnoughAfter}
 use Rattle.entries.proofs.Bytes.{result_value}
 use Rattle.entries.proofs.Entries.{code_positive}
+use Rattle.taskset.specs.Answers.{PlannerAnswer, ok_planned}
+
+-- A planner's answer as an entry's; it can be put, and what it leaves.
+abbrev pub values_of : PlannerAnswer → EntryAnswer
+values_of (Ok p) = Ok (p.unit, p.load, p.hyper, p.energy)
+values_of (Err r) = Err r
+
+abbrev AnswerSmall : PlannerAnswer → Type 0
+AnswerSmall (Ok p) = Unit {0}
+AnswerSmall (Err r) = second r < 2 ^ 32
+
+abbrev AnswerPut : PlannerAnswer → (d d' : List ℕ) → ℕ → Type 0
+AnswerPut (Ok p) = Left (values_of (Ok p))
+AnswerPut (Err r) = Left (values_of (Err r))
 
 -- m is what is planned, with figures that fit the bytes where the checks pass, and d the result bytes as lent; cs are the
 -- call's own checks but 7, whose second numbers are small, with that of 7. Gives and Unchanged are of the lists that the
@@ -98,9 +110,9 @@ module _ (m : Planning) (cs : List Check) (plans : Plans m cs) (bits : Accepts c
 
   -- A plan.
   module _ (enough : 32 ≤ length d) (plan plan' d' : List ℕ) (unit load hyper energy : ℕ)
-      (g : PlanGives (cs ▹ seven) m plan plan' (Planned unit load hyper energy))
-      (gives : Gives (Planned unit load hyper energy))
-      (numbers : RateNumbers m plan' (Planned unit load hyper energy))
+      (g : PlanGives (cs ▹ seven) m plan plan' (ok_planned unit load hyper energy))
+      (gives : Gives (ok_planned unit load hyper energy))
+      (numbers : RateNumbers m plan' (ok_planned unit load hyper energy))
       (bytes : d' ≡ result_bytes (unit ∷ load ∷ hyper ∷ energy ∷ []) ++ drop 32 d) where
     six_passes : Accepts before
     six_passes = accepts_next cs six (accepts_but_last cs seven g.0) (λ k h. omega (arith, h.0))
@@ -129,11 +141,11 @@ module _ (m : Planning) (cs : List Check) (plans : Plans m cs) (bits : Accepts c
         let energy_few : energy < 2 ^ energy_bits = omega (arith, energy_is, inside.energies P fits) in
         let energy-read : result_at d' 3 ≡ energy = read 3 (omega arith) (omega (arith, energy_few)) in
         let promise : PlanPromise m (take m.problem.count plan') unit energy
-        = answer_owes m cs plans plan plan' (Planned unit load hyper energy) g in
+        = answer_owes m cs plans plan plan' (ok_planned unit load hyper energy) g in
         let promise_read : PlanPromise m (take m.problem.count plan') (result_at d' 0) (result_at d' 3) =
         rw (unit_read, energy-read) promise in
         record {
-          gives = inl (Planned unit load hyper energy, accepted, gives, refl, bytes);
+          gives = inl (ok_planned unit load hyper energy, accepted, gives, refl, bytes);
           numbers = λ z. numbers;
           promise = λ z. promise_read;
           margin_fits = λ z. rw (unit_read, unit_is) (omega (arith, margin));
@@ -146,31 +158,18 @@ module _ (m : Planning) (cs : List Check) (plans : Plans m cs) (bits : Accepts c
 
   -- Any answer, after the checks before 7, and what was put of it.
   answered : Accepts cs → 32 ≤ length d → (plan plan' d' : List ℕ) (x : ℕ) (a : PlannerAnswer)
-      → PlanGives (cs ▹ seven) m plan plan' a → Gives a → ((r : Refusal) → Gives (NotPlanned r) → Unchanged)
+      → PlanGives (cs ▹ seven) m plan plan' a → Gives a → ((r : Refusal) → Gives (Err r) → Unchanged)
       → RateNumbers m plan' a → AnswerPut a d d' x → PlansEntry cs Gives Unchanged m plan' d d' x
-  answered accepts enough plan plan' d' x (Planned unit load hyper energy) g gives unchanged numbers put =
-      rw put.0 (entry-planned enough plan plan' d' unit load hyper energy g gives numbers put.1.bytes)
-  answered accepts enough plan plan' d' x (NotPlanned r) g gives unchanged numbers put =
+  answered accepts enough plan plan' d' x (Ok p) g gives unchanged numbers put =
+      rw put.0 (entry-planned enough plan plan' d' p.unit p.load p.hyper p.energy g gives numbers put.1)
+  answered accepts enough plan plan' d' x (Err r) g gives unchanged numbers put =
       rw put.1 (answer_refused plan' (unchanged r gives) r x put.0 accepts enough g.0)
 
 -- The second number of an answer is small where those of its checks are.
 answer_small : (m : Planning) (cs : List Check) → ((n k : ℕ) → Refuses cs n k → k < 2 ^ 32)
     → (plan plan' : List ℕ) (a : PlannerAnswer) → PlanGives cs m plan plan' a → AnswerSmall a
-answer_small m cs small plan plan' (Planned unit load hyper energy) g = tt
-answer_small m cs small plan plan' (NotPlanned r) g = small (number r) (second r) g.0
-
--- What is put of an answer, by its cases; it leaves as many bytes as there were.
-pub put_refused : (d : List ℕ) (x : ℕ) (r : Refusal) (a : PlannerAnswer) → a ≡ NotPlanned r → x ≡ code r
-    → AnswerPut a d d x
-put_refused d x r a e h = subst (λ (z : PlannerAnswer). AnswerPut z d d x) (sym e) (h, refl)
-
-pub put_planned : (d d' : List ℕ) (unit load hyper energy : ℕ) (a : PlannerAnswer) → a ≡ Planned unit load hyper energy
-    → Four unit load hyper energy d d' → AnswerPut a d d' 0
-put_planned d d' unit load hyper energy a e f = subst (λ (z : PlannerAnswer). AnswerPut z d d' 0) (sym e) (refl, f)
-
-pub put_size : (a : PlannerAnswer) (d d' : List ℕ) (x : ℕ) → AnswerPut a d d' x → length d' ≡ length d
-put_size (Planned unit load hyper energy) d d' x put = put.1.size
-put_size (NotPlanned r) d d' x put = ap length put.1
+answer_small m cs small plan plan' (Ok p) g = tt
+answer_small m cs small plan plan' (Err r) g = small (number r) (second r) g.0
 
 -- ---- a list, planned by an engine
 module _ (e : Engine) (s plan work d : List ℕ) where
@@ -190,11 +189,11 @@ module _ (e : Engine) (s plan work d : List ℕ) where
   seconds = planner_second_small e s (length plan) (length work)
 
   -- A refusal of the checks before 7 is the entry's, and its second number is small.
-  pub list_refused : (r : Refusal) (x : ℕ) → x ≡ code r → SetAfter checks (layout_of e) s (NotGood r)
+  pub list_refused : (r : Refusal) (x : ℕ) → x ≡ code r → SetAfter checks (layout_of e) s (Err r)
       → PlanEntry e s plan work d plan work d x
   list_refused r x is h = ready_refused planned checks plans inside seconds d _ _ plan (refl, refl) r x is h
 
-  pub refused_small : (r : Refusal) → SetAfter checks (layout_of e) s (NotGood r) → second r < 2 ^ 32
+  pub refused_small : (r : Refusal) → SetAfter checks (layout_of e) s (Err r) → second r < 2 ^ 32
   refused_small r h =
       seconds (number r) (second r)
       (refuses_before checks (none_check (Fitting (problem_of (layout_of e) s))) (number r) (second r) h)
@@ -214,6 +213,36 @@ module _ (e : Engine) (s plan work d : List ℕ) where
     list_answered accepts enough d' x put =
         answered planned checks plans inside seconds d _ _ accepts enough plan plan' d' x a call.gives.0 call.gives
         (λ r g. (g.0.1, g.1)) call.numbers put
+
+-- Before it is left in so many bytes: a refusal of the checks, one of the bytes, and the answer of the call.
+module _ (e : Engine) (s plan work : List ℕ) (size : ℕ) where
+  abbrev Entry : (plan' work' d d' : List ℕ) → ℕ → Type 0
+  Entry plan' work' d = PlanEntry e s plan work d plan' work'
+
+  pub checks_refused : (r : Refusal) → SetAfter (checks e s plan work []) (layout_of e) s (Err r) → Answers (Entry plan work) size (Err r)
+  checks_refused r h = record {
+    fits = refused_small e s plan work [] r h;
+    gives = λ d d' x is left. subst (λ (z : List ℕ). Entry plan work d z x) (sym left.1) (list_refused e s plan work d r x left.0 h);
+  }
+
+  pub bytes_refused : (r : Refusal) → Accepts (checks e s plan work []) → EnoughAfter size (Err r) → Answers (Entry plan work) size (Err r)
+  bytes_refused r a h = record {
+    fits = let k : second r ≡ 32 = ap second h.0 in omega arith;
+    gives = λ d d' x is left.
+        subst (λ (z : List ℕ). Entry plan work d z x) (sym left.1)
+        (list_few e s plan work d x (left.0 ∙ ap code h.0) a (omega (arith, h.1)));
+  }
+
+  pub call_answered : {plan' work' : List ℕ} (a : PlannerAnswer) → PlannerCall e s plan work plan' work' a → Accepts (checks e s plan work []) → 32 ≤ size
+      → Answers (Entry plan' work') size (values_of a)
+  call_answered (Ok p) call accepts enough = record {
+    fits = enough;
+    gives = λ d d' x is left. list_answered e s plan work d {a = Ok p} call accepts (omega arith) d' x left;
+  }
+  call_answered (Err r) call accepts enough = record {
+    fits = given_small e s plan work [] {a = Err r} call;
+    gives = λ d d' x is left. list_answered e s plan work d {a = Err r} call accepts (omega arith) d' x left;
+  }
 
 -- What an entry gives goes over to other lists that its call is lent besides.
 entry_with : {cs : List Check} {m : Planning} {plan' d d' : List ℕ} {x : ℕ} {Gives Other : PlannerAnswer → Type 0}

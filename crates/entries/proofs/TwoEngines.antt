@@ -15,13 +15,13 @@ use Rattle.taskset.specs.Refusals.{number, second, Check, work_check, many_check
 use Rattle.taskset.specs.Calls.{code, planner_values, PlanGives}
 use Rattle.taskset.specs.declared.Engine.TheVariants.{Table, Exhaustive}
 use Rattle.taskset.specs.declared.Refusal.{Refusal}
-use Rattle.taskset.specs.declared.PlannerAnswer.{PlannerAnswer}
 use Rattle.taskset.proofs.Checks.{AllSingle, accepts_back, accepts_leave, refuses_leave}
 use Rattle.taskset.proofs.Unique.{short_single, none_single, single_next, covered_single, plan_unique}
 use Rattle.taskset.proofs.TwoEngines.{refused_with, both, set, rest, both_single, leave, one_answer}
 use Rattle.planner.specs.Answers.{PlannerCall}
 use Rattle.entries.specs.Entry.{result_size, EntryGives, PlanEntry, DullEntry}
 use Rattle.entries.proofs.Unique.{entry_unique}
+use Rattle.taskset.specs.Answers.{PlannerAnswer}
 
 -- ---- the calls. On one list and one plan list, unless the planner refuses with 5 or the dull engine with 11, there is
 -- one answer, a plan's four numbers or a refusal, and one plan list, whatever working words are lent.

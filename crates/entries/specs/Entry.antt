@@ -1,5 +1,5 @@
 -- What a C caller is given (document 01, 'The planner and its neighbours').
-use Rattle.std.specs.Prelude.{ℕ, zero, suc, ◌+◌, ◌*◌, ◌/◌, ◌%◌, ◌^◌, ◌<◌, ◌≡◌, List, [], ◌∷◌, ◌++◌, ◌⊎◌, ◌↔◌, length, get_or, take, drop}
+use Rattle.std.specs.Prelude.{ℕ, zero, suc, ◌+◌, ◌*◌, ◌/◌, ◌%◌, ◌^◌, ◌<◌, ◌≡◌, List, [], ◌∷◌, ◌++◌, ◌⊎◌, ◌↔◌, length, get_or, take, drop, Ok, Err}
 use Rattle.schedule.specs.Walk.{KeepsForEver}
 use Rattle.selection.specs.Plan.{Fitting, plan_load}
 use Rattle.layout.specs.declared.Layout.TheVariants.{Ordinary}
@@ -12,11 +12,9 @@ use Rattle.taskset.specs.DemandThree.{margin, PlanPromise, NoneKeeps, Together, 
 use Rattle.taskset.specs.declared.Engine.{Engine}
 use Rattle.taskset.specs.declared.Engine.TheVariants.{Exhaustive}
 use Rattle.taskset.specs.declared.Refusal.{Refusal}
-use Rattle.taskset.specs.declared.PlannerAnswer.{PlannerAnswer}
-use Rattle.taskset.specs.declared.CopyAnswer.{CopyAnswer}
-use Rattle.taskset.specs.declared.CopyAnswer.TheVariants.{Wrote, Refused as NotCopied}
 use Rattle.draws.specs.Generated.{generated}
 use Rattle.draws.specs.Calls.{generator_checks, GeneratorGives, PassesChecks}
+use Rattle.taskset.specs.Answers.{CopyAnswer, PlannerAnswer}
 
 -- "It leaves its results, eight bytes each, lowest byte first": the first k bytes of a value, and the bytes of a list
 -- of values.
@@ -112,8 +110,8 @@ generate_entry_checks seed n setLength size = generator_checks seed n setLength 
 
 -- "writes a set and returns its length": the first value; the others are 0.
 abbrev pub generator_values : CopyAnswer → List ℕ
-generator_values (Wrote k) = k ∷ 0 ∷ 0 ∷ 0 ∷ []
-generator_values (NotCopied r) = []
+generator_values (Ok k) = k ∷ 0 ∷ 0 ∷ 0 ∷ []
+generator_values (Err r) = []
 
 -- set and results are the lists as lent, set' and results' as given back.
 abbrev pub GenerateEntryGives : (seed n : ℕ) (set results set' results' : List ℕ) → ℕ → Type 0

@@ -8,6 +8,7 @@ use native.Mathlib.Nat.{mul-le-mul_right}
 use native.Mathlib.Omega.{arith}
 use lib.ListN.{get_or, take, replicate}
 use lib.Seq.{ext_get_or}
+use Rattle.std.specs.Prelude.{Option, Some, IsSome}
 use Rattle.numbers.specs.Numbers.{total}
 use Rattle.numbers.proofs.Tests.{lt_or_le}
 use Rattle.numbers.proofs.Powers.{power_positive}
@@ -20,15 +21,14 @@ use Rattle.engine.specs.declared.Request.{Request}
 use Rattle.engine.specs.Arrays.{option_at, Written, load_bound, energy_bound, Small, cost_of, arrays, ChosenBy}
 use Rattle.engine.specs.Arrays.{SumReady}
 use Rattle.engine.proofs.Writing.{zeros_at}
-use Rattle.engine.proofs.Adding.{sum_low}
 use Rattle.engine.proofs.Chosen.{front_size, front_at, sum_ready, chosen_by}
 use Rattle.exhaustive.specs.declared.Best.{Best}
 use Rattle.exhaustive.specs.declared.Used.{Used}
 use Rattle.exhaustive.specs.Order.{rank}
-use Rattle.exhaustive.specs.Engine.{Numbered, Kept, Seen, ArraysReady, AllReady, ChosenAt, UnitUsed}
+use Rattle.exhaustive.specs.Engine.{Numbered, Seen, ArraysReady, AllReady, ChosenAt, UnitUsed}
 use Rattle.exhaustive.specs.Engine.{PutReady, PlanPut, ExhaustiveReady}
 use Rattle.exhaustive.proofs.Order.{rank_below, rank_order, rank_same}
-use Rattle.exhaustive.proofs.Seeing.{plan_numbered, seen_kept}
+use Rattle.exhaustive.proofs.Seeing.{plan_numbered, some_kept}
 
 -- ---- one unit
 -- The arrays with the costs of any unit 2 ^ a keep to what the engine asks of them.
@@ -84,41 +84,37 @@ module _ {q : Request} {loads energies : List ℕ} {plans : ℕ} (g : AllReady q
   ranked : {Q : List ℕ} → Fitting p Q → rank q.rates q.tasks Q < q.rates ^ q.tasks
   ranked {Q} f = rank_below q.rates q.tasks Q (plan_numbered f.plan)
 
-  module _ {b : Best} (seen : Seen by_cost (q.rates ^ q.tasks) b) where
-    fast : Fitting p (fastest p)
-    fast = fastest_fits p g.asked.rates.0 g.asked.fits
+  fast : Fitting p (fastest p)
+  fast = fastest_fits p g.asked.rates.0 g.asked.fits
 
-    kept : Kept by_cost (q.rates ^ q.tasks) b
-    kept =
-        seen_kept seen (fastest p) (to fast)
-        (omega (arith, sum_low energy_bound cost (fastest p) q.tasks costs_small g.asked.tasks)) (ranked fast)
+  pub some_best : (kept : Option Best) → Seen by_cost (q.rates ^ q.tasks) kept → IsSome kept
+  some_best kept seen = some_kept by_cost (q.rates ^ q.tasks) kept seen (fastest p) (to fast) (ranked fast)
 
-    kept_cost : rounded p (2 ^ a) kept.plan ≡ b.cost
-    kept_cost = sym (costs kept.plan (back kept.fit).plan) ∙ kept.cost_is
-
-    pub all_chosen : ChosenAt p (2 ^ a) b
-    all_chosen = record {
-      plan = kept.plan;
-      chosen = record {
-        ok = back kept.fit;
-        least_energy = λ Q f. omega (arith, kept_cost, costs Q f.plan, seen.least_cost Q (to f) (ranked f));
-        least_load = λ Q f e.
-            omega (arith, kept.load_is, seen.least_load Q (to f) (ranked f) (costs Q f.plan ∙ e ∙ kept_cost));
-        lowest = λ Q f e l.
-            rank_order q.rates q.tasks kept.plan Q (plan_numbered kept.fit.plan) (plan_numbered f.plan)
-            (omega (
-              arith,
-              kept.rank_is,
-              seen.first Q (to f) (ranked f) (costs Q f.plan ∙ e ∙ kept_cost) (l ∙ kept.load_is),
-            ));
-      };
-      cost_is = kept_cost;
-      load_is = kept.load_is;
-      rank_is = kept.rank_is;
-    }
+  pub all_chosen : {b : Best} → Seen by_cost (q.rates ^ q.tasks) (Some b) → ChosenAt p (2 ^ a) b
+  all_chosen {b} kept =
+      let kept_cost : rounded p (2 ^ a) kept.plan ≡ b.sums.cost = sym (costs kept.plan (back kept.fit).plan) ∙ kept.cost_is in
+      record {
+        plan = kept.plan;
+        chosen = record {
+          ok = back kept.fit;
+          least_energy = λ Q f. omega (arith, kept_cost, costs Q f.plan, kept.least_cost Q (to f) (ranked f));
+          least_load = λ Q f e.
+              omega (arith, kept.load_is, kept.least_load Q (to f) (ranked f) (costs Q f.plan ∙ e ∙ kept_cost));
+          lowest = λ Q f e l.
+              rank_order q.rates q.tasks kept.plan Q (plan_numbered kept.fit.plan) (plan_numbered f.plan)
+              (omega (
+                arith,
+                kept.rank_is,
+                kept.first Q (to f) (ranked f) (costs Q f.plan ∙ e ∙ kept_cost) (l ∙ kept.load_is),
+              ));
+        };
+        cost_is = kept_cost;
+        load_is = kept.load_is;
+        rank_is = kept.rank_is;
+      }
 
 -- The chosen plan's cost is k(d).
-pub best_least : {p : Problem} {d : ℕ} {b : Best} → ChosenAt p d b → IsLeastOf (Fitting p) p d b.cost
+pub best_least : {p : Problem} {d : ℕ} {b : Best} → ChosenAt p d b → IsLeastOf (Fitting p) p d b.sums.cost
 best_least c = record {
   plan = c.plan;
   ok = c.chosen.ok;
@@ -164,7 +160,7 @@ module _ {q : Request} {loads energies plan₀ : List ℕ} (g : ExhaustiveReady 
       plan_ready = sum_ready g.engine plan w.same u.exponent chosen
 
       pub engine_chosen : {e : ℕ} → e ≡ total (option_at energies) q.tasks plan
-          → ChosenBy q loads energies plan₀ plan (record { unit = o.unit; load = o.best.load; energy = e })
+          → ChosenBy q loads energies plan₀ plan (record { unit = o.unit; load = o.best.sums.load; energy = e })
       engine_chosen sum =
           chosen_by g.engine plan w.same u.exponent chosen u.unit_is u.used
           (sym u.best.load_is ∙

@@ -1,10 +1,10 @@
--- How many plans there are, counted up to a most; and the plan of a rank, digit by digit.
+-- The plan of a rank, digit by digit.
 -- Assumes nothing.
-use Prim.Native.Nat.{ℕ, ◌+◌, ◌-◌, ◌*◌, ◌/◌, ◌%◌, ◌^◌, ◌≤◌, ◌<◌, min}
+use Prim.Native.Nat.{ℕ, ◌+◌, ◌-◌, ◌*◌, ◌/◌, ◌%◌, ◌^◌, ◌≤◌, ◌<◌}
 use mathlib.Core.Path.{◌≡◌, refl, ap, ◌∙◌}
 use mathlib.Core.List.{List}
 use mathlib.Core.Logic.{⊎_elim}
-use native.Mathlib.Nat.{eq-or-lt_of_le, mul-le-mul_left, mul-le-mul_right, pow-zero, pow-succ', div-add-mod', mod-lt}
+use native.Mathlib.Nat.{eq-or-lt_of_le, mul-le-mul_right, pow-zero, pow-succ', div-add-mod', mod-lt}
 use native.Mathlib.Numerals.{add-one}
 use native.Mathlib.Omega.{arith}
 use lib.ListN.{length, get_or, set, length-set}
@@ -15,19 +15,6 @@ use Rattle.exhaustive.specs.Order.{rank}
 use Rattle.exhaustive.specs.Engine.{Numbered, PutReady, PlanPut}
 use Rattle.exhaustive.proofs.Order.{moves}
 
--- ---- how many plans
--- One task more, where k stands for 'as many or more'.
-pub count_turn : (m t k : ℕ) {plans : ℕ} → 1 ≤ m → plans ≡ min (m ^ t) k → min (plans * m) k ≡ min (m ^ (t + 1)) k
-count_turn m t k {plans} some e =
-    rw (add-one t, pow-succ' m t)
-    (⊎_elim
-    (λ (l : m ^ t < k). let is : plans ≡ m ^ t = omega arith in rw is (omega arith))
-    (λ (l : k ≤ m ^ t).
-    let is : plans ≡ k = omega arith in
-    omega (arith, mul-le-mul_left plans some, mul-le-mul_left (m ^ t) some))
-    (lt_or_le (m ^ t) k))
-
--- ---- the plan of a rank
 -- The first t numbers are written; what is left of the rank counts plans of the tasks from there on.
 pub record Put (m n i : ℕ) (plan₀ plan : List ℕ) (left t : ℕ) : Type 0 where
   pub to : t ≤ n

@@ -10,6 +10,7 @@ use native.Mathlib.Numerals.{add-one}
 use native.Mathlib.Omega.{arith}
 use lib.ListN.{length, get_or, set, replicate, length-set, length-replicate, get_or-replicate}
 use lib.Seq.{get_or-set_same, get_or-set_other}
+use Rattle.std.specs.Prelude.{Option, None}
 use Rattle.numbers.specs.Numbers.{total}
 use Rattle.numbers.proofs.Sums.{total_at, total_bound, total-set}
 use Rattle.engine.specs.declared.Request.{Request}
@@ -18,7 +19,7 @@ use Rattle.engine.proofs.Adding.{sum_low, sum_turn}
 use Rattle.exhaustive.specs.declared.Sums.{Sums}
 use Rattle.exhaustive.specs.declared.Best.{Best}
 use Rattle.exhaustive.specs.Order.{rank}
-use Rattle.exhaustive.specs.Engine.{no_cost, Numbered, Looked, Seen, ArraysReady, InHand, ChangeReady, Changed}
+use Rattle.exhaustive.specs.Engine.{Numbered, Looked, Seen, ArraysReady, InHand, ChangeReady, Changed}
 use Rattle.exhaustive.specs.Engine.{BlockReady, Advanced}
 use Rattle.exhaustive.proofs.Order.{moves, adds}
 use Rattle.exhaustive.proofs.Seeing.{seen_none, seen_more}
@@ -97,7 +98,7 @@ module _ {q : Request} {loads cost P : List ℕ} {s : Sums} (g : ArraysReady q l
       }
 
 -- ---- the plans that differ in task 1's rate alone
-module _ {q : Request} {loads cost : List ℕ} {s : Sums} {i : ℕ} {b : Best} (g : BlockReady q loads cost s i b)
+module _ {q : Request} {loads cost : List ℕ} {s : Sums} {i : ℕ} {kept : Option Best} (g : BlockReady q loads cost s i kept)
     (r : ℕ) (above : 1 ≤ r) (below : r ≤ q.rates) where
   one : 1 ≡ 0 * 16 + get_or g.plan 0 0
   one = omega (arith, g.hand.first)
@@ -108,15 +109,12 @@ module _ {q : Request} {loads cost : List ℕ} {s : Sums} {i : ℕ} {b : Best} (
   pub block_change : ChangeReady loads cost s 1 r
   block_change = change_ready g.posed g.hand 0 r g.posed.tasks.0 above below one that
 
-  -- k is the rank of the plan with rate r for task 1.
-  pub block_turn : {k : ℕ} {best best' : Best} {s' : Sums} → k + 1 ≡ i + r → Changed loads cost s 1 r s'
-      → Seen (arrays q loads cost) k best
-      → Looked q.limit s' k best best'
-      → Seen (arrays q loads cost) (k + 1) best'
-  block_turn {k} {best} {best'} {s'} place c seen looked =
-      let sum : s'.cost ≡ total (option_at cost) q.tasks (set g.plan 0 r)
-      = set_cost g.posed g.hand 0 r g.posed.tasks.0 above below one that c in
-      seen_more seen (set g.plan 0 r)
+  pub block_turn : {best best' : Option Best} {s' : Sums} → Changed loads cost s 1 r s'
+      → Seen (arrays q loads cost) (i + (r - 1)) best
+      → Looked q.limit s' (i + (r - 1)) best best'
+      → Seen (arrays q loads cost) (i + (r - 1) + 1) best'
+  block_turn {best} {best'} {s'} c seen looked =
+      seen_more (arrays q loads cost) (i + (r - 1)) (set g.plan 0 r)
       (set_long g.posed g.hand 0 r g.posed.tasks.0 above below)
       (set-numbered g.posed g.hand 0 r g.posed.tasks.0 above below)
       (omega (
@@ -127,12 +125,8 @@ module _ {q : Request} {loads cost : List ℕ} {s : Sums} {i : ℕ} {b : Best} (
         ap (λ (x : ℕ). (r - 1) * x) (pow-zero q.rates),
       ))
       (set-load g.posed g.hand 0 r g.posed.tasks.0 above below one that c)
-      sum
-      (omega (
-        arith,
-        sum_low energy_bound cost (set g.plan 0 r) q.tasks g.posed.costs_fit g.posed.tasks.1,
-      ))
-      looked
+      (set_cost g.posed g.hand 0 r g.posed.tasks.0 above below one that c)
+      seen looked
 
 -- ---- the carry
 -- Places 1 to t - 1 have gone back to 1, and one more at place t would make the next plan.
@@ -204,10 +198,10 @@ module _ {q : Request} {loads cost P₀ P : List ℕ} {s : Sums} {t : ℕ} (g : 
 
 -- ---- all plans
 -- What holds before the plans from rank i on are looked at.
-pub record Going (q : Request) (loads cost P : List ℕ) (s : Sums) (i : ℕ) (b : Best) : Type 0 where
+pub record Going (q : Request) (loads cost P : List ℕ) (s : Sums) (i : ℕ) (kept : Option Best) : Type 0 where
   pub hand : InHand q loads cost P s
   pub place : i < q.rates ^ q.tasks → rank q.rates q.tasks P ≡ i
-  pub seen : Seen (arrays q loads cost) i b
+  pub seen : Seen (arrays q loads cost) i kept
 
 -- Every task at rate 1.
 ones_at : (t : ℕ) → t < 32 → get_or (replicate {A = ℕ} 32 1) t 0 ≡ 1
@@ -247,20 +241,20 @@ module _ (q : Request) where
     cost_is = c;
   }
 
-  pub going_start : {loads cost : List ℕ} {s : Sums} {b : Best} → ArraysReady q loads cost → b.cost ≡ no_cost
-      → InHand q loads cost (replicate 32 1) s → Going q loads cost (replicate 32 1) s 0 b
-  going_start {loads} {cost} g none h = record {
+  pub going_start : {loads cost : List ℕ} {s : Sums} → ArraysReady q loads cost
+      → InHand q loads cost (replicate 32 1) s → Going q loads cost (replicate 32 1) s 0 None
+  going_start {loads} {cost} g h = record {
     hand = h;
     place = λ l. ones_rank g.tasks.1;
-    seen = seen_none (arrays q loads cost) none;
+    seen = seen_none (arrays q loads cost);
   }
 
-module _ {q : Request} {loads cost P : List ℕ} {s : Sums} {i : ℕ} {b : Best} (g : ArraysReady q loads cost)
-    (w : Going q loads cost P s i b) (more : i < q.rates ^ q.tasks) where
-  pub going_block : BlockReady q loads cost s i b
+module _ {q : Request} {loads cost P : List ℕ} {s : Sums} {i : ℕ} {kept : Option Best} (g : ArraysReady q loads cost)
+    (w : Going q loads cost P s i kept) (more : i < q.rates ^ q.tasks) where
+  pub going_block : BlockReady q loads cost s i kept
   going_block = record { posed = g; plan = P; hand = w.hand; rank_is = w.place more; seen = w.seen }
 
-  pub going_turn : {P' : List ℕ} {s' : Sums} {b' : Best} → Seen (arrays q loads cost) (i + q.rates) b'
+  pub going_turn : {P' : List ℕ} {s' : Sums} {b' : Option Best} → Seen (arrays q loads cost) (i + q.rates) b'
       → Advanced q loads cost P P' s' → Going q loads cost P' s' (i + q.rates) b'
   going_turn seen a = record {
     hand = a.hand;

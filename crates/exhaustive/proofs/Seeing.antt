@@ -8,31 +8,28 @@ use native.Mathlib.Nat.{eq-or-lt_of_le}
 use native.Mathlib.Omega.{arith}
 use lib.ListN.{length, get_or, take, length-take}
 use lib.Seq.{get_or-take}
+use Rattle.std.proofs.Common.{rules}
+use Rattle.std.specs.Prelude.{Option, Some, None, IsSome}
 use Rattle.numbers.specs.Numbers.{total}
 use Rattle.numbers.proofs.Sums.{total_same}
 use Rattle.selection.specs.Plan.{Problem, IsPlan, plan_load, plan_energy, Fitting}
 use Rattle.exhaustive.specs.declared.Sums.{Sums}
 use Rattle.exhaustive.specs.declared.Best.{Best}
 use Rattle.exhaustive.specs.Order.{rank}
-use Rattle.exhaustive.specs.Engine.{no_cost, Numbered, Behind, Ahead, Looked, Kept, Seen}
+use Rattle.exhaustive.specs.Engine.{Numbered, Behind, Ahead, Looked, Kept, Seen}
 use Rattle.exhaustive.proofs.Order.{moves, rank_below, rank_same}
 
 pub plan_numbered : {p : Problem} {P : List ℕ} → IsPlan p P → Numbered p.rates p.count P
 plan_numbered g = record { above = g.above; below = g.below }
 
 -- Before the first plan.
-pub seen_none : (p : Problem) {b : Best} → b.cost ≡ no_cost → Seen p 0 b
-seen_none p none = record {
-  kept = inl none;
-  least_cost = λ Q f l. absurd (omega arith);
-  least_load = λ Q f l e. absurd (omega arith);
-  first = λ Q f l e w. absurd (omega arith);
-}
+pub seen_none : (p : Problem) → Seen p 0 None
+seen_none p Q f l = absurd (omega arith)
 
 -- The next plan, of rank i, stands in the first numbers of P; s are its sums.
-module _ {p : Problem} {i : ℕ} {b : Best} {s : Sums} (w : Seen p i b) (P : List ℕ) (long : p.count ≤ length P)
+module _ (p : Problem) (i : ℕ) {s : Sums} (P : List ℕ) (long : p.count ≤ length P)
     (numbered : Numbered p.rates p.count P) (place : rank p.rates p.count P ≡ i)
-    (load_is : s.load ≡ plan_load p P) (cost_is : s.cost ≡ plan_energy p P) (low : s.cost < no_cost) where
+    (load_is : s.load ≡ plan_load p P) (cost_is : s.cost ≡ plan_energy p P) where
   abbrev here : List ℕ
   here = take p.count P
 
@@ -63,9 +60,16 @@ module _ {p : Problem} {i : ℕ} {b : Best} {s : Sums} (w : Seen p i b) (P : Lis
       (λ (m : rank p.rates p.count Q < i). inl m)
       (eq-or-lt_of_le (omega arith))
 
-  stays : Behind p.limit s b → Seen p (i + 1) b
-  stays behind = record {
-    kept = ⊎_elim (λ e. inl e) (λ k. inr (later k)) w.kept;
+  stays : (kept : Option Best) → Seen p i kept → Behind p.limit s kept → Seen p (i + 1) kept
+  stays None w behind = λ Q f l.
+      ⊎_elim (λ m. w Q f m) (λ e. absurd (behind (omega (arith, f.fits)))) (at Q f l)
+  stays (Some b) w behind = record {
+    plan = w.plan;
+    fit = w.fit;
+    cost_is = w.cost_is;
+    load_is = w.load_is;
+    rank_is = w.rank_is;
+    before = omega (arith, w.before);
     least_cost = λ Q f l.
         ⊎_elim
         (λ m. w.least_cost Q f m)
@@ -76,73 +80,53 @@ module _ {p : Problem} {i : ℕ} {b : Best} {s : Sums} (w : Seen p i b) (P : Lis
         (λ m. w.least_load Q f m x)
         (λ e. omega (arith, (behind (omega (arith, f.fits))).1 (omega arith)))
         (at Q f l);
-    first = λ Q f l x y.
-        ⊎_elim
-        (λ m. w.first Q f m x y)
-        (λ e. ⊎_elim (λ z. absurd (omega arith)) (λ (k : Kept p i b). omega (arith, k.before)) w.kept)
-        (at Q f l);
-  }
-    where
-      later : Kept p i b → Kept p (i + 1) b
-      later k = record {
-        plan = k.plan;
-        fit = k.fit;
-        cost_is = k.cost_is;
-        load_is = k.load_is;
-        rank_is = k.rank_is;
-        before = omega (arith, k.before);
-      }
-
-  taken : Ahead p.limit s b → Seen p (i + 1) (record { cost = s.cost; load = s.load; rank = i })
-  taken ahead = record {
-    kept = inr (record {
-      plan = here;
-      fit = record { plan = is_plan; fits = omega (arith, sums p.load, ahead.fits) };
-      cost_is = sums p.energy ∙ sym cost_is;
-      load_is = sums p.load ∙ sym load_is;
-      rank_is = sums (moves p.rates) ∙ place;
-      before = omega arith;
-    });
-    least_cost = λ Q f l. ⊎_elim (λ m. omega (arith, w.least_cost Q f m, ahead.cost)) (λ e. omega arith) (at Q f l);
-    least_load = λ Q f l x.
-        ⊎_elim
-        (λ m. let c : b.cost ≡ s.cost = omega (arith, w.least_cost Q f m, ahead.cost) in
-        omega (arith, w.least_load Q f m (omega arith), ahead.load (sym c)))
-        (λ e. omega arith)
-        (at Q f l);
-    first = λ Q f l x y.
-        ⊎_elim
-        (λ m. let c : b.cost ≡ s.cost = omega (arith, w.least_cost Q f m, ahead.cost) in
-        absurd (omega (arith, w.least_load Q f m (omega arith), ahead.load (sym c))))
-        (λ e. omega arith)
-        (at Q f l);
+    first = λ Q f l x y. ⊎_elim (λ m. w.first Q f m x y) (λ e. omega (arith, w.before)) (at Q f l);
   }
 
-  pub seen_more : {r : Best} → Looked p.limit s i b r → Seen p (i + 1) r
-  seen_more (inl z) = rw z.0 (stays z.1)
-  seen_more (inr z) = rw z.0 (taken z.1)
+  -- It goes before every plan looked at that fits.
+  leads : (kept : Option Best) → Seen p i kept → Ahead p.limit s kept → (Q : List ℕ) → Fitting p Q
+      → rank p.rates p.count Q < i → (s.cost ≤ plan_energy p Q) × (plan_energy p Q ≡ s.cost → s.load < plan_load p Q)
+  leads None w ahead Q f m = absurd (w Q f m)
+  leads (Some b) w ahead Q f m = (
+    omega (arith, w.least_cost Q f m, ahead.before.0),
+    λ e. let c : s.cost ≡ b.sums.cost = omega (arith, w.least_cost Q f m, ahead.before.0) in
+        omega (arith, w.least_load Q f m (omega arith), ahead.before.1 c),
+  )
+
+  taken : (kept : Option Best) → Seen p i kept → Ahead p.limit s kept → Kept p (i + 1) (record { sums = s; rank = i })
+  taken kept w ahead = let all = leads kept w ahead in record {
+    plan = here;
+    fit = record { plan = is_plan; fits = omega (arith, sums p.load, ahead.fits) };
+    cost_is = sums p.energy ∙ sym cost_is;
+    load_is = sums p.load ∙ sym load_is;
+    rank_is = sums (moves p.rates) ∙ place;
+    before = omega arith;
+    least_cost = λ Q f l. ⊎_elim (λ m. (all Q f m).0) (λ e. omega arith) (at Q f l);
+    least_load = λ Q f l x. ⊎_elim (λ m. omega (arith, (all Q f m).1 x)) (λ e. omega arith) (at Q f l);
+    first = λ Q f l x y. ⊎_elim (λ m. absurd (omega (arith, (all Q f m).1 x))) (λ e. omega arith) (at Q f l);
+  }
+
+  pub seen_more : {kept r : Option Best} → Seen p i kept → Looked p.limit s i kept r → Seen p (i + 1) r
+  seen_more {kept} w (inl z) = rw z.0 (stays kept w z.1)
+  seen_more {kept} w (inr z) = rw z.0 (taken kept w z.1)
 
 -- No plan has a rank past the last.
-pub seen_end : {p : Problem} {i : ℕ} {b : Best} → Seen p i b → p.rates ^ p.count ≤ i → Seen p (p.rates ^ p.count) b
-seen_end {p} {i} {b} w l = record {
-  kept = ⊎_elim (λ e. inl e) (λ k. inr (last k)) w.kept;
+pub seen_end : (p : Problem) (i : ℕ) (kept : Option Best) → Seen p i kept → p.rates ^ p.count ≤ i → Seen p (p.rates ^ p.count) kept
+seen_end p i None w l = λ Q f m. w Q f (omega arith)
+seen_end p i (Some b) w l = record {
+  plan = w.plan;
+  fit = w.fit;
+  cost_is = w.cost_is;
+  load_is = w.load_is;
+  rank_is = w.rank_is;
+  before = omega (arith, w.rank_is, rank_below p.rates p.count w.plan (plan_numbered w.fit.plan));
   least_cost = λ Q f m. w.least_cost Q f (omega arith);
   least_load = λ Q f m. w.least_load Q f (omega arith);
   first = λ Q f m. w.first Q f (omega arith);
 }
-  where
-    last : Kept p i b → Kept p (p.rates ^ p.count) b
-    last k = record {
-      plan = k.plan;
-      fit = k.fit;
-      cost_is = k.cost_is;
-      load_is = k.load_is;
-      rank_is = k.rank_is;
-      before = omega (arith, k.rank_is, rank_below p.rates p.count k.plan (plan_numbered k.fit.plan));
-    }
 
--- With all plans looked at, where one fits and costs less than 'no plan', the best is a plan.
-module _ {p : Problem} {i : ℕ} {b : Best} (w : Seen p i b) (Q : List ℕ) (fit : Fitting p Q)
-    (low : plan_energy p Q < no_cost) (all : rank p.rates p.count Q < i) where
-  pub seen_kept : Kept p i b
-  seen_kept = ⊎_elim (λ (e : b.cost ≡ no_cost). absurd (omega (arith, w.least_cost Q fit all))) (λ k. k) w.kept
+-- Where a plan fits, one was kept.
+pub some_kept : (p : Problem) (i : ℕ) (kept : Option Best) → Seen p i kept → (Q : List ℕ) → Fitting p Q
+    → rank p.rates p.count Q < i → IsSome kept
+some_kept p i None w Q f l = absurd (w Q f l)
+some_kept p i (Some b) w Q f l = search rules

@@ -1,7 +1,6 @@
 -- What the functions of the engine take and give. Not part of what a reader must believe.
-use Rattle.std.specs.Prelude.{ℕ, ◌+◌, ◌^◌, ◌≤◌, ◌<◌, ◌≡◌, List, ◌⊎◌, length, get_or}
+use Rattle.std.specs.Prelude.{ℕ, ◌+◌, ◌^◌, ◌≤◌, ◌<◌, ◌≡◌, List, ◌⊎◌, Option, Some, IfSome, IsSomeAnd, MatchOption, length, get_or}
 use Rattle.numbers.specs.Numbers.{total}
-use Rattle.arithmetic.specs.declared.Power.{Power}
 use Rattle.selection.specs.Plan.{Problem, plan_load, plan_energy, rounded, Fitting, IsChosenOf, IsUsedOf, most_plans}
 use Rattle.engine.specs.declared.Request.{Request}
 use Rattle.engine.specs.Arrays.{option_at, load_bound, energy_bound, Small, arrays, Asked, EngineReady}
@@ -10,10 +9,6 @@ use Rattle.exhaustive.specs.declared.Sums.{Sums}
 use Rattle.exhaustive.specs.declared.Best.{Best}
 use Rattle.exhaustive.specs.declared.Used.{Used}
 
--- No plan costs as much: this cost stands for 'no plan yet'.
-abbrev pub no_cost : ℕ
-no_cost = 18446744073709551615
-
 -- The first n numbers of P are 1 to m.
 pub record Numbered (m n : ℕ) (P : List ℕ) : Type 0 where
   pub above : (t : ℕ) → t < n → 1 ≤ get_or P t 0
@@ -21,37 +16,38 @@ pub record Numbered (m n : ℕ) (P : List ℕ) : Type 0 where
 
 -- ---- what is best so far
 -- A plan with sums s stays behind what was kept: it does not fit, or costs more, or as much with no lower load.
-abbrev pub Behind : ℕ → Sums → Best → Type 0
-Behind limit s b = s.load ≤ limit → (b.cost ≤ s.cost) × (s.cost ≡ b.cost → b.load ≤ s.load)
+abbrev pub Behind : ℕ → Sums → Option Best → Type 0
+Behind limit s kept =
+    s.load ≤ limit → IsSomeAnd kept (λ b. (b.sums.cost ≤ s.cost) × (s.cost ≡ b.sums.cost → b.sums.load ≤ s.load))
 
--- It fits and goes before what was kept.
-pub record Ahead (limit : ℕ) (s : Sums) (b : Best) : Type 0 where
+-- It fits and goes before what was kept, if anything was.
+pub record Ahead (limit : ℕ) (s : Sums) (kept : Option Best) : Type 0 where
   pub fits : s.load ≤ limit
-  pub cost : s.cost ≤ b.cost
-  pub load : s.cost ≡ b.cost → s.load < b.load
+  pub before : IfSome kept (λ b. (s.cost ≤ b.sums.cost) × (s.cost ≡ b.sums.cost → s.load < b.sums.load))
 
 -- What is kept after a look at the plan of rank i, whose sums are s.
-abbrev pub Looked : ℕ → Sums → ℕ → Best → Best → Type 0
-Looked limit s i b r =
-    ((r ≡ b) × Behind limit s b) ⊎ ((r ≡ record { cost = s.cost; load = s.load; rank = i }) × Ahead limit s b)
+abbrev pub Looked : ℕ → Sums → ℕ → Option Best → Option Best → Type 0
+Looked limit s i kept r =
+    ((r ≡ kept) × Behind limit s kept) ⊎ ((r ≡ Some (record { sums = s; rank = i })) × Ahead limit s kept)
 
--- What was kept is a plan that fits, of a rank below i.
+-- What was kept is a plan that fits, of a rank below i, and the best of those: of least cost, then of least load, then
+-- the first.
 pub record Kept (p : Problem) (i : ℕ) (b : Best) : Type 0 where
   pub plan : List ℕ
   pub fit : Fitting p plan
-  pub cost_is : plan_energy p plan ≡ b.cost
-  pub load_is : plan_load p plan ≡ b.load
+  pub cost_is : plan_energy p plan ≡ b.sums.cost
+  pub load_is : plan_load p plan ≡ b.sums.load
   pub rank_is : rank p.rates p.count plan ≡ b.rank
   pub before : b.rank < i
+  pub least_cost : (Q : List ℕ) → Fitting p Q → rank p.rates p.count Q < i → b.sums.cost ≤ plan_energy p Q
+  pub least_load : (Q : List ℕ) → Fitting p Q → rank p.rates p.count Q < i → plan_energy p Q ≡ b.sums.cost
+      → b.sums.load ≤ plan_load p Q
+  pub first : (Q : List ℕ) → Fitting p Q → rank p.rates p.count Q < i → plan_energy p Q ≡ b.sums.cost
+      → plan_load p Q ≡ b.sums.load → b.rank ≤ rank p.rates p.count Q
 
--- It is the best of the plans that fit of a rank below i: of least cost, then of least load, then the first.
-pub record Seen (p : Problem) (i : ℕ) (b : Best) : Type 0 where
-  pub kept : (b.cost ≡ no_cost) ⊎ Kept p i b
-  pub least_cost : (Q : List ℕ) → Fitting p Q → rank p.rates p.count Q < i → b.cost ≤ plan_energy p Q
-  pub least_load : (Q : List ℕ) → Fitting p Q → rank p.rates p.count Q < i → plan_energy p Q ≡ b.cost
-      → b.load ≤ plan_load p Q
-  pub first : (Q : List ℕ) → Fitting p Q → rank p.rates p.count Q < i → plan_energy p Q ≡ b.cost
-      → plan_load p Q ≡ b.load → b.rank ≤ rank p.rates p.count Q
+-- The plans of a rank below i were looked at: none was kept where none fits.
+abbrev pub Seen : Problem → ℕ → Option Best → Type 0
+Seen p i kept = MatchOption kept ((Q : List ℕ) → Fitting p Q → rank p.rates p.count Q < i → ⊥) (Kept p i)
 
 -- ---- the plan in hand
 -- What the arrays keep to: numbers in range, few plans, and sums that fit.
@@ -83,12 +79,12 @@ pub record Changed (loads cost : List ℕ) (s : Sums) (from to : ℕ) (r : Sums)
   pub costs_are : r.cost + get_or cost from 0 ≡ s.cost + get_or cost to 0
 
 -- The plans that differ from one in task 1's rate alone: what a look at them asks.
-pub record BlockReady (q : Request) (loads cost : List ℕ) (s : Sums) (i : ℕ) (b : Best) : Type 0 where
+pub record BlockReady (q : Request) (loads cost : List ℕ) (s : Sums) (i : ℕ) (kept : Option Best) : Type 0 where
   pub posed : ArraysReady q loads cost
   pub plan : List ℕ
   pub hand : InHand q loads cost plan s
   pub rank_is : rank q.rates q.tasks plan ≡ i
-  pub seen : Seen (arrays q loads cost) i b
+  pub seen : Seen (arrays q loads cost) i kept
 
 -- What going on from a plan asks, and what it gives: the plan of a rank higher by as many as there are rates, if there
 -- is one.
@@ -111,18 +107,12 @@ pub record AllReady (q : Request) (loads energies : List ℕ) (plans : ℕ) : Ty
   pub energies_fit : Small energy_bound energies
   pub plans_are : plans ≡ q.rates ^ q.tasks
 
--- What one unit asks besides.
-pub record UnitReady (q : Request) (loads energies : List ℕ) (unit : Power) (plans : ℕ) : Type 0 where
-  pub all : AllReady q loads energies plans
-  pub power : unit.value ≡ 2 ^ unit.exponent
-  pub low : unit.exponent ≤ 63
-
 -- b is the plan chosen by unit d.
 pub record ChosenAt (p : Problem) (d : ℕ) (b : Best) : Type 0 where
   pub plan : List ℕ
   pub chosen : IsChosenOf (Fitting p) p d plan
-  pub cost_is : rounded p d plan ≡ b.cost
-  pub load_is : plan_load p plan ≡ b.load
+  pub cost_is : rounded p d plan ≡ b.sums.cost
+  pub load_is : plan_load p plan ≡ b.sums.load
   pub rank_is : rank p.rates p.count plan ≡ b.rank
 
 -- The unit used, and the plan chosen by it.

@@ -8,30 +8,26 @@ ghost use Rattle.std.specs.Prelude.{◌≡◌, suc, ◌+◌, ◌^◌, ◌≤◌,
 ghost use Rattle.selection.specs.Plan.{most_plans};
 ghost use Rattle.engine.specs.Arrays.{arrays, ChosenBy};
 ghost use Rattle.exhaustive.specs.Engine.{Looked, Seen, ArraysReady, InHand, ChangeReady, Changed};
-ghost use Rattle.exhaustive.specs.Engine.{BlockReady, AdvanceReady, Advanced, AllReady, UnitReady, ChosenAt};
+ghost use Rattle.exhaustive.specs.Engine.{BlockReady, AdvanceReady, Advanced, AllReady, ChosenAt};
 ghost use Rattle.exhaustive.specs.Engine.{UnitUsed, PutReady, PlanPut, ExhaustiveReady};
 
-use arithmetic::Power;
-use engine::{Choice, Request};
+use engine::{Choice, Power, Request};
 
 // How many plans the engine goes through at most.
 pub const MOST_PLANS: usize = 1_000_000;
 
-// No plan costs as much: this cost stands for 'no plan yet'.
-const NO_COST: usize = 18_446_744_073_709_551_615;
-
-// A plan's load, and its cost: its rounded energy.
-#[derive(Clone, Copy)]
+// A plan's cost, which is its rounded energy, and its load. The order is the choice's: the lower cost first, of equal
+// costs the lower load.
+#[derive(Clone, Copy, PartialEq, Eq, PartialOrd, Ord)]
 struct Sums {
-    load: u64,
     cost: usize,
+    load: u64,
 }
 
-// The best of the plans looked at so far: its cost, load and place in the order, counted from 0.
+// The best of the plans looked at so far that fit: its sums, and its place in the order of plans, counted from 0.
 #[derive(Clone, Copy)]
 struct Best {
-    cost: usize,
-    load: u64,
+    sums: Sums,
     rank: usize,
 }
 
@@ -42,27 +38,14 @@ struct Used {
     best: Best,
 }
 
-// The lesser of a number of plans and one more than the engine goes through.
-fn counted(plans: usize) -> usize
-    ensures { result ≡ min plans (suc most_plans) }
-{
-    if plans <= MOST_PLANS {
-        plans
-    } else {
-        MOST_PLANS + 1
-    }
-}
-
 // How many plans there are; of more than the engine goes through, one more than that.
 pub fn plan_count(rates: usize, tasks: usize) -> usize
     requires { (1 ≤ rates) × (rates ≤ 8) }
     ensures { result ≡ min (rates ^ tasks) (suc most_plans) }
 {
     let mut plans = 1;
-    let mut t = 0;
-    while t < tasks {
-        plans = counted(plans * rates);
-        t += 1;
+    for _ in 0..tasks {
+        plans = (plans * rates).min(MOST_PLANS + 1);
     }
     plans
 }
@@ -72,15 +55,12 @@ fn first_sums(loads: &[u64; 512], cost: &[usize; 512], q: Request) -> Sums
     requires { ArraysReady q loads.now cost.now }
     ensures { InHand q loads.now cost.now (replicate 32 1) result }
 {
-    let mut load = 0;
-    let mut whole = 0;
-    let mut t = 0;
-    while t < q.tasks {
-        load += loads[t * 16 + 1];
-        whole += cost[t * 16 + 1];
-        t += 1;
+    let mut sums = Sums { cost: 0, load: 0 };
+    for t in 0..q.tasks {
+        sums.cost += cost[t * 16 + 1];
+        sums.load += loads[t * 16 + 1];
     }
-    Sums { load, cost: whole }
+    sums
 }
 
 // Sums in which the option at one place is replaced by the one at another.
@@ -94,43 +74,35 @@ fn change(loads: &[u64; 512], cost: &[usize; 512], s: Sums, from: usize, to: usi
     }
 }
 
-// What is kept after a look at the plan of this rank: of two that fit the one of lower cost, then of lower load; of
-// equals the first stays.
-fn look(limit: u32, s: Sums, rank: usize, b: Best) -> Best
-    ensures { Looked limit s rank b result }
+// What is kept after a look at the plan of this rank: of two that fit the one whose sums come first; of equals the
+// first stays.
+fn look(limit: u32, s: Sums, rank: usize, kept: Option<Best>) -> Option<Best>
+    ensures { Looked limit s rank kept result }
 {
-    let here = Best {
-        cost: s.cost,
-        load: s.load,
-        rank,
-    };
-    if (limit as u64) < s.load {
-        return b;
+    if u64::from(limit) < s.load {
+        return kept;
     }
-    if b.cost < s.cost {
-        return b;
+    match kept {
+        Some(b) if b.sums <= s => kept,
+        _ => Some(Best { sums: s, rank }),
     }
-    if s.cost < b.cost {
-        return here;
-    }
-    if s.load < b.load {
-        return here;
-    }
-    b
 }
 
 // Looks at the plans that differ in task 1's rate alone, from the one in hand on, whose sums and rank are given.
-fn block(loads: &[u64; 512], cost: &[usize; 512], q: Request, s: Sums, rank: usize, b: Best) -> Best
-    requires { BlockReady q loads.now cost.now s rank b }
+fn block(
+    loads: &[u64; 512],
+    cost: &[usize; 512],
+    q: Request,
+    s: Sums,
+    rank: usize,
+    kept: Option<Best>,
+) -> Option<Best>
+    requires { BlockReady q loads.now cost.now s rank kept }
     ensures { Seen (arrays q loads.now cost.now) (rank + q.rates) result }
 {
-    let mut best = b;
-    let mut i = rank;
-    let mut r = 1;
-    while r <= q.rates {
-        best = look(q.limit, change(loads, cost, s, 1, r), i, best);
-        i += 1;
-        r += 1;
+    let mut best = kept;
+    for r in 1..=q.rates {
+        best = look(q.limit, change(loads, cost, s, 1, r), rank + (r - 1), best);
     }
     best
 }
@@ -148,8 +120,7 @@ fn advance(
     ensures { Advanced q loads.now cost.now hand.old hand.new result }
 {
     let mut sums = s;
-    let mut t = 1;
-    while t < q.tasks {
+    for t in 1..q.tasks {
         let r = hand[t];
         let here = t * 16 + r;
         if r < q.rates {
@@ -158,40 +129,33 @@ fn advance(
         }
         hand[t] = 1;
         sums = change(loads, cost, sums, here, t * 16 + 1);
-        t += 1;
     }
     sums
 }
 
-// The best of all plans. Before the first none is kept.
-fn best_plan(loads: &[u64; 512], cost: &[usize; 512], q: Request, plans: usize) -> Best
+// The best of all plans, where one fits.
+fn best_plan(loads: &[u64; 512], cost: &[usize; 512], q: Request, plans: usize) -> Option<Best>
     requires { ArraysReady q loads.now cost.now × (plans ≡ q.rates ^ q.tasks) }
     ensures { Seen (arrays q loads.now cost.now) (q.rates ^ q.tasks) result }
 {
     let mut hand: [usize; 32] = [1; 32];
     let mut s = first_sums(loads, cost, q);
-    let mut b = Best {
-        cost: NO_COST,
-        load: 0,
-        rank: 0,
-    };
-    let mut rank = 0;
-    while rank < plans {
-        b = block(loads, cost, q, s, rank, b);
+    let mut best = None;
+    for rank in (0..plans).step_by(q.rates) {
+        best = block(loads, cost, q, s, rank, best);
         s = advance(&mut hand, loads, cost, q, s);
-        rank += q.rates;
     }
-    b
+    best
 }
 
 // The plan chosen by a unit.
 fn best_at(loads: &[u64; 512], energies: &[u64; 512], q: Request, unit: Power, plans: usize) -> Best
-    requires { UnitReady q loads.now energies.now unit plans }
+    requires { AllReady q loads.now energies.now plans }
     ensures { ChosenAt (arrays q loads.now energies.now) (2 ^ unit.exponent) result }
 {
     let mut cost: [usize; 512] = [0; 512];
     engine::round_up(energies, q.tasks, unit, &mut cost);
-    best_plan(loads, &cost, q, plans)
+    best_plan(loads, &cost, q, plans).unwrap()
 }
 
 // Finds the unit used: tries the first unit and halves it until the rule stops. No plan is kept from one unit to the
@@ -200,17 +164,16 @@ fn find_unit(loads: &[u64; 512], energies: &[u64; 512], q: Request, plans: usize
     requires { AllReady q loads.now energies.now plans }
     ensures { UnitUsed q loads.now energies.now result }
 {
-    let mut unit = arithmetic::least_power(engine::fastest_sum(energies, q.tasks, q.rates));
-    let mut best = best_at(loads, energies, q, unit, plans);
+    let mut unit = engine::least_power(engine::fastest_sum(energies, q.tasks, q.rates));
     loop {
-        if engine::stops(unit, q.tasks, q.slack, best.cost) {
+        let best = best_at(loads, energies, q, unit, plans);
+        if engine::stops(unit.exponent, q.tasks, q.slack, best.sums.cost) {
             return Used {
                 unit: unit.value,
                 best,
             };
         }
-        unit = engine::halved(unit);
-        best = best_at(loads, energies, q, unit, plans);
+        unit = unit.halved();
     }
 }
 
@@ -220,11 +183,9 @@ fn put_plan(plan: &mut [u32], rank: usize, rates: usize, tasks: usize)
     ensures { PlanPut rates tasks rank plan.old plan.new }
 {
     let mut left = rank;
-    let mut t = 0;
-    while t < tasks {
+    for t in 0..tasks {
         plan[t] = (left % rates + 1) as u32;
-        left = left / rates;
-        t += 1;
+        left /= rates;
     }
 }
 
@@ -241,7 +202,7 @@ pub fn choose(loads: &[u64; 512], energies: &[u64; 512], q: Request, plan: &mut 
     let energy = engine::sum(energies, tasks, plan);
     Choice {
         unit: used.unit,
-        load: best.load,
+        load: best.sums.load,
         energy,
     }
 }

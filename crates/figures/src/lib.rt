@@ -32,17 +32,16 @@ pub fn second_of(f: Refusal) -> u64
     ensures { result ≡ second f }
 {
     match f {
-        Refusal::TextDeparts(k) => k as u64,
-        Refusal::BadWord(k) => k as u64,
-        Refusal::NotAbove(k) => k as u64,
-        Refusal::TooLong(k) => k as u64,
-        Refusal::WorkShort(k) => k as u64,
-        Refusal::TooShort(k) => k as u64,
-        Refusal::NoPlan => 0,
-        Refusal::BadPlan(k) => k as u64,
-        Refusal::EnergyOver(k) => k as u64,
-        Refusal::BelowIdle(k) => k as u64,
-        Refusal::TooManyPlans => 0,
+        Refusal::NoPlan | Refusal::TooManyPlans => 0,
+        Refusal::TextDeparts(k)
+        | Refusal::BadWord(k)
+        | Refusal::NotAbove(k)
+        | Refusal::TooLong(k)
+        | Refusal::WorkShort(k)
+        | Refusal::TooShort(k)
+        | Refusal::BadPlan(k)
+        | Refusal::EnergyOver(k)
+        | Refusal::BelowIdle(k) => k as u64,
     }
 }
 
@@ -51,7 +50,5 @@ pub fn job_ticks(cycles: u32, rate: u32) -> u32
     requires { 1 ≤ rate }
     ensures { result ≡ job_ticks cycles rate }
 {
-    let c = cycles as u64;
-    let f = rate as u64;
-    ((c + (f - 1)) / f) as u32
+    cycles.div_ceil(rate)
 }

@@ -4,7 +4,7 @@ use Prim.Native.Nat.{ℕ, zero, suc, ◌+◌, ◌≤◌}
 use mathlib.Core.Path.{◌≡◌, refl, sym, ap, ◌∙◌}
 use mathlib.Core.List.{List, [], ◌∷◌, ◌++◌}
 use mathlib.Core.Bool.{true, false}
-use mathlib.Core.Option.{none, some}
+use mathlib.Core.Option.{Option, none, some}
 use native.Mathlib.Nat.{add-zero}
 use native.Mathlib.Omega.{arith}
 use lib.ListN.{length, drop, set}
@@ -14,14 +14,16 @@ use Rattle.layout.specs.declared.Layout.TheVariants.{Ordinary}
 use Rattle.chips.proofs.Tables.{count_range, rates-length, energies-length}
 use Rattle.text.specs.Text.{bytes, TaskLine, Clock, rates, chip, Script, ClockOk, energy_count, TaskLineOk, rates_of}
 use Rattle.text.specs.Text.{idle_of, head_words, extra_words, task_words, words}
-use Rattle.text.specs.Reading.{Res, got, map_res, mapped, skip, up_to, starts, numbers, absent, optional, read_energies, read_task, read_at}
-use Rattle.scanner.proofs.Places.{map_at, either_first, either_second}
+use Rattle.text.specs.Reading.{Res, mapped, skip, up_to, starts, numbers, absent, optional, read_energies, read_task, read_at}
+use Rattle.std.specs.Prelude.{Result, Ok}
+use Rattle.scanner.specs.Steps.{Reads}
+use Rattle.scanner.specs.declared.Cursor.{Cursor}
+use Rattle.scanner.specs.declared.Departure.{Departure}
+use Rattle.scanner.proofs.Places.{on_value, shown, reads_first, reads_second}
 use Rattle.text.proofs.Grammar.{dom_of, task_piece}
 use Rattle.lists.specs.Writing.{written}
 use Rattle.lists.proofs.Writing.{written_then, length-written}
-use Rattle.forms.specs.Forms.{line_of, clock_of, rates_in, energies_in, idle_in, Fits, words_by}
-use Rattle.forms.specs.declared.Idle.{Idle}
-use Rattle.forms.specs.declared.Idle.TheVariants.{Given, Absent}
+use Rattle.forms.specs.Forms.{given, clock_of, rates_in, energies_in, idle_in, Fits, words_by}
 use Rattle.forms.specs.declared.Clock as code
 use Rattle.forms.specs.declared.Clock.TheVariants.{Rates, Named}
 use Rattle.lists.proofs.Stores.{stored, in_front}
@@ -44,10 +46,10 @@ pub energies_in_lem : (k : Clock) → energies_in (clock_of k) ≡ energy_count 
 energies_in_lem (rates fs) = refl
 energies_in_lem (chip c) = refl
 
-pub idle_in_lem : (v : Idle) (k : Clock) → idle_in v (clock_of k) ≡ idle_of (line_of v) k
-idle_in_lem (Given h) k = refl
-idle_in_lem Absent (rates fs) = refl
-idle_in_lem Absent (chip c) = refl
+pub idle_in_lem : (v : Option ℕ) (k : Clock) → idle_in (given v) (clock_of k) ≡ idle_of v k
+idle_in_lem (some h) k = refl
+idle_in_lem none (rates fs) = refl
+idle_in_lem none (chip c) = refl
 
 pub words_by_lem : (k : Clock) → words_by (clock_of k) ≡ task_words k
 words_by_lem (rates fs) = refl
@@ -67,27 +69,28 @@ pub some_energies : (m : ℕ) → 1 ≤ m → read_energies m ≡ skip (bytes " 
 some_energies zero h = absurd (omega arith)
 some_energies (suc m) h = refl
 
-pub no_energies : (s : List ℕ) (at : ℕ) → read_at (read_energies 0) s at ≡ got [] at
+pub no_energies : (x : Cursor) → Reads (read_energies 0) x x (Ok [])
 unfolding read_at
-no_energies s at = rw add-zero
+no_energies x = record { same = refl; answers = rw add-zero }
 
 -- A form that may be absent, where the byte that begins it does not stand there, and where it does.
-module _ (c : ℕ) (p : List ℕ → Res ℕ) (s : List ℕ) (at : ℕ) where
-  none_at : read_at (absent {A = ℕ}) s at ≡ got none at
+module _ (c : ℕ) (p : List ℕ → Res ℕ) {x : Cursor} where
+  none_at : Reads (absent {A = ℕ}) x x (Ok none)
   unfolding read_at
-  none_at = rw add-zero
+  none_at = record { same = refl; answers = rw add-zero }
 
-  pub optional-none : starts c (drop at s) ≡ false → read_at (optional c p) s at ≡ got none at
-  optional-none e = either_second c (mapped some p) absent s at e ∙ none_at
+  pub is_absent : starts c (drop x.at x.text.now) ≡ false → Reads (optional c p) x x (Ok none)
+  is_absent e = reads_second c (mapped some p) absent e none_at
 
-  pub optional_some : starts c (drop at s) ≡ true → read_at (optional c p) s at ≡ map_res some (read_at p s at)
-  optional_some e = either_first c (mapped some p) absent s at e ∙ map_at some p s at
+  pub is_present : {y : Cursor} (r : Result ℕ Departure) → starts c (drop x.at x.text.now) ≡ true → Reads p x y r
+      → Reads (optional c p) x y (on_value some r)
+  is_present r e h = reads_first c (mapped some p) absent e (shown some p r h)
 
 -- A task that was read has as many energies as rates.
-pub task-words : (k : code.Clock) (s : List ℕ) (at i : ℕ) (t : TaskLine) → read_at (read_task (energies_in k)) s at ≡ got t i
+pub task-words : (k : code.Clock) (t : TaskLine) {x y : Cursor} → Reads (read_task (energies_in k)) x y (Ok t)
     → length (words_by k t) ≡ task_size Ordinary (rates_in k)
 unfolding extra_kinds
-task-words k s at i t e = go k (dom_of (task_piece (energies_in k)) s at i t e)
+task-words k t {x} {y} h = go k (dom_of (task_piece (energies_in k)) x.text.now x.at y.at t (sym h.answers))
   where
     go : (k : code.Clock) → TaskLineOk (energies_in k) t → length (words_by k t) ≡ task_size Ordinary (rates_in k)
     go (Rates m) h = omega (arith, h.energies.least, h.energies.most)

@@ -1,6 +1,7 @@
 -- From the checks and the words to the call's answer.
 -- Assumes nothing.
-use Rattle.std.proofs.Common.{◌≡◌, ℕ, ◌^◌, ◌<◌, ◌≤◌, true, false, List, [], ◌∷◌, length, sym, refl, ◌∙◌, subst, inl, ⊎_elim, true≢false, arith}
+use Rattle.std.specs.Prelude.{Ok, Err}
+use Rattle.std.proofs.Common.{◌≡◌, ℕ, ◌^◌, ◌<◌, ◌≤◌, true, false, List, [], ◌∷◌, length, sym, refl, ◌∙◌, subst, inl, ⊎_elim, true≢false, arith, Ok, Err}
 use Rattle.numbers.specs.Numbers.{between}
 use Rattle.numbers.proofs.Tests.{bool_cases, lt_or_le, between_true}
 use Rattle.layout.specs.Words.{most_tasks, period_place}
@@ -9,14 +10,12 @@ use Rattle.layout.proofs.Layouts.{words_few}
 use Rattle.taskset.specs.Refusals.{Passes, Accepts, Refuses, room_check}
 use Rattle.taskset.specs.declared.Refusal.{Refusal}
 use Rattle.taskset.specs.declared.Refusal.TheVariants.{BadWord, TooShort}
-use Rattle.taskset.specs.declared.CopyAnswer.TheVariants.{Wrote, Refused as NotCopied}
 use Rattle.taskset.proofs.Checks.{accepts_next, refuses_next, refuses_before}
 use Rattle.taskset.proofs.Copied.{copied, front_is}
 use Rattle.lists.specs.Writing.{placed}
 use Rattle.draws.specs.Generated.{five_rates, generated}
 use Rattle.draws.specs.Calls.{count_check, generator_checks, PassesChecks, GeneratorCall}
 use Rattle.generator.specs.Steps.{RoomAfter}
-use Rattle.generator.specs.declared.Room.TheVariants.{Enough, Refused}
 use Rattle.draws.proofs.Sizes.{set_size}
 use Rattle.draws.proofs.Passing.{passes_checks}
 
@@ -29,19 +28,19 @@ in_count n pass =
     (bool_cases (between 1 most_tasks n))
 
 module _ (n lent : ℕ) where
-  pub count_refused : between 1 most_tasks n ≡ false → RoomAfter n lent (Refused (BadWord 0))
+  pub count_refused : between 1 most_tasks n ≡ false → RoomAfter n lent (Err (BadWord 0))
   count_refused e seed = refuses_before (count_check n ∷ []) (room_check (length (generated seed n)) lent) 2 0 (inl (refl, (e, refl)))
 
   module _ (in_range : between 1 most_tasks n ≡ true) (k : ℕ) (needed : k ≡ period_place Ordinary five_rates n) where
     counted : Accepts (count_check n ∷ [])
     counted = ((λ j h. true≢false (sym in_range ∙ h.0)), tt)
 
-    pub room_refused : lent < k → RoomAfter n lent (Refused (TooShort k))
+    pub room_refused : lent < k → RoomAfter n lent (Err (TooShort k))
     room_refused h seed =
         let size = set_size seed n in
         refuses_next (count_check n ∷ []) (room_check (length (generated seed n)) lent) k counted (omega arith, needed ∙ sym size)
 
-    pub room-enough : k ≤ lent → RoomAfter n lent (Enough k)
+    pub room-enough : k ≤ lent → RoomAfter n lent (Ok k)
     room-enough h seed =
         let size = set_size seed n in
         let room = room_check (length (generated seed n)) lent in
@@ -60,11 +59,11 @@ second_small seed n lent m k h = ⊎_elim (λ a. omega (arith, a.1.1)) (λ b. la
 -- ---- the answer
 module _ (seed n : ℕ) (d : List ℕ) where
   -- A refusal of the checks is the call's, and changes nothing.
-  pub refused : (r : Refusal) → RoomAfter n (length d) (Refused r) → GeneratorCall seed n d d (NotCopied r)
+  pub refused : (r : Refusal) → RoomAfter n (length d) (Err r) → GeneratorCall seed n d d (Err r)
   refused r h = record { gives = (h seed, refl); owes = tt }
 
   -- What passes them has 1 to 32 tasks, and room.
-  module _ (k : ℕ) (room : RoomAfter n (length d) (Enough k)) where
+  module _ (k : ℕ) (room : RoomAfter n (length d) (Ok k)) where
     pub count_range : (1 ≤ n) × (n ≤ most_tasks)
     count_range = in_count n (room seed).0.0
 
@@ -75,7 +74,7 @@ module _ (seed n : ℕ) (d : List ℕ) where
         (λ (h : length (generated seed n) ≤ length d). h)
         (lt_or_le (length d) (length (generated seed n)))
 
-    pub wrote : (d' : List ℕ) → d' ≡ placed (generated seed n) d → GeneratorCall seed n d d' (Wrote k)
+    pub wrote : (d' : List ℕ) → d' ≡ placed (generated seed n) d → GeneratorCall seed n d d' (Ok k)
     unfolding placed
     wrote d' e =
         let c = copied (generated seed n) d d' k (room seed).1 e in

@@ -8,29 +8,12 @@ ghost use Rattle.layout.specs.Words.{most_tasks, tasks_place, task_size, period_
 ghost use Rattle.layout.specs.declared.Layout.TheVariants.{Ordinary};
 ghost use Rattle.lists.specs.Writing.{placed, written};
 ghost use Rattle.draws.specs.Generated;
-ghost use Rattle.draws.specs.Generated.{state_after, drawn_period, task_words, tasks_words, front_words, generated};
+ghost use Rattle.draws.specs.Generated.{state_after, drawn_period, drawn_energy, rate_of, task_words, tasks_words, front_words, generated};
 ghost use Rattle.draws.specs.Calls.{GeneratorCall};
-ghost use Rattle.generator.specs.Steps.{RoomAfter, figure_of, figures};
+ghost use Rattle.generator.specs.Steps.{RoomAfter};
 
 use layout::Layout;
 use taskset::{CopyAnswer, Refusal};
-
-// What the checks answer: the words that a set needs, or a refusal.
-#[derive(Clone, Copy)]
-pub enum Room {
-    Enough(usize),
-    Refused(Refusal),
-}
-
-// Figures that are put one behind the other, and count from 1: zeros, for the words of a layout that the rule of the
-// draws does not name; rates; or the energies that a draw gives.
-#[derive(Clone, Copy)]
-enum Figure {
-    // In the head that is the idle energy; between a task's cycles and its energies its first release.
-    Zero,
-    Rate,
-    Energy(u32),
-}
 
 // The numbers of a step of the state.
 const MULTIPLIER: u32 = 1_664_525;
@@ -43,20 +26,19 @@ const RATES: usize = 5;
 // The periods that a draw chooses among.
 const PERIODS: [u32; 8] = [10, 20, 25, 40, 50, 100, 200, 400];
 
-// a × b, modulo 2^32: the product of two words has room in 64 bits.
+// a × b, modulo 2^32: a function of its own, since document 02 names such a helper (docs/DECISIONS.md).
 fn wrapping_mul(a: u32, b: u32) -> u32
     ensures { result ≡ a * b % 2 ^ 32 }
 {
-    let product = a as u64 * b as u64;
-    (product % 4_294_967_296) as u32
+    a.wrapping_mul(b)
 }
 
 // The state after one more step.
+#[tactic(auto, unfolding(draws::specs::Generated::next))]
 fn next(state: u32) -> u32
     ensures { result ≡ Generated.next state }
 {
-    let product = wrapping_mul(state, MULTIPLIER);
-    std::num::wrapping_add_u32(product, INCREMENT)
+    wrapping_mul(state, MULTIPLIER).wrapping_add(INCREMENT)
 }
 
 // The draw that a new state gives: its high half, since the low bits of such a generator soon repeat.
@@ -73,28 +55,21 @@ fn period(x: u32) -> u32
     PERIODS[(x % 8) as usize]
 }
 
-// The figure with number j, at a rate its rate number: none of the first 8 is too large for a word.
-fn figure_at(which: Figure, j: u32) -> u32
-    requires { j ≤ 8 }
-    ensures { result ≡ figure_of which j }
+// The rate with rate number j.
+fn rate(j: usize) -> u32
+    requires { j ≤ 5 }
+    ensures { result ≡ rate_of j }
 {
-    match which {
-        Figure::Zero => 0,
-        Figure::Rate => 100 * j,
-        Figure::Energy(x) => (2 + x % 9) * j * j,
-    }
+    100 * j as u32
 }
 
-// The first figures, count of them, to the list from a place on.
-fn put_figures(list: &mut [u32], at: usize, which: Figure, count: usize)
-    requires { (at + count ≤ length list.old) × (count ≤ 8) }
-    ensures { list.new ≡ written at (figures which count) list.old }
+// The energy at rate number j that a draw gives.
+fn energy(x: u32, j: usize) -> u32
+    requires { j ≤ 5 }
+    ensures { result ≡ drawn_energy x j }
 {
-    let mut i: usize = 0;
-    while i < count {
-        list[at + i] = figure_at(which, 1 + i as u32);
-        i += 1;
-    }
+    let r = j as u32;
+    (2 + x % 9) * r * r
 }
 
 // The words of a task, drawn from a state on, to the list from a place on: the period and the cycles are the first words
@@ -112,13 +87,8 @@ fn put_task(list: &mut [u32], at: usize, state: u32) -> u32
     list[at] = p;
     list[at + places::CYCLES_IN_TASK] = c;
     let before = places::before_energies(Layout::Ordinary);
-    put_figures(
-        list,
-        at + places::FIRST_IN_TASK,
-        Figure::Zero,
-        before - places::FIRST_IN_TASK,
-    );
-    put_figures(list, at + before, Figure::Energy(x), RATES);
+    list[at + places::FIRST_IN_TASK..at + before].fill(0);
+    lists::put_each(list, at + before, RATES, |j| energy(x, j));
     third
 }
 
@@ -128,44 +98,38 @@ fn put_tasks(list: &mut [u32], seed: u32, n: usize)
     ensures { list.new ≡ written (tasks_place Ordinary 5) (tasks_words seed n) list.old }
 {
     let mut state = seed;
-    let mut t: usize = 0;
-    while t < n {
+    for t in 0..n {
         let at = places::period_place(Layout::Ordinary, RATES, t);
         state = put_task(list, at, state);
-        t += 1;
     }
 }
 
 // The words before the tasks, to the front of the list: the slack is the first word in every layout.
+#[tactic(auto, using(layout::proofs::Layouts::slack_in_head))]
 fn put_front(list: &mut [u32], n: u32)
     requires { tasks_place Ordinary 5 ≤ length list.old }
     ensures { list.new ≡ written 0 (front_words n) list.old }
 {
     let head = places::head_size(Layout::Ordinary);
     list[places::SLACK_PLACE] = 100;
-    put_figures(
-        list,
-        places::IDLE_PLACE,
-        Figure::Zero,
-        head - places::IDLE_PLACE,
-    );
+    list[places::IDLE_PLACE..head].fill(0);
     list[head] = RATES as u32;
-    put_figures(list, head + 1, Figure::Rate, RATES);
+    lists::put_each(list, head + 1, RATES, rate);
     list[places::task_count_place(Layout::Ordinary, RATES)] = n;
 }
 
 // Checks 2 and 6: how many words a set of n tasks has, or a refusal. lent is the length of the list.
-pub fn ready(n: u32, lent: usize) -> Room
+pub fn ready(n: u32, lent: usize) -> Result<usize, Refusal>
     ensures { RoomAfter n lent result }
 {
-    if !arithmetic::is_between(1, places::MOST_TASKS as u64, n as u64) {
-        return Room::Refused(Refusal::BadWord(0));
+    if !(1..=places::MOST_TASKS).contains(&(n as usize)) {
+        return Err(Refusal::BadWord(0));
     }
     let needed = places::period_place(Layout::Ordinary, RATES, n as usize);
     if lent < needed {
-        return Room::Refused(Refusal::TooShort(needed));
+        return Err(Refusal::TooShort(needed));
     }
-    Room::Enough(needed)
+    Ok(needed)
 }
 
 // A set's words, to the front of a list that has passed the checks.
@@ -181,12 +145,7 @@ pub fn put_set(seed: u32, n: u32, list: &mut [u32])
 pub fn generate(seed: u32, n: u32, list: &mut [u32]) -> CopyAnswer
     ensures { GeneratorCall seed n list.old list.new result }
 {
-    let room = ready(n, list.len());
-    match room {
-        Room::Refused(r) => CopyAnswer::Refused(r),
-        Room::Enough(needed) => {
-            put_set(seed, n, list);
-            CopyAnswer::Wrote(needed)
-        }
-    }
+    let length = ready(n, list.len())?;
+    put_set(seed, n, list);
+    Ok(length)
 }

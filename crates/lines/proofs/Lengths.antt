@@ -7,11 +7,12 @@ use native.Mathlib.Bridge.{le_by_compare, IsLe}
 use native.Mathlib.Nat.{add-zero, mul-le-mul_right, suc-mul}
 use native.Mathlib.Numerals.{add-one}
 use native.Mathlib.Omega.{arith}
-use lib.ListN.{length, get_or, take, drop, length-append, take-append-drop}
-use lib.Seq.{take-suc, length-take-le}
+use lib.ListN.{length, get_or, take, drop, length-append}
+use lib.Seq.{take-suc, take_all, drop-cons, length-take-le}
 use Rattle.layout.specs.Words.{most_tasks}
 use Rattle.text.specs.Text.{digits, decimal}
-use Rattle.text.proofs.Sizes.{decimal_grows, widest_number, decimal_widest}
+use Rattle.text.proofs.Sizes.{widest_number, decimal_widest}
+use Rattle.printer.specs.Sinks.{SinkLaws}
 use Rattle.lines.specs.Lines.{plan_line, rate_line, rate_lines, walk_line, refused_line}
 
 -- No line is longer than that of the widest numbers.
@@ -22,10 +23,6 @@ plan_widest u l h e = simp length-append (omega (arith, decimal_widest u, decima
 rate_widest : (t r : ℕ) → length (rate_line t r) ≤ length (rate_line widest_number widest_number)
 unfolding rate_line
 rate_widest t r = simp length-append (omega (arith, decimal_widest t, decimal_widest r))
-
-rate_grows : (t u r : ℕ) → t ≤ u → length (rate_line t r) ≤ length (rate_line u r)
-unfolding rate_line
-rate_grows t u r h = simp length-append (omega (arith, decimal_grows t u h))
 
 rates_widest : (t : ℕ) (P : List ℕ) → length (rate_lines t P) ≤ length P * length (rate_line widest_number widest_number)
 rates_widest t [] = omega arith
@@ -75,17 +72,30 @@ rates-append t (r ∷ P) Q =
     ap (λ (l : List ℕ). rate_line t r ++ l) (rates-append (suc t) P Q ∙ ap (λ (k : ℕ). rate_lines (suc t) P ++ rate_lines k Q) there)
     ∙ sym (append_assoc (rate_line t r) (rate_lines (suc t) P) (rate_lines (t + suc (length P)) Q))
 
-module _ (P : List ℕ) (i : ℕ) (h : i < length P) where
-  pub rates-more : rate_lines 1 (take (i + 1) P) ≡ rate_lines 1 (take i P) ++ rate_line (i + 1) (get_or P i 0)
-  rates-more =
-      let there : 1 + length (take i P) ≡ i + 1 = omega (arith, length-take-le i P (omega arith)) in
-      rw (add-one i, take-suc P i 0 h, rates-append, ← add-one i, there, append-nil)
+-- Of a plan's rate lines a sink has taken those of the first i tasks, and the others have room.
+pub record RatesIn {S : Type 0} (fits : S → List ℕ → Type 0) (takes : S → List ℕ → S → Type 0) (s : S) (P : List ℕ) (i : ℕ) (t : S) : Type 0 where
+  pub taken : takes s (rate_lines 1 (take i P)) t
+  pub left : fits t (rate_lines (i + 1) (drop i P))
 
-  -- Where n bytes have room for all lines from a place on, they have it for this one behind those before it: whatever
-  -- its task's number, if that is no larger than it should be.
-  pub rate-room : (t at p n : ℕ) → t ≤ i + 1 → p ≡ at + length (rate_lines 1 (take i P)) → at + length (rate_lines 1 P) ≤ n
-      → p + length (rate_line t (get_or P i 0)) ≤ n
-  rate-room t at p n l e r =
-      let all = ap (λ (x : List ℕ). length (rate_lines 1 x)) (take-append-drop (i + 1) P) in
-      let split = ap length (rates-append 1 (take (i + 1) P) (drop (i + 1) P)) in
-      omega (arith, all, simp length-append at split, simp length-append at (ap length rates-more), rate_grows t (i + 1) (get_or P i 0) l)
+module _ {S : Type 0} {fits : S → List ℕ → Type 0} {takes : S → List ℕ → S → Type 0} (laws : SinkLaws fits takes) where
+  pub rates_none : (s : S) (P : List ℕ) → fits s (rate_lines 1 P) → RatesIn fits takes s P 0 s
+  rates_none s P h = record { taken = laws.none (laws.front [] (rate_lines 1 P) h); left = h }
+
+  module _ {s t : S} {P : List ℕ} {i : ℕ} (has : RatesIn fits takes s P i t) (h : i < length P) where
+    next : fits t (rate_line (i + 1) (get_or P i 0) ++ rate_lines (i + 1 + 1) (drop (i + 1) P))
+    next = rw (add-one (i + 1), add-one i) (rw (drop-cons P i 0 h, add-one i) at has.left)
+
+    pub rates_room : {r : ℕ} → r ≡ get_or P i 0 → fits t (rate_line (i + 1) r)
+    rates_room e = rw e (laws.front (rate_line (i + 1) (get_or P i 0)) (rate_lines (i + 1 + 1) (drop (i + 1) P)) next)
+
+    pub rates_more : {r : ℕ} {u : S} → r ≡ get_or P i 0 → takes t (rate_line (i + 1) r) u → RatesIn fits takes s P (i + 1) u
+    rates_more e a =
+        let one = rw e at a in
+        let there : 1 + length (take i P) ≡ i + 1 = omega (arith, length-take-le i P (omega arith)) in
+        record {
+          taken = rw (add-one i, take-suc P i 0 h, rates-append, there, append-nil) (laws.then has.taken one);
+          left = laws.behind next one;
+        }
+
+  pub rates_all : {s t : S} {P : List ℕ} {i : ℕ} → RatesIn fits takes s P i t → length P ≤ i → takes s (rate_lines 1 P) t
+  rates_all {s} {t} {P} {i} has h = rw (take_all i P h) at has.taken

@@ -1,43 +1,34 @@
--- Words that a loop writes one behind the other.
+-- A part of a list that is written as a slice of its own, and put back.
 -- Assumes nothing.
-use Prim.Native.Nat.{ℕ, zero, suc, ◌+◌, ◌≤◌, ◌<◌}
+use Prim.Native.Nat.{ℕ, ◌+◌, ◌≤◌, ◌<◌}
 use mathlib.Core.Path.{◌≡◌, refl, sym, ap, ◌∙◌}
-use mathlib.Core.List.{List, [], ◌∷◌, ◌++◌}
+use mathlib.Core.List.{List}
 use native.Mathlib.Omega.{arith}
-use lib.ListN.{length, set, length-set, replicate}
+use lib.Seq.{length-take-le}
+use lib.ListN.{length-drop, length-replicate, length, get_or, take, drop, replicate}
+use borrow.Rule.Slice.PartMut.{put_mid}
+use Rattle.std.proofs.lemmas.Grind.{same_number_lists}
 use Rattle.numbers.specs.Numbers.{each}
-use Rattle.numbers.proofs.Lists.{each-length, each_more}
-use Rattle.lists.specs.Writing.{written}
-use Rattle.lists.proofs.Writing.{written_none, extend}
-use Rattle.lists.proofs.Stores.{stored-alone}
+use Rattle.numbers.proofs.Lists.{each-length, each_at}
+use Rattle.lists.specs.Writing.{placed, written}
 
--- The first k of n words, f 1, f 2 and so on, stand in the list from a place on: d is the list before, e now.
-pub record Row (f : ℕ → ℕ) (n at : ℕ) (d : List ℕ) (k : ℕ) (e : List ℕ) : Type 0 where
-  pub few : k ≤ n
-  pub same : length e ≡ length d
-  pub is : e ≡ written at (each f 1 k) d
+-- The part now holds xs.
+pub part_written : (xs d : List ℕ) (at k : ℕ) → k ≡ length xs → put_mid at k d xs ≡ written at xs d
+unfolding placed written
+part_written xs d at k e = rw e refl
 
-pub row_none : (f : ℕ → ℕ) (n at : ℕ) (d : List ℕ) → Row f n at d 0 d
-row_none f n at d = record { few = omega arith; same = refl; is = written_none d at }
+-- The part now holds f 1, f 2 and so on, n of them.
+pub part_each : (f : ℕ → ℕ) (ys d : List ℕ) (at k n : ℕ) → k ≡ n → length ys ≡ n → ((j : ℕ) → j < n → get_or ys j 0 ≡ f (1 + j))
+    → put_mid at k d ys ≡ written at (each f 1 n) d
+part_each f ys d at k n e l is =
+    let same : ys ≡ each f 1 n = same_number_lists ys (each f 1 n) (l ∙ sym (each-length f 1 n))
+    (λ j h. let inside : j < n = omega arith in is j inside ∙ sym (each_at f 1 n j inside 0)) in
+    rw same (part_written (each f 1 n) d at k (e ∙ sym (each-length f 1 n)))
 
-module _ {f : ℕ → ℕ} {n at : ℕ} {d : List ℕ} {k : ℕ} {e : List ℕ} (r : Row f n at d k e) where
-  pub row_more : (v : ℕ) → at + n ≤ length d → k < n → v ≡ f (1 + k) → Row f n at d (k + 1) (set e (at + k) v)
-  row_more v room h is = record {
-    few = omega arith;
-    same = length-set e (at + k) v ∙ r.same;
-    is = extend (each f 1 k) (v ∷ []) d e (set e (at + k) v) at (at + k)
-        (ap (λ (l : ℕ). at + l) (sym (each-length f 1 k))) (omega arith) r.is
-        (stored-alone (v ∷ []) e (at + k) (omega (arith, r.same)))
-        ∙ ap (λ (x : ℕ). written at (each f 1 k ++ (x ∷ [])) d) is ∙ ap (λ (l : List ℕ). written at l d) (sym (each_more f 1 k));
-  }
-
-  pub row_all : n ≤ k → e ≡ written at (each f 1 n) d
-  row_all h = let z : k ≡ n = omega (arith, r.few) in r.is ∙ ap (λ (l : ℕ). written at (each f 1 l) d) z
-
--- Zeros as such a row.
-abbrev pub none : ℕ → ℕ
-none j = 0
-
-pub zeros : (i n : ℕ) → each none i n ≡ replicate n 0
-zeros i zero = refl
-zeros i (suc n) = ap (λ (l : List ℕ). 0 ∷ l) (zeros (suc i) n)
+-- The part was filled with zeros.
+pub part_zeros : (ys d : List ℕ) (at k n : ℕ) → k ≡ n → at + k ≤ length d → ys ≡ replicate (length (take k (drop at d))) 0
+    → put_mid at k d ys ≡ written at (replicate n 0) d
+part_zeros ys d at k n e room is =
+    let size : length (take k (drop at d)) ≡ n = length-take-le k (drop at d) (rw length-drop (omega arith)) ∙ e in
+    let zeros : ys ≡ replicate n 0 = is ∙ ap (λ (l : ℕ). replicate l 0) size in
+    rw zeros (part_written (replicate n 0) d at k (e ∙ sym (length-replicate n 0)))

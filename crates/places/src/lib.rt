@@ -1,6 +1,6 @@
 // The list of words of a task set in code: how many words stand where, which kind each one is of, and whether it is in
 // its range. What a list is, layout defines; what is made of its words is left to the crates above.
-#![tactic(auto)]
+#![tactic(auto, using(layout::proofs::Layouts::head_few, layout::proofs::Layouts::extra_few))]
 
 ghost use Rattle.std.specs.Prelude.{◌≡◌, ◌-◌, ◌^◌, ◌<◌, ◌≤◌, length};
 ghost use Rattle.layout.specs.Words.{head_size, extra_size, most_rates, most_tasks, rate_place, task_count_place};
@@ -28,6 +28,7 @@ pub const CYCLES_IN_TASK: usize = 1;
 pub const FIRST_IN_TASK: usize = 2;
 
 // How many words stand before the rate count.
+#[tactic(auto, unfolding(layout::specs::Words::head_kinds))]
 pub fn head_size(layout: Layout) -> usize
     ensures { result ≡ head_size layout }
 {
@@ -37,6 +38,7 @@ pub fn head_size(layout: Layout) -> usize
 }
 
 // How many words stand between a task's cycles and its energies.
+#[tactic(auto, unfolding(layout::specs::Words::extra_kinds))]
 fn extra_size(layout: Layout) -> usize
     ensures { result ≡ extra_size layout }
 {
@@ -50,11 +52,11 @@ pub fn head_kind(layout: Layout, q: usize) -> Kind
     requires { q < head_size layout }
     ensures { result ≡ head_kind layout q }
 {
-    if q == SLACK_PLACE {
-        return Kind::Slack;
-    }
-    match layout {
-        Layout::Ordinary => Kind::Idle,
+    match q {
+        SLACK_PLACE => Kind::Slack,
+        _ => match layout {
+            Layout::Ordinary => Kind::Idle,
+        },
     }
 }
 
@@ -62,17 +64,13 @@ pub fn head_kind(layout: Layout, q: usize) -> Kind
 pub fn task_kind(layout: Layout, k: usize) -> Kind
     ensures { result ≡ task_kind layout k }
 {
-    if k == 0 {
-        return Kind::Period;
-    }
-    if k == CYCLES_IN_TASK {
-        return Kind::Cycles;
-    }
-    if k == FIRST_IN_TASK {
-        return Kind::First;
-    }
-    match layout {
-        Layout::Ordinary => Kind::Energy,
+    match k {
+        0 => Kind::Period,
+        CYCLES_IN_TASK => Kind::Cycles,
+        FIRST_IN_TASK => Kind::First,
+        _ => match layout {
+            Layout::Ordinary => Kind::Energy,
+        },
     }
 }
 
@@ -80,28 +78,26 @@ pub fn task_kind(layout: Layout, k: usize) -> Kind
 fn own_period(q: usize) -> usize
     ensures { result ≡ q - 2 }
 {
-    if q < 2 {
-        return 0;
-    }
-    q - 2
+    q.saturating_sub(FIRST_IN_TASK)
 }
 
 // Whether the word at place q of a list, of this kind, is in its range.
+#[tactic(auto, unfolding(layout::specs::Words::allows))]
 pub fn is_allowed(s: &[u32], q: usize, k: Kind) -> bool
     requires { q < length s.now }
     ensures { result ≡ allows s.now q k }
 {
     let w = s[q] as u64;
     match k {
-        Kind::Slack => arithmetic::is_between(1, 1_000, w),
-        Kind::Idle => arithmetic::is_between(0, 1_000, w),
-        Kind::RateCount => arithmetic::is_between(2, 8, w),
-        Kind::Rate => arithmetic::is_between(1, 1_000_000, w),
-        Kind::TaskCount => arithmetic::is_between(1, 32, w),
-        Kind::Period => arithmetic::is_between(1, 10_000_000, w),
-        Kind::Cycles => arithmetic::is_between(1, 4_000_000_000, w),
+        Kind::Slack => (1..=1_000).contains(&w),
+        Kind::Idle => (0..=1_000).contains(&w),
+        Kind::RateCount => (2..=8).contains(&w),
+        Kind::Rate => (1..=1_000_000).contains(&w),
+        Kind::TaskCount => (1..=32).contains(&w),
+        Kind::Period => (1..=10_000_000).contains(&w),
+        Kind::Cycles => (1..=4_000_000_000).contains(&w),
         Kind::First => w < s[own_period(q)] as u64,
-        Kind::Energy => arithmetic::is_between(1, MOST_ENERGY, w),
+        Kind::Energy => (1..=MOST_ENERGY).contains(&w),
         Kind::LeftOver => false,
     }
 }

@@ -4,7 +4,7 @@ use Prim.Native.Nat.{ℕ, zero, suc, ◌+◌, ◌-◌, ◌*◌, ◌/◌, ◌%◌
 use mathlib.Core.Path.{◌≡◌, refl, sym, ap, ◌∙◌}
 use mathlib.Core.List.{List, [], ◌∷◌, ◌++◌, append-nil}
 use mathlib.Core.Bool.{Bool, true, false}
-use native.Mathlib.Nat.{pow-succ', one-le-pow, div-one, div-div-eq-div-mul}
+use native.Mathlib.Nat.{pow-succ', one-le-pow}
 use native.Mathlib.Omega.{arith}
 use lib.ListN.{length, get_or, take, drop, set, length-append, length-drop, length-set}
 use lib.Dec.{ltb}
@@ -14,8 +14,10 @@ use borrow.Rule.Slice.PartMut.{put_mid, Post-is}
 use Rattle.text.specs.Text.{decimal}
 use Rattle.text.proofs.Numerals.{decimal_step, decimal-one}
 use Rattle.lists.specs.Writing.{placed, written}
-use Rattle.lists.proofs.Writing.{written_none, written_front, length-written, written_then}
+use Rattle.lists.proofs.Writing.{written_none, written_front}
 use Rattle.printer.specs.Puts.{Put, Added}
+use Rattle.printer.specs.Taken.{BufferFits}
+use Rattle.printer.specs.declared.Buffer.{Buffer}
 
 -- ---- the digits of a number
 decimal_split : (v : ℕ) → 10 ≤ v → v < 2 ^ 64 → decimal v ≡ decimal (v / 10) ++ ((48 + v % 10) ∷ [])
@@ -52,15 +54,6 @@ length-between (suc j) v h k l =
     let h' : 10 * 10 ^ j ≤ v = rw (pow-succ' 10 j) at h in
     let k' : v < 10 * 10 ^ suc j = rw (pow-succ' 10 (suc j)) at k in
     omega (arith, length_large v (omega arith) l, length-between j (v / 10) (omega arith) (omega arith) (omega arith))
-
--- The lower j digits taken off at once.
-pub length_above : (j v : ℕ) → 10 ^ j ≤ v → v < 2 ^ 64 → length (decimal v) ≡ j + length (decimal (v / 10 ^ j))
-length_above zero v h l = rw div-one (omega arith)
-length_above (suc j) v h l =
-    let p = one-le-pow j 10 (omega arith) in
-    let h' : 10 * 10 ^ j ≤ v = rw (pow-succ' 10 j) at h in
-    let e = length_above j (v / 10) (omega arith) (omega arith) in
-    rw (pow-succ' 10 j, ← div-div-eq-div-mul) (omega (arith, length_large v (omega arith) l))
 
 -- Digits from the back: those of v behind the first i stand in their places of e, which was d; the first i are x's.
 pub record Filled (v : ℕ) (d : List ℕ) (x : ℕ) (e : List ℕ) (i : ℕ) : Type 0 where
@@ -124,36 +117,16 @@ fill_all {v} {x} {i} {n} {d} q h m = record {
 }
 
 -- ---- parts
--- Nothing yet, from a place on.
-pub none_added : (d : List ℕ) (at : ℕ) → at ≤ length d → Added at [] d d at
-none_added d at h = record { inside = h; size = omega arith; is = written_none d at }
-
--- A part, and then a part behind it.
-pub then : {xs ys d e f : List ℕ} {at p r : ℕ} → Added at xs d e p → Added p ys e f r → Added at (xs ++ ys) d f r
-then {xs} {ys} {d} {e} {f} {at} {p} {r} a b = record {
-  inside = a.inside;
-  size = omega (arith, a.size, b.size, length-append xs ys);
-  is = b.is ∙ ap (written p ys) a.is ∙ written_then xs ys d at p a.size a.inside;
-}
-
 -- The rest of a buffer was lent, and ys written to it.
-lent : {ys e f : List ℕ} {p n : ℕ} → p ≤ length e → Put ys (take (length e - p) (drop p e)) f n → Added p ys e (put_mid p (length e - p) e f) (p + n)
+pub lent : {ys e f : List ℕ} {p n : ℕ} → p ≤ length e → Put ys (take (length e - p) (drop p e)) f n → Added p ys e (put_mid p (length e - p) e f) (p + n)
 unfolding placed written
 lent {ys} {e} {f} {p} {n} h q =
     let all : take (length e - p) (drop p e) ≡ drop p e = take_all (length e - p) (drop p e) (rw length-drop (omega arith)) in
     record { inside = h; size = omega (arith, q.size); is = rw (q.is, all, Post-is p (length e) e h, drop-length, append-nil) }
 
-pub then_lent : {xs ys d e f : List ℕ} {at p n : ℕ}
-    → Added at xs d e p → p ≤ length e → Put ys (take (length e - p) (drop p e)) f n → Added at (xs ++ ys) d (put_mid p (length e - p) e f) (p + n)
-then_lent a h q = then a (lent h q)
+-- From the front on: there is room as far as the buffer goes. f is the buffer, as its owner has it back.
+pub from_front : {b : Buffer} {xs : List ℕ} → b.at ≡ 0 → length xs ≤ length b.all.now → BufferFits b xs
+from_front e h = record { room = omega arith }
 
--- A buffer stays as long as it was.
-pub added_length : {xs d e : List ℕ} {at n : ℕ} → n ≤ length d → Added at xs d e n → length e ≡ length d
-added_length {xs} {d} {e} {at} {n} h a = ap length a.is ∙ length-written xs d at (omega (arith, a.size))
-
--- From the front on.
-pub front : {xs d e : List ℕ} {n : ℕ} → Added 0 xs d e n → Put xs d e n
-front {xs} {d} a = record { size = omega (arith, a.size); is = a.is ∙ written_front xs d }
-
-pub from_front : {xs d e : List ℕ} {n : ℕ} → Put xs d e n → Added 0 xs d e n
-from_front {xs} {d} q = record { inside = omega arith; size = omega (arith, q.size); is = q.is ∙ sym (written_front xs d) }
+pub front : {xs d e f : List ℕ} {n : ℕ} → f ≡ e → Added 0 xs d e n → Put xs d f n
+front {xs} {d} back a = record { size = omega (arith, a.size); is = back ∙ a.is ∙ written_front xs d }

@@ -1,1 +1,4 @@
 pub mod Puts
+pub mod Sinks
+pub mod Counted
+pub mod Taken

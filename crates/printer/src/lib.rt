@@ -1,49 +1,94 @@
-// Bytes of a text, part by part: fixed strings and numbers, to a buffer from a place on, or only counted. What the
-// parts make together is left to the crates above. Each part's writer is lent the rest of the buffer that is not yet
-// written.
+// Bytes of a text, part by part: fixed strings and numbers, to a buffer or only counted. What the parts make together is
+// left to the crates above: a line is written once, for any sink, so that what counts it is what puts it.
 #![tactic(auto)]
 
-ghost use Rattle.std.specs.Prelude.{◌≡◌, ◌++◌, ◌+◌, ◌^◌, ◌≤◌, ◌<◌, length};
+ghost use Rattle.std.specs.Prelude.{ℕ, ◌≡◌, ◌++◌, ◌≤◌, List, length};
 ghost use Rattle.text.specs.Text.{decimal};
-ghost use Rattle.printer.specs.Puts.{Put, Added};
+ghost use Rattle.printer.specs.Puts.{Put};
+ghost use Rattle.printer.specs.Sinks.{SinkLaws};
+ghost use Rattle.printer.specs.Counted.{CountFits, CountTakes, count_laws};
+ghost use Rattle.printer.specs.Taken.{BufferFits, BufferTakes, buffer_laws};
 
-// How many digits a number below 10,000,000,000 has. The short numbers are told first, and nothing is divided.
-fn count_low(v: u64) -> usize
-    requires { v < 10 ^ 10 }
-    ensures { result ≡ length (decimal v) }
-{
-    let is_of_three = v < 1_000;
-    if v < 10 {
-        1
-    } else if v < 100 {
-        2
-    } else if is_of_three {
-        3
-    } else if v < 10_000 {
-        4
-    } else if v < 100_000 {
-        5
-    } else if v < 1_000_000 {
-        6
-    } else if v < 10_000_000 {
-        7
-    } else if v < 100_000_000 {
-        8
-    } else if v < 1_000_000_000 {
-        9
-    } else {
-        10
+// What takes the bytes of a text, as far as they fit.
+pub trait Sink {
+    ghost fits: { Self → List ℕ → Type 0 };
+
+    ghost takes: { Self → List ℕ → Self → Type 0 };
+
+    ghost laws: { SinkLaws fits takes };
+
+    fn put_bytes(&mut self, l: &[u8])
+        requires { fits self.old l.now }
+        ensures { takes self.old l.now self.new };
+
+    fn put_number(&mut self, v: u64)
+        requires { fits self.old (decimal v) }
+        ensures { takes self.old (decimal v) self.new };
+
+    // A fixed string and a number behind it.
+    final fn put_field(&mut self, l: &[u8], v: u64)
+        requires { fits self.old (l.now ++ decimal v) }
+        ensures { takes self.old (l.now ++ decimal v) self.new }
+    {
+        self.put_bytes(l);
+        self.put_number(v);
     }
 }
 
-// How many digits a number has: of a longer one the lower ten are taken off at once.
+// Only counts the bytes.
+#[derive(Clone, Copy)]
+pub struct Count {
+    pub bytes: usize,
+}
+
+impl Sink for Count {
+    ghost fits = { CountFits };
+
+    ghost takes = { CountTakes };
+
+    ghost laws = { count_laws };
+
+    fn put_bytes(&mut self, l: &[u8]) {
+        self.bytes += l.len();
+    }
+
+    fn put_number(&mut self, v: u64) {
+        self.bytes += count_number(v);
+    }
+}
+
+// Puts the bytes to a buffer, from a place on: each part's writer is lent the rest that is not yet written.
+#[derive(Drop)]
+pub struct Buffer<'a> {
+    pub all: &'a mut [u8],
+    pub at: usize,
+}
+
+impl<'a> Sink for Buffer<'a> {
+    ghost fits = { BufferFits };
+
+    ghost takes = { BufferTakes };
+
+    ghost laws = { buffer_laws };
+
+    fn put_bytes(&mut self, l: &[u8]) {
+        let at = self.at;
+        self.at += put_bytes(&mut self.all[at..], l);
+    }
+
+    fn put_number(&mut self, v: u64) {
+        let at = self.at;
+        self.at += put_number(&mut self.all[at..], v);
+    }
+}
+
+// How many digits a number has.
 fn count_number(v: u64) -> usize
     ensures { result ≡ length (decimal v) }
 {
-    if v < 10_000_000_000 {
-        count_low(v)
-    } else {
-        10 + count_low(v / 10_000_000_000)
+    match v.checked_ilog10() {
+        Some(power) => power as usize + 1,
+        None => 1,
     }
 }
 
@@ -52,12 +97,8 @@ pub fn put_bytes(buf: &mut [u8], l: &[u8]) -> usize
     requires { length l.now ≤ length buf.old }
     ensures { Put l.now buf.old buf.new result }
 {
-    let mut i = 0;
-    while i < l.len() {
-        buf[i] = l[i];
-        i += 1;
-    }
-    i
+    buf[..l.len()].copy_from_slice(l);
+    l.len()
 }
 
 // The decimal digits of a number, to the front of a buffer: filled from the back, as a division gives them.
@@ -67,51 +108,10 @@ fn put_number(buf: &mut [u8], v: u64) -> usize
 {
     let n = count_number(v);
     let mut x = v;
-    let mut i = n;
-    while 1 < i {
-        i -= 1;
-        buf[i] = 48 + (x % 10) as u8;
+    for i in (1..n).rev() {
+        buf[i] = b'0' + (x % 10) as u8;
         x /= 10;
     }
-    buf[0] = 48 + x as u8;
+    buf[0] = b'0' + x as u8;
     n
-}
-
-// The same to the rest of a buffer, from a place on: the rest is lent to the writer. The place after it.
-pub fn add_bytes(buf: &mut [u8], at: usize, l: &[u8]) -> usize
-    requires { at + length l.now ≤ length buf.old }
-    ensures { Added at l.now buf.old buf.new result }
-{
-    at + put_bytes(&mut buf[at..], l)
-}
-
-fn add_number(buf: &mut [u8], at: usize, v: u64) -> usize
-    requires { at + length (decimal v) ≤ length buf.old }
-    ensures { Added at (decimal v) buf.old buf.new result }
-{
-    at + put_number(&mut buf[at..], v)
-}
-
-// A fixed string and a number behind it.
-pub fn add_field(buf: &mut [u8], at: usize, l: &[u8], v: u64) -> usize
-    requires { at + length (l.now ++ decimal v) ≤ length buf.old }
-    ensures { Added at (l.now ++ decimal v) buf.old buf.new result }
-{
-    let a = add_bytes(buf, at, l);
-    add_number(buf, a, v)
-}
-
-// The same parts without a buffer: only the place after each. What counts a line is then what puts it, part for part.
-pub fn count_bytes(at: usize, l: &[u8]) -> usize
-    requires { at + length l.now < 2 ^ 64 }
-    ensures { result ≡ at + length l.now }
-{
-    at + l.len()
-}
-
-pub fn count_field(at: usize, l: &[u8], v: u64) -> usize
-    requires { at + length (l.now ++ decimal v) < 2 ^ 64 }
-    ensures { result ≡ at + length (l.now ++ decimal v) }
-{
-    count_bytes(at, l) + count_number(v)
 }

@@ -5,11 +5,12 @@ use mathlib.Core.Path.{◌≡◌, refl, sym, ap, ◌∙◌, subst}
 use mathlib.Core.List.{List}
 use native.Mathlib.Nat.{suc-mul, mul-le-mul_right}
 use native.Mathlib.Omega.{arith}
-use lib.ListN.{length, take, drop, length-append, get_or-append}
+use lib.ListN.{length, take, drop, get_or, length-append, length-take, length-drop, get_or-append}
+use Rattle.std.specs.Prelude.{Option, Some, None, SomeIndex}
+use Rattle.std.proofs.Common.{get_or-take, get_or-drop}
 use lib.Seq.{take_at}
 use Rattle.numbers.specs.Numbers.{Lowest}
-use Rattle.numbers.specs.Search.{Found}
-use Rattle.layout.specs.Words.{head_kinds, word, rate_count, task_size, energy_place, energy}
+use Rattle.layout.specs.Words.{head_kinds, most_energy, word, rate_count, task_size, energy_place, energy}
 use Rattle.layout.specs.declared.Layout.TheVariants.{Ordinary}
 use Rattle.lists.specs.Writing.{placed, written}
 use Rattle.text.specs.Text.{Clock, rates, chip, Script, ScriptOk, rates_of, words}
@@ -17,12 +18,29 @@ use Rattle.text.specs.Calls.{WorksOut, HasOver}
 use Rattle.text.proofs.Sizes.{rates_few, words_size}
 use Rattle.text.proofs.Copies.{NoneOver}
 use Rattle.forms.specs.Forms.{clock_of, said_of}
-use Rattle.reader.specs.Over.{OverIn, Holds, NamesChip, FirstNumber, OverTask}
+use Rattle.reader.specs.Over.{OverIn, Holds, NamesChip, IsFirst, FirstNumber, OverTask}
 
 -- ---- places
--- The energies of a task that the list has the words of.
-pub energy_inside : (d : List ℕ) (m t r : ℕ) → Holds d m (suc t) → 1 ≤ r → r ≤ m → energy_place Ordinary m t r < length d
-energy_inside d m t r h a b = omega (arith, h.room, suc-mul t (task_size Ordinary m))
+-- The energies of a task stand one after the other.
+module _ (d : List ℕ) (m t first n : ℕ) (at : first ≡ energy_place Ordinary m t 1) (all : n ≡ m) (h : Holds d m (suc t)) where
+  abbrev energies : List ℕ
+  energies = take n (drop first d)
+
+  some : length energies ≡ m
+  some = simp (length-take, length-drop) (omega (arith, h.room, suc-mul t (task_size Ordinary m)))
+
+  one : (k : ℕ) → k < m → get_or energies k 0 ≡ word d (energy_place Ordinary m t (k + 1))
+  one k l =
+      let there : first + k ≡ energy_place Ordinary m t (k + 1) = omega arith in
+      get_or-take n (drop first d) k 0 (omega arith) ∙ get_or-drop first d k 0 ∙ ap (word d) there
+
+  pub over_in : SomeIndex energies (λ k. most_energy < get_or energies k 0) → OverIn d m t
+  over_in (k, l, o) = let e = one k (omega (arith, some)) in (k + 1, omega arith, omega (arith, some), omega (arith, e))
+
+  pub over_among : OverIn d m t → SomeIndex energies (λ k. most_energy < get_or energies k 0)
+  over_among (r, a, b, o) =
+      let back : r - 1 + 1 ≡ r = omega arith in
+      let e = rw back at (one (r - 1) (omega arith)) in (r - 1, omega (arith, some), omega (arith, e))
 
 -- A list that has the words of n tasks has those of each of them.
 pub holds_each : (d : List ℕ) (m n t : ℕ) → Holds d m n → t < n → Holds d m (suc t)
@@ -33,42 +51,19 @@ holds_each d m n t h l = record {
 }
 
 -- ---- a first task, by its number
-module _ {P : ℕ → Type 0} {n t : ℕ} (f : Found P 0 n t) where
-  pub numbered : t < n → FirstNumber P n (t + 1)
-  numbered l =
-      let back : t ≡ t + 1 - 1 = omega arith in
-      record {
-        few = omega arith;
-        none = λ z. absurd (omega arith);
-        here = λ z. subst P back (f.hit l);
-        before = λ z j k. f.none j (omega arith) (omega arith);
-      }
-
-  pub none-numbered : n ≤ t → FirstNumber P n 0
-  none-numbered l = record {
-    few = omega arith;
-    none = λ z j k. f.none j (omega arith) (omega arith);
-    here = λ z. absurd (omega arith);
-    before = λ z. absurd (omega arith);
-  }
+pub numbered : {P : ℕ → Type 0} {n t : ℕ} → t < n → P t → ((k : ℕ) → k < t → P k → ⊥) → IsFirst P n (t + 1)
+numbered {P} {n} {t} l h none =
+    let back : t ≡ t + 1 - 1 = omega arith in
+    record { from = omega arith; few = omega arith; here = subst P back h; before = λ k j. none k (omega arith) }
 
 -- The same, of what holds with a fact beside it.
-pub with_fact : {F : Type 0} {P : ℕ → Type 0} {n k : ℕ} → F → FirstNumber P n k → FirstNumber (λ t. F × P t) n k
-with_fact fact f = record {
+pub with_fact : {F : Type 0} (P : ℕ → Type 0) (n : ℕ) (r : Option ℕ) → F → FirstNumber P n r → FirstNumber (λ t. F × P t) n r
+with_fact P n None fact f = λ t l h. f t l h.1
+with_fact P n (Some k) fact f = record {
+  from = f.from;
   few = f.few;
-  none = λ e t l h. f.none e t l h.1;
-  here = λ a. (fact, f.here a);
-  before = λ a t l h. f.before a t l h.1;
-}
-
--- Nothing is worked out.
-pub never : {P : ℕ → Type 0} (n : ℕ) → ((t : ℕ) → P t → ⊥) → FirstNumber P n 0
-never n h = record {
-  few = omega arith;
-  none = λ z t l. h t;
-  here = λ z. absurd (omega arith);
-  before = λ z.
-      absurd (omega arith);
+  here = (fact, f.here);
+  before = λ t l h. f.before t l h.1;
 }
 
 -- ---- the words at the front of the reader's own list
@@ -140,16 +135,15 @@ module _ (s : Script) (ok : ScriptOk s) (z d : List ℕ) (stands : d ≡ written
   )
 
   -- The number that the code found is that of the first task with such an energy; and where it found none, there is none.
-  module _ (k : ℕ) (f : OverTask d (said_of s) k) where
-    pub first-over : 1 ≤ k → WorksOut s.clock × Lowest (HasOver s) k
-    first-over a =
-        let w = (f.here a).0 in (
-          works s.clock w,
-          record {
-            here = has_over k a f.few (f.here a).1;
-            before = λ j l h. f.before a (j - 1) (omega (arith, h.from)) (w, is_over_lem j h);
-          },
-        )
+  pub first-over : (k : ℕ) → OverTask d (said_of s) (Some k) → WorksOut s.clock × Lowest (HasOver s) k
+  first-over k f =
+      let w = f.here.0 in (
+        works s.clock w,
+        record {
+          here = has_over k f.from f.few f.here.1;
+          before = λ j l h. f.before (j - 1) (omega (arith, h.from)) (w, is_over_lem j h);
+        },
+      )
 
-    pub none_over : k ≡ 0 → NoneOver s
-    none_over e w j h = f.none e (j - 1) (omega (arith, h.from, h.to)) (worked s.clock w, is_over_lem j h)
+  pub none_over : OverTask d (said_of s) None → NoneOver s
+  none_over f w j h = f (j - 1) (omega (arith, h.from, h.to)) (worked s.clock w, is_over_lem j h)

@@ -1,6 +1,6 @@
 -- What the functions that look for an energy over the largest give. Not part of what a reader must believe: the call's
 -- own contract names none of it.
-use Rattle.std.specs.Prelude.{ℕ, ◌-◌, ◌≤◌, ◌<◌, ◌≡◌, List, length}
+use Rattle.std.specs.Prelude.{ℕ, ◌-◌, ◌≤◌, ◌<◌, List, length, Option, Some, None}
 use Rattle.layout.specs.Words.{most_rates, most_tasks, most_energy, word, period_place, energy_place}
 use Rattle.layout.specs.declared.Layout.TheVariants.{Ordinary}
 use Rattle.forms.specs.declared.Clock.{Clock}
@@ -26,12 +26,16 @@ abbrev pub NamesChip : Clock → Type 0
 NamesChip (Rates m) = ⊥
 NamesChip (Named c) = Unit {0}
 
--- k is the number, from 1, of the first of n tasks of which P holds; 0 where it holds of none.
-pub record FirstNumber (P : ℕ → Type 0) (n k : ℕ) : Type 0 where
+-- k is the number, from 1, of the first of n tasks of which P holds; or P holds of none.
+pub record IsFirst (P : ℕ → Type 0) (n k : ℕ) : Type 0 where
+  pub from : 1 ≤ k
   pub few : k ≤ n
-  pub none : k ≡ 0 → (t : ℕ) → t < n → P t → ⊥
-  pub here : 1 ≤ k → P (k - 1)
-  pub before : 1 ≤ k → (t : ℕ) → t < k - 1 → P t → ⊥
+  pub here : P (k - 1)
+  pub before : (t : ℕ) → t < k - 1 → P t → ⊥
 
-abbrev pub OverTask : List ℕ → Said → ℕ → Type 0
+abbrev pub FirstNumber : (ℕ → Type 0) → ℕ → Option ℕ → Type 0
+FirstNumber P n (Some k) = IsFirst P n k
+FirstNumber P n None = (t : ℕ) → t < n → P t → ⊥
+
+abbrev pub OverTask : List ℕ → Said → Option ℕ → Type 0
 OverTask d v = FirstNumber (λ t. NamesChip v.clock × OverIn d v.rates t) v.tasks

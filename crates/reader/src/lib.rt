@@ -3,14 +3,15 @@
 // list of its own; the list lent is changed only when all of it is read and fits. Ranges are not judged here.
 #![tactic(auto)]
 
-ghost use Rattle.std.specs.Prelude.{◌≡◌, suc, ◌+◌, ◌≤◌, length};
-ghost use Rattle.numbers.specs.Search.{Found};
+ghost use Rattle.std.specs.Prelude.{◌≡◌, suc, ◌≤◌, ◌<◌, ◌↔◌, length, IsTrue, SomeIndex, slice_index};
+ghost use Rattle.layout.specs.Words.{most_energy};
 ghost use Rattle.text.specs.Calls.{ReaderGives};
 ghost use Rattle.lists.specs.Writing.{placed};
-ghost use Rattle.reader.specs.Over.{OverAt, OverIn, Holds, OverTask};
+ghost use Rattle.reader.specs.Over.{OverIn, Holds, FirstNumber, OverTask};
 
-use forms::{Clock, Said, SetRead};
+use forms::{Clock, Said};
 use layout::Layout;
+use scanner::Cursor;
 use taskset::{CopyAnswer, Refusal};
 
 // Copies words to the front of a list.
@@ -18,62 +19,49 @@ fn put_words(out: &mut [u32], l: &[u32]) -> usize
     requires { length l.now ≤ length out.old }
     ensures { (result ≡ length l.now) × (out.new ≡ placed l.now out.old) }
 {
-    let mut i = 0;
-    while i < l.len() {
-        out[i] = l[i];
-        i += 1;
-    }
-    i
+    out[..l.len()].copy_from_slice(l);
+    l.len()
 }
 
-// The first rate number, of m, at which the energy of the task at t is over the largest; or m + 1.
-fn over_rate(set: &[u32], m: usize, t: usize) -> usize
+// Whether one of some energies is over the largest.
+fn any_over(energies: &[u32]) -> bool
+    ensures { IsTrue result ↔ SomeIndex energies.now (λ k. most_energy < slice_index energies.now k) }
+{
+    energies
+        .iter()
+        .any(|energy| places::MOST_ENERGY < *energy as u64)
+}
+
+// Whether the task at t has such an energy, of m.
+fn has_over(set: &[u32], m: usize, t: usize) -> bool
     requires { Holds set.now m (suc t) }
-    ensures { Found (OverAt set.now m t) 1 (m + 1) result }
+    ensures { IsTrue result ↔ OverIn set.now m t }
 {
-    let mut r = 1;
-    while r <= m {
-        let at = places::energy_place(Layout::Ordinary, m, t, r);
-        let is_over = places::MOST_ENERGY < set[at] as u64;
-        if is_over {
-            return r;
-        }
-        r += 1;
-    }
-    r
+    let first = places::energy_place(Layout::Ordinary, m, t, 1);
+    any_over(&set[first..first + m])
 }
 
-// The place of the first of n tasks that has such an energy; or n.
-fn first_over(set: &[u32], m: usize, n: usize) -> usize
+// The number of the first of n tasks that has such an energy.
+fn first_over(set: &[u32], m: usize, n: usize) -> Option<usize>
     requires { Holds set.now m n }
-    ensures { Found (OverIn set.now m) 0 n result }
+    ensures { FirstNumber (OverIn set.now m) n result }
 {
-    let mut t = 0;
-    while t < n {
-        if over_rate(set, m, t) <= m {
-            return t;
+    for t in 0..n {
+        if has_over(set, m, t) {
+            return Some(t + 1);
         }
-        t += 1;
     }
-    t
+    None
 }
 
-// The number of the first task with an energy that was worked out and is over the largest; 0 where there is none.
-fn over_task(set: &[u32], said: Said) -> usize
+// The number of the first task with an energy that was worked out and is over the largest.
+fn over_task(set: &[u32], said: Said) -> Option<usize>
     requires { Holds set.now said.rates said.tasks }
     ensures { OverTask set.now said result }
 {
-    let clock = said.clock;
-    match clock {
-        Clock::Rates(_) => 0,
-        Clock::Named(_) => {
-            let n = said.tasks;
-            let t = first_over(set, said.rates, n);
-            if t < n {
-                return t + 1;
-            }
-            0
-        }
+    match said.clock {
+        Clock::Rates(_) => None,
+        Clock::Named(_) => first_over(set, said.rates, said.tasks),
     }
 }
 
@@ -83,24 +71,25 @@ pub fn read(text: &[u8], words: &mut [u32]) -> CopyAnswer
     ensures { ReaderGives text.now words.old words.new result }
 {
     let mut set = [0u32; places::MOST_WORDS];
-    match forms::read_set(text, &mut set) {
-        SetRead::Got(said, i) => {
+    let mut cursor = Cursor::new(text);
+    match forms::read_set(&mut cursor, &mut set) {
+        Ok(said) => {
             let n = said.words;
-            let k = over_task(&set, said);
+            let i = cursor.at();
+            let over = over_task(&set, said);
             let is_left_over = i < text.len();
-            let is_over = 0 < k;
             let is_short = words.len() < n;
             if is_left_over {
-                return CopyAnswer::Refused(Refusal::TextDeparts(i));
+                return Err(Refusal::TextDeparts(i));
             }
-            if is_over {
-                return CopyAnswer::Refused(Refusal::EnergyOver(k));
+            if let Some(k) = over {
+                return Err(Refusal::EnergyOver(k));
             }
             if is_short {
-                return CopyAnswer::Refused(Refusal::TooShort(n));
+                return Err(Refusal::TooShort(n));
             }
-            CopyAnswer::Wrote(put_words(words, &set[..n]))
+            Ok(put_words(words, &set[..n]))
         }
-        SetRead::Bad(o) => CopyAnswer::Refused(Refusal::TextDeparts(o)),
+        Err(departure) => Err(Refusal::TextDeparts(departure.at)),
     }
 }

@@ -10,10 +10,15 @@ use native.Mathlib.Numerals.{add-one}
 use lib.ListN.{length, get_or, drop, drop_of_length-le}
 use lib.Seq.{drop-cons, drop-drop}
 use borrow.Author.Tests.{eq-eqb, ne_eqb}
-use Rattle.text.specs.Reading.{Res, got, bad, ext, next, later, map_res, mapped, after, seq, literal, more, number}
+use Rattle.text.specs.Reading.{Res, got, bad, ext, next, later, map_res, mapped, after, seq, skip, up_to, literal, more, number}
 use Rattle.text.specs.Reading.{starts, either, read_at}
 use Rattle.text.proofs.Digits.{NoDigit}
-use Rattle.scanner.specs.Steps.{Stands}
+use Rattle.std.specs.Prelude.{Result, Ok, Err}
+use Rattle.std.specs.Result.{IsErrAnd}
+use Rattle.std.proofs.lemmas.Result.{err_from_is_err_and}
+use Rattle.scanner.specs.Steps.{Stands, of_read, Reads}
+use Rattle.scanner.specs.declared.Cursor.{Cursor}
+use Rattle.scanner.specs.declared.Departure.{Departure}
 use Rattle.scanner.specs.declared.Class.TheVariants.{Digit}
 use Rattle.text.proofs.Numerals.{more_digit, more_large, first_digit, more_stop, no_number}
 
@@ -36,22 +41,6 @@ later-map f i (bad o) = refl
 pub map_id : {A : Type 0} (x : Res A) → map_res (λ a. a) x ≡ x
 map_id (got a n) = refl
 map_id (bad o) = refl
-
--- What a callee's answer y tells of what it read, x: f is what the answer shows of it.
-pub record Took {A B : Type 0} (f : A → B) (x : Res A) (v : B) (i : ℕ) : Type 0 where
-  pub item : A
-  pub is : x ≡ got item i
-  pub shows : f item ≡ v
-
-pub took : {A B : Type 0} (f : A → B) (x : Res A) {y : Res B} {v : B} {i : ℕ} → y ≡ map_res f x → y ≡ got v i → Took f x v i
-took f (got a j) {y} {v} {i} e q =
-    let h : got v i ≡ got (f a) j = sym q ∙ e in
-    record { item = a; is = ap (got a) (ap ext (sym h)); shows = cc }
-took f (bad o) {y} {v} {i} e q = let h : got v i ≡ bad o = sym q ∙ e in let z : ◌≡◌ {A = ℕ} 0 1 = cc in absurd (omega arith)
-
-pub lost : {A B : Type 0} (f : A → B) (x : Res A) {y : Res B} {o : ℕ} → y ≡ map_res f x → y ≡ bad o → x ≡ bad o
-lost f (got a i) {y} {o} e q = let h : bad o ≡ got (f a) i = sym q ∙ e in let z : ◌≡◌ {A = ℕ} 0 1 = cc in absurd (omega arith)
-lost f (bad p) {y} {o} e q = let h : bad o ≡ bad p = sym q ∙ e in ap bad (ap ext (sym h))
 
 -- One or the other, where the next byte is known; and a value that is turned into another.
 module _ {A : Type 0} (c : ℕ) (p q : List ℕ → Res A) (s : List ℕ) (at : ℕ) where
@@ -81,6 +70,93 @@ seq_at {A} {B} {C} mk p f s at = go (p (drop at s))
     go : (x : Res A) → later at (after mk (drop at s) f x) ≡ onward mk f s (later at x)
     go (got a n) = rw (drop-drop n at s, later-later, later-map)
     go (bad o) = refl
+
+-- ---- what is read at a cursor, piece by piece
+-- An answer whose value is turned into another.
+abbrev pub on_value : {A B : Type 0} → (A → B) → Result A Departure → Result B Departure
+on_value f (Ok a) = Ok (f a)
+on_value f (Err d) = Err d
+
+of_value : {A B : Type 0} (f : A → B) (r : Result A Departure) (i : ℕ) → of_read (on_value f r) i ≡ map_res f (of_read r i)
+of_value f (Ok a) i = refl
+of_value f (Err d) i = refl
+
+pub shown : {A B : Type 0} (f : A → B) (p : List ℕ → Res A) {x y : Cursor} (r : Result A Departure) → Reads p x y r
+    → Reads (mapped f p) x y (on_value f r)
+shown f p {x} {y} r h = record {
+  same = h.same;
+  answers = of_value f r y.at ∙ ap (map_res f) h.answers ∙ sym (map_at f p x.text.now x.at);
+}
+
+-- A piece, and then a piece that may depend on its value: the first departs, or the second gives the answer.
+module _ {A B C : Type 0} (mk : A → B → C) (p : List ℕ → Res A) (f : A → List ℕ → Res B) {x y : Cursor} where
+  pub first_departs : {d : Departure} → Reads p x y (Err d) → Reads (seq mk p f) x y (Err d)
+  first_departs h = record { same = h.same; answers = rw (seq_at, sym h.answers) }
+
+  module _ {a : A} (h : Reads p x y (Ok a)) where
+    pub behind : read_at (seq mk p f) x.text.now x.at ≡ map_res (mk a) (read_at (f a) y.text.now y.at)
+    behind = rw (seq_at, sym h.answers, ← h.same)
+
+    pub second : {z : Cursor} (r : Result B Departure) → Reads (f a) y z r → Reads (seq mk p f) x z (on_value (mk a) r)
+    second {z} r k = record {
+      same = k.same ∙ h.same;
+      answers = of_value (mk a) r z.at ∙ ap (map_res (mk a)) k.answers ∙ sym behind;
+    }
+
+-- A fixed string in front of a piece.
+module _ {A : Type 0} (l : List ℕ) (p : List ℕ → Res A) {x y : Cursor} where
+  pub skip_departs : {d : Departure} → Reads (literal l) x y (Err d) → Reads (skip l p) x y (Err d)
+  skip_departs h = first_departs (λ _ a. a) (literal l) (λ _. p) h
+
+  pub behind_string : {u : Unit {0}} → Reads (literal l) x y (Ok u) → read_at (skip l p) x.text.now x.at ≡ read_at p y.text.now y.at
+  behind_string h = behind (λ _ a. a) (literal l) (λ _. p) h ∙ map_id (read_at p y.text.now y.at)
+
+  pub skipped : {z : Cursor} {u : Unit {0}} {r : Result A Departure} → Reads (literal l) x y (Ok u) → Reads p y z r
+      → Reads (skip l p) x z r
+  skipped h k = record { same = k.same ∙ h.same; answers = k.answers ∙ sym (behind_string h) }
+
+-- A piece in front of a fixed string.
+module _ {A : Type 0} (p : List ℕ → Res A) (l : List ℕ) {x y : Cursor} where
+  pub piece_departs : {d : Departure} → Reads p x y (Err d) → Reads (up_to p l) x y (Err d)
+  piece_departs h = first_departs (λ a _. a) p (λ _. literal l) h
+
+  pub closed : {z : Cursor} {a : A} (r : Result (Unit {0}) Departure) → Reads p x y (Ok a) → Reads (literal l) y z r
+      → Reads (up_to p l) x z (on_value (λ _. a) r)
+  closed r h k = second (λ a _. a) p (λ _. literal l) h r k
+
+-- One piece or another.
+module _ {A : Type 0} (c : ℕ) (p q : List ℕ → Res A) {x y : Cursor} {r : Result A Departure} where
+  pub reads_first : starts c (drop x.at x.text.now) ≡ true → Reads p x y r → Reads (either c p q) x y r
+  reads_first e h = record { same = h.same; answers = h.answers ∙ sym (either_first c p q x.text.now x.at e) }
+
+  pub reads_second : starts c (drop x.at x.text.now) ≡ false → Reads q x y r → Reads (either c p q) x y r
+  reads_second e h = record { same = h.same; answers = h.answers ∙ sym (either_second c p q x.text.now x.at e) }
+
+-- What was read, of which an answer shows v.
+pub record Took {A B : Type 0} (f : A → B) (p : List ℕ → Res A) (x y : Cursor) (v : B) : Type 0 where
+  pub item : A
+  pub reads : Reads p x y (Ok item)
+  pub shows : f item ≡ v
+
+pub took : {A B : Type 0} (f : A → B) (p : List ℕ → Res A) {x y : Cursor} {v : B} → Reads (mapped f p) x y (Ok v) → Took f p x y v
+took {A} f p {x} {y} {v} h = go (read_at p x.text.now x.at) refl (h.answers ∙ map_at f p x.text.now x.at)
+  where
+    go : (w : Res A) → w ≡ read_at p x.text.now x.at → got v y.at ≡ map_res f w → Took f p x y v
+    go (got a i) e q = record { item = a; reads = record { same = h.same; answers = ap (got a) (ap ext q) ∙ e }; shows = cc }
+    go (bad o) e q = absurd cc
+
+pub lost : {A B : Type 0} (f : A → B) (p : List ℕ → Res A) {x y : Cursor} {d : Departure} → Reads (mapped f p) x y (Err d)
+    → Reads p x y (Err d)
+lost {A} f p {x} {y} {d} h = go (read_at p x.text.now x.at) refl (h.answers ∙ map_at f p x.text.now x.at)
+  where
+    go : (w : Res A) → w ≡ read_at p x.text.now x.at → bad d.at ≡ map_res f w → Reads p x y (Err d)
+    go (got a i) e q = absurd cc
+    go (bad o) e q = record { same = h.same; answers = ap bad (ap ext q) ∙ e }
+
+-- A `?` hands the departure on.
+pub handed : {A : Type 0} {p : List ℕ → Res A} {x y : Cursor} {d : Departure} (r : Result A Departure) → IsErrAnd r (λ e. e ≡ d)
+    → Reads p x y (Err d) → Reads p x y r
+handed r q h = let e = err_from_is_err_and r q in rw (e.1, e.2) h
 
 module _ (l s : List ℕ) (i j : ℕ) where
   pub literal_on : i < length s → j < length l → get_or s i 0 ≡ get_or l j 0

@@ -1,11 +1,12 @@
 -- What the functions that go byte by byte give: the class of a byte, and what a piece of the text reads as at a place.
 -- Not part of what a reader must believe: the reader's contract speaks of scripts and their texts.
 use Rattle.std.specs.Prelude.{ℕ, ◌-◌, ◌≤◌, ◌<◌, ◌≡◌, List, Bool, true, false, length, get_or}
-use Rattle.text.specs.Reading.{Res, got, bad}
+use Rattle.std.specs.Prelude.{Result, Ok, Err}
+use Rattle.text.specs.Reading.{Res, got, bad, read_at}
 use Rattle.scanner.specs.declared.Class.{Class}
 use Rattle.scanner.specs.declared.Class.TheVariants.{End, Digit, Bracket, Space, LineEnd, Letter, Other}
-use Rattle.scanner.specs.declared.Read.{Read}
-use Rattle.scanner.specs.declared.Read.TheVariants.{Got, Bad}
+use Rattle.scanner.specs.declared.Cursor.{Cursor}
+use Rattle.scanner.specs.declared.Departure.{Departure}
 
 -- A byte from low to high stands at a place of a text.
 pub record ByteAt (low high : ℕ) (s : List ℕ) (at : ℕ) : Type 0 where
@@ -35,13 +36,15 @@ Stands LineEnd s at = ByteAt 10 10 s at
 Stands (Letter b) s at = ByteAt 97 122 s at × (b ≡ get_or s at 0)
 Stands Other s at = OtherAt s at
 
--- The answer of the code as a result of reading; and the value of a piece that has none to give.
-abbrev pub of_read : Read → Res ℕ
-of_read (Got v i) = got v i
-of_read (Bad o) = bad o
+-- An answer of the code, and the place where its cursor stands then, as a result of reading.
+abbrev pub of_read : {A : Type 0} → Result A Departure → ℕ → Res A
+of_read (Ok a) i = got a i
+of_read (Err d) i = bad d.at
 
-abbrev pub no_value : {A : Type 0} → A → ℕ
-no_value a = 0
+-- What reading a piece at a cursor gives: x is the cursor before, y after.
+pub record Reads {A : Type 0} (p : List ℕ → Res A) (x y : Cursor) (r : Result A Departure) : Type 0 where
+  pub same : y.text.now ≡ x.text.now
+  pub answers : of_read r y.at ≡ read_at p x.text.now x.at
 
 -- Whether a piece was read.
 abbrev pub taken : {A : Type 0} → Res A → Bool

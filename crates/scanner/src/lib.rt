@@ -4,8 +4,8 @@
 
 ghost use Rattle.std.specs.Prelude.{◌≡◌, false, ◌-◌, ◌≤◌, length, drop};
 ghost use Rattle.text.specs.Reading;
-ghost use Rattle.text.specs.Reading.{read_at, map_res, ext, starts};
-ghost use Rattle.scanner.specs.Steps.{Stands, of_read, no_value, taken};
+ghost use Rattle.text.specs.Reading.{read_at, ext, starts};
+ghost use Rattle.scanner.specs.Steps.{Stands, Reads, taken};
 
 // What stands at a place of the text: the end, or a byte by the classes that document 01 names for the step. A line's
 // end stands in fixed strings alone, so that no form asks for it by its class.
@@ -20,159 +20,164 @@ pub enum Class {
     Other,
 }
 
-// What reading gives: a value and the place after it, or the offset at which the text departs. The value is the number
-// that was read, how many items a list has, and 0 where there is none to give.
+// The text does not read as it must: the offset of the first byte that departs.
+#[derive(Clone, Copy, Debug, PartialEq, Eq)]
+pub struct Departure {
+    pub at: usize,
+}
+
+// A text and the place in it at which the next step reads. A step that reads what it must goes past it.
 #[derive(Clone, Copy)]
-pub enum Read {
-    Got(u32, usize),
-    Bad(usize),
+pub struct Cursor<'a> {
+    text: &'a [u8],
+    at: usize,
 }
 
-// The class of the next byte. Each bracket has an arm of its own: four single bytes are tested together, in front of
-// the digits, where two would be tested one by one, and digits are most of a text.
-pub fn step(s: &[u8], at: usize) -> Class
-    ensures { Stands result s.now at }
-{
-    if s.len() <= at {
-        return Class::End;
+impl<'a> Cursor<'a> {
+    // The start of a text.
+    pub fn new(text: &'a [u8]) -> Cursor<'a>
+        ensures { (result.text.now ≡ text.now) × (result.at ≡ 0) }
+    {
+        Cursor { text, at: 0 }
     }
-    let b = s[at];
-    match b {
-        48..=57 => Class::Digit((b - 48) as u32),
-        40..=40 => Class::Bracket(b),
-        41..=41 => Class::Bracket(b),
-        32..=32 => Class::Space,
-        10..=10 => Class::LineEnd,
-        97..=122 => Class::Letter(b),
-        _ => Class::Other,
-    }
-}
 
-// Whether a letter stands at a place: it tells two forms apart that may both follow.
-pub fn is_letter(s: &[u8], at: usize, letter: u8) -> bool
-    requires { (97 ≤ letter) × (letter ≤ 122) }
-    ensures { result ≡ starts letter (drop at s.now) }
-{
-    match step(s, at) {
-        Class::Letter(b) => b == letter,
-        _ => false,
+    // The place in the text.
+    pub fn at(&self) -> usize
+        ensures { result ≡ self.now.at }
+    {
+        self.at
     }
-}
 
-// The place that an answer names.
-pub fn place_of(r: Read) -> usize
-    ensures { result ≡ ext (of_read r) }
-{
-    match r {
-        Read::Got(_, i) => i,
-        Read::Bad(o) => o,
-    }
-}
-
-// How many bytes of a text stand from a place on.
-fn room(s: &[u8], at: usize) -> usize
-    ensures { result ≡ length s.now - at }
-{
-    if s.len() < at {
-        return 0;
-    }
-    s.len() - at
-}
-
-// Whether a fixed string stands at a place with room for it. No byte ends the loop, so that the compiler can compare
-// several at once.
-fn agrees(s: &[u8], at: usize, l: &[u8]) -> bool
-    requires { length l.now ≤ length s.now - at }
-    ensures { result ≡ taken (read_at (Reading.literal l.now) s.now at) }
-{
-    let mut same = true;
-    let mut j = 0;
-    while j < l.len() {
-        same = same & (s[at + j] == l[j]);
-        j += 1;
-    }
-    same
-}
-
-// Whether a fixed string stands at a place.
-fn is_there(s: &[u8], at: usize, l: &[u8]) -> bool
-    ensures { result ≡ taken (read_at (Reading.literal l.now) s.now at) }
-{
-    if room(s, at) < l.len() {
-        return false;
-    }
-    agrees(s, at, l)
-}
-
-// Where the text departs from a fixed string that does not stand at a place.
-fn departure(s: &[u8], at: usize, l: &[u8]) -> usize
-    requires { taken (read_at (Reading.literal l.now) s.now at) ≡ false }
-    ensures { result ≡ ext (read_at (Reading.literal l.now) s.now at) }
-{
-    let mut i = at;
-    let mut j = 0;
-    while i < s.len() {
-        if s[i] != l[j] {
-            return i;
+    // The class of the next byte. Each bracket has an arm of its own: four single bytes are tested together, in front of
+    // the digits, where two would be tested one by one, and digits are most of a text.
+    pub fn step(&self) -> Class
+        ensures { Stands result self.now.text.now self.now.at }
+    {
+        if self.text.len() <= self.at {
+            return Class::End;
         }
-        i += 1;
-        j += 1;
+        let b = self.text[self.at];
+        match b {
+            b'0'..=b'9' => Class::Digit((b - b'0') as u32),
+            b'(' => Class::Bracket(b),
+            b')' => Class::Bracket(b),
+            b' ' => Class::Space,
+            b'\n' => Class::LineEnd,
+            b'a'..=b'z' => Class::Letter(b),
+            _ => Class::Other,
+        }
     }
-    i
-}
 
-// A fixed string: compared as a whole, since it stands there in nearly every text, and byte by byte only where it does
-// not.
-pub fn literal(s: &[u8], at: usize, l: &[u8]) -> Read
-    ensures { of_read result ≡ map_res no_value (read_at (Reading.literal l.now) s.now at) }
-{
-    if is_there(s, at, l) {
-        return Read::Got(0, at + l.len());
+    // Whether a letter stands at the place: it tells two forms apart that may both follow.
+    pub fn is_letter(&self, letter: u8) -> bool
+        requires { (97 ≤ letter) × (letter ≤ 122) }
+        ensures { result ≡ starts letter (drop self.now.at self.now.text.now) }
+    {
+        match self.step() {
+            Class::Letter(b) => b == letter,
+            _ => false,
+        }
     }
-    Read::Bad(departure(s, at, l))
-}
 
-// The digits after a number's first one. The number is held in 64 bits until it is whole, so that no digit waits for it
-// to be widened.
-fn more(s: &[u8], at: usize, first: u32) -> Read
-    ensures { of_read result ≡ read_at (Reading.more first) s.now at }
-{
-    let mut v = first as u64;
-    let mut i = at;
-    loop {
-        let Class::Digit(d) = step(s, i) else {
-            return Read::Got(v as u32, i);
+    // How many bytes of the text stand from the place on.
+    fn room(&self) -> usize
+        ensures { result ≡ length self.now.text.now - self.now.at }
+    {
+        self.text.len().saturating_sub(self.at)
+    }
+
+    // Whether a fixed string stands at the place, with room for it. No byte ends the loop, so that the compiler can compare
+    // several at once.
+    fn agrees(&self, l: &[u8]) -> bool
+        requires { length l.now ≤ length self.now.text.now - self.now.at }
+        ensures { result ≡ taken (read_at (Reading.literal l.now) self.now.text.now self.now.at) }
+    {
+        let mut same = true;
+        for (j, b) in l.iter().enumerate() {
+            same &= self.text[self.at + j] == *b;
+        }
+        same
+    }
+
+    // Whether a fixed string stands at the place.
+    fn is_there(&self, l: &[u8]) -> bool
+        ensures { result ≡ taken (read_at (Reading.literal l.now) self.now.text.now self.now.at) }
+    {
+        if self.room() < l.len() {
+            return false;
+        }
+        self.agrees(l)
+    }
+
+    // Where the text departs from a fixed string that does not stand at the place.
+    #[cold]
+    fn departure(&self, l: &[u8]) -> Departure
+        requires { taken (read_at (Reading.literal l.now) self.now.text.now self.now.at) ≡ false }
+        ensures { result.at ≡ ext (read_at (Reading.literal l.now) self.now.text.now self.now.at) }
+    {
+        for i in self.at..self.text.len() {
+            if self.text[i] != l[i - self.at] {
+                return Departure { at: i };
+            }
+        }
+        Departure {
+            at: self.at.max(self.text.len()),
+        }
+    }
+
+    // A fixed string: compared as a whole, since it stands there in nearly every text, and byte by byte only where it does
+    // not. Inlined, so that the string's length is known where it is compared.
+    #[inline]
+    pub fn literal(&mut self, l: &[u8]) -> Result<(), Departure>
+        ensures { Reads (Reading.literal l.now) self.old self.new result }
+    {
+        if self.is_there(l) {
+            self.at += l.len();
+            return Ok(());
+        }
+        Err(self.departure(l))
+    }
+
+    // The digits after a number's first one. The number is held in 64 bits until it is whole, so that no digit waits for it
+    // to be widened, and the loop has a cursor of its own, so that no digit waits for the place to be stored.
+    fn more(&mut self, first: u32) -> Result<u32, Departure>
+        ensures { Reads (Reading.more first) self.old self.new result }
+    {
+        let mut here = *self;
+        let mut v = first as u64;
+        while let Class::Digit(d) = here.step() {
+            let w = v * 10 + d as u64;
+            if w >= 4_294_967_296 {
+                return Err(Departure { at: here.at });
+            }
+            v = w;
+            here.at += 1;
+        }
+        *self = here;
+        Ok(v as u32)
+    }
+
+    // A number: 0, or digits that start with 1 to 9.
+    fn number(&mut self) -> Result<u32, Departure>
+        ensures { Reads Reading.number self.old self.new result }
+    {
+        let Class::Digit(d) = self.step() else {
+            return Err(Departure { at: self.at });
         };
-        let w = v * 10 + d as u64;
-        if w >= 4_294_967_296 {
-            return Read::Bad(i);
+        self.at += 1;
+        let is_zero = d == 0;
+        if is_zero {
+            return Ok(0);
         }
-        v = w;
-        i += 1;
+        self.more(d)
     }
-}
 
-// A number: 0, or digits that start with 1 to 9.
-fn number(s: &[u8], at: usize) -> Read
-    ensures { of_read result ≡ read_at Reading.number s.now at }
-{
-    let Class::Digit(d) = step(s, at) else {
-        return Read::Bad(at);
-    };
-    let is_zero = d == 0;
-    if is_zero {
-        return Read::Got(0, at + 1);
+    // A fixed string and a number.
+    #[inline]
+    pub fn field(&mut self, l: &[u8]) -> Result<u32, Departure>
+        ensures { Reads (Reading.field l.now) self.old self.new result }
+    {
+        self.literal(l)?;
+        self.number()
     }
-    more(s, at + 1, d)
-}
-
-// A fixed string and a number.
-pub fn field(s: &[u8], at: usize, l: &[u8]) -> Read
-    ensures { of_read result ≡ read_at (Reading.field l.now) s.now at }
-{
-    let r = literal(s, at, l);
-    let Read::Got(_, i) = r else {
-        return r;
-    };
-    number(s, i)
 }

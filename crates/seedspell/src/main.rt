@@ -16,10 +16,7 @@ mod output;
 ghost use Rattle.std.specs.Prelude.{IfSome};
 ghost use Rattle.seedspell.specs.Program.{Answered, Begins, Plans, Runs, Answers};
 
-use input::Input;
-use output::Output;
 use std::io::{Read, Write};
-use taskset::CopyAnswer;
 
 // What is said on standard error.
 const UNREADABLE: &[u8] = b"seedspell: standard input cannot be read\n";
@@ -32,8 +29,8 @@ fn answer_bytes(text: &[u8], output: &mut [u8; 2048]) -> usize
     ensures { Answered text.now output.new result }
 {
     match answer::respond(text, output) {
-        CopyAnswer::Wrote(n) => n,
-        CopyAnswer::Refused(_) => 0,
+        Ok(n) => n,
+        Err(_) => unreachable!(),
     }
 }
 
@@ -51,9 +48,8 @@ fn plan<W: Write, E: Write>(writer: &mut W, errors: &mut E, text: &[u8])
 {
     let mut output = [0u8; 2048];
     let n = answer_bytes(text, &mut output);
-    match output::write_answer(writer, text, &output[..n]) {
-        Output::All(_) => (),
-        Output::CutShort(_) => complain(errors, UNWRITABLE),
+    if output::write_answer(writer, text, &output[..n]).is_err() {
+        complain(errors, UNWRITABLE);
     }
 }
 
@@ -68,9 +64,8 @@ fn run<R: Read, W: Write, E: Write>(reader: &mut R, writer: &mut W, errors: &mut
 {
     let mut bytes = [0u8; 8192];
     match input::read_input(reader, &mut bytes) {
-        Input::Ended(n) => plan(writer, errors, &bytes[..n]),
-        Input::Full(n) => plan(writer, errors, &bytes[..n]),
-        Input::Unreadable => complain(errors, UNREADABLE),
+        Ok(n) => plan(writer, errors, &bytes[..n]),
+        Err(_) => complain(errors, UNREADABLE),
     }
 }
 

@@ -1,75 +1,46 @@
 // Standard output. A write may take fewer bytes than it is given, so that the rest is offered again.
-ghost use Rattle.std.specs.Prelude.{◌<◌, length};
 ghost use Rattle.answer.specs.Answer.{Prints};
-ghost use Rattle.seedspell.specs.Program.{WroteMore, PutNext, OutputFits, OutputPut};
+ghost use Rattle.seedspell.specs.Program.{OutputFits, OutputPut};
 
 use std::io::{ErrorKind, Write};
 
-// What one write does.
+// Only so many bytes of an output were taken, and not the rest.
 #[derive(Clone, Copy)]
-pub(crate) enum Put {
-    // It takes so many bytes, at least one.
-    Bytes(usize),
-    // It takes none: a signal came first.
-    Interrupted,
-    // An error.
-    Failed,
-}
-
-// How much of the answer the writes take.
-#[derive(Clone, Copy)]
-pub(crate) enum Output {
-    // All of it, so many bytes.
-    All(usize),
-    // So many bytes, and not the rest.
-    CutShort(usize),
-}
-
-// One write, of the bytes from `at` on, at least one. A write that takes nothing without an error counts as interrupted,
-// so that it is tried again and uses up a retry.
-fn write_more<W: Write>(writer: &mut W, answer: &[u8], at: usize) -> Put
-    requires { at < length answer.now }
-    ensures more { WroteMore answer.now at result }
-    ensures next { PutNext (W.contents writer.old) (W.contents writer.new) answer.now at result }
-{
-    match writer.write(&answer[at..]) {
-        Ok(0) => Put::Interrupted,
-        Ok(n) => Put::Bytes(n),
-        Err(e) => {
-            if e.kind() == ErrorKind::Interrupted {
-                return Put::Interrupted;
-            }
-            Put::Failed
-        }
-    }
-}
+pub(crate) struct CutShort(usize);
 
 // Writes bytes: all of them, unless a write fails or 1,000 retries are used up. Each turn gets rid of a byte or uses up
-// a retry, so that the loop ends.
-pub(crate) fn write_bytes<W: Write>(writer: &mut W, bytes: &[u8]) -> Output
+// a retry, so that the loop ends: a write that takes nothing without an error counts as interrupted.
+// std's write_all gives no count where it fails, and tries 2^64 times.
+pub(crate) fn write_bytes<W: Write>(writer: &mut W, bytes: &[u8]) -> Result<(), CutShort>
     ensures fits { OutputFits bytes.now result }
     ensures put { OutputPut (W.contents writer.old) (W.contents writer.new) bytes.now result }
 {
     let mut n = 0;
     let mut retries: usize = 1000;
     while n < bytes.len() {
-        match write_more(writer, bytes, n) {
-            Put::Bytes(k) => n += k,
-            Put::Interrupted => {
-                if retries == 0 {
-                    return Output::CutShort(n);
-                }
-                retries -= 1;
+        let k = match writer.write(&bytes[n..]) {
+            Ok(k) => k,
+            Err(e) if e.kind() == ErrorKind::Interrupted => 0,
+            Err(_) => return Err(CutShort(n)),
+        };
+        if k == 0 {
+            if retries == 0 {
+                return Err(CutShort(n));
             }
-            Put::Failed => return Output::CutShort(n),
+            retries -= 1;
         }
+        n += k;
     }
-    Output::All(n)
+    Ok(())
 }
 
 // Writes the answer to an input. Nothing else writes to standard output; the input is there for the contract to speak
 // of it.
-pub(crate) fn write_answer<W: Write>(writer: &mut W, input: &[u8], answer: &[u8]) -> Output
+pub(crate) fn write_answer<W: Write>(
+    writer: &mut W,
+    input: &[u8],
+    answer: &[u8],
+) -> Result<(), CutShort>
     requires { Prints input.now answer.now }
     ensures fits { OutputFits answer.now result }
     ensures put { OutputPut (W.contents writer.old) (W.contents writer.new) answer.now result }

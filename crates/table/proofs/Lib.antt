@@ -1,3 +1,2 @@
-pub mod Relaxing
 pub mod Rows
 pub mod Rates

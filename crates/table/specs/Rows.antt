@@ -1,24 +1,21 @@
 -- What the table's functions take and give, over selection's table theory. Not part of what a reader must believe.
-use Rattle.std.specs.Prelude.{ℕ, ◌+◌, ◌-◌, ◌*◌, ◌^◌, ◌≤◌, ◌<◌, min, ◌≡◌, List, length, get_or}
+use Rattle.std.specs.Prelude.{ℕ, ◌+◌, ◌-◌, ◌*◌, ◌^◌, ◌≤◌, ◌<◌, min, ◌≡◌, List, Option, MatchOption, length, get_or}
 use Rattle.selection.proofs.Cells.{entry, rate_up_to}
-use Rattle.engine.specs.Arrays.{option_at, Written}
+use Rattle.engine.specs.Arrays.{option_at}
 use Rattle.table.specs.declared.Frame.{Frame}
 
 -- The table's entry in row i, the one after i tasks, column e.
 abbrev pub entry_of : Frame → List ℕ → List ℕ → ℕ → ℕ → ℕ
 entry_of f cost load = entry (option_at cost) (option_at load) f.rates f.cap
 
--- The word at p, or l more than the word s places before it, where that is less.
-abbrev pub relaxed : ℕ → ℕ → List ℕ → ℕ → ℕ
-relaxed s l d p = min (get_or d p 0) (get_or d (p - s) 0 + l)
+-- The word in column e of a row, or l more than the word c columns before it in the row before, where that is less.
+abbrev pub relaxed : ℕ → ℕ → List ℕ → List ℕ → ℕ → ℕ
+relaxed c l before row e = min (get_or row e 0) (get_or before (e - c) 0 + l)
 
--- The places from lo up to hi are within d, those s before them are all before lo, and the sums fit.
-pub record Relaxable (lo hi s l : ℕ) (d : List ℕ) : Type 0 where
-  pub order : lo ≤ hi
-  pub within : hi ≤ length d
-  pub back : s ≤ lo
-  pub apart : hi ≤ lo + s
-  pub sums : (p : ℕ) → lo ≤ p → p < hi → get_or d (p - s) 0 + l < 2 ^ 32
+-- The row before has the words that are read, and the sums fit.
+pub record Relaxable (c l : ℕ) (before row : List ℕ) : Type 0 where
+  pub words : length row ≤ length before
+  pub sums : (e : ℕ) → e < length before → get_or before e 0 + l < 2 ^ 32
 
 -- The sizes that every table keeps to, and loads that are cut at the cap.
 pub record Framed (f : Frame) (load : List ℕ) : Type 0 where
@@ -31,17 +28,18 @@ pub record Framed (f : Frame) (load : List ℕ) : Type 0 where
 abbrev pub RowAt : Frame → ℕ → ℕ → List ℕ → List ℕ → List ℕ → Type 0
 RowAt f start i cost load d = (e : ℕ) → e < f.columns → get_or d (start + e) 0 ≡ entry_of f cost load i e
 
--- What a row asks: two rows from start on are within d, and the first of them is the row before the task.
-pub record RowReady (f : Frame) (start task : ℕ) (cost load d : List ℕ) : Type 0 where
+-- What a row asks: the row before the task, and as many words.
+pub record RowReady (f : Frame) (task : ℕ) (cost load before words : List ℕ) : Type 0 where
   pub framed : Framed f load
   pub is_task : task < f.tasks
-  pub rows : start + f.columns + f.columns ≤ length d
-  pub prev : RowAt f start task cost load d
+  pub before_size : length before ≡ f.columns
+  pub prev : (e : ℕ) → e < f.columns → get_or before e 0 ≡ entry_of f cost load task e
+  pub size : length words ≡ f.columns
 
--- What it gives: the second is the row after the task, and every other place is as it was.
-abbrev pub RowWritten : Frame → ℕ → ℕ → List ℕ → List ℕ → List ℕ → List ℕ → Type 0
-RowWritten f start task cost load =
-    Written (λ p. entry_of f cost load (task + 1) (p - (start + f.columns))) (start + f.columns) (start + f.columns + f.columns)
+-- What it gives: the row after the task.
+pub record RowWritten (f : Frame) (task : ℕ) (cost load words : List ℕ) : Type 0 where
+  pub size : length words ≡ f.columns
+  pub next : (e : ℕ) → e < f.columns → get_or words e 0 ≡ entry_of f cost load (task + 1) e
 
 -- What the table asks: its rows are within d.
 pub record TableReady (f : Frame) (load d : List ℕ) : Type 0 where
@@ -57,6 +55,10 @@ pub record Tabled (f : Frame) (n : ℕ) (cost load d₀ d : List ℕ) : Type 0 w
 -- The word in column e of the row from start on is not 'none'.
 abbrev pub Defined : List ℕ → ℕ → ℕ → ℕ → Type 0
 Defined d start cap e = get_or d (start + e) 0 < cap
+
+-- The first number below n with P, where there is one.
+abbrev pub FirstBelow : (ℕ → Type 0) → ℕ → Option ℕ → Type 0
+FirstBelow P n r = MatchOption r ((k : ℕ) → k < n → P k → ⊥) (λ e. (e < n) × P e × ((k : ℕ) → k < e → P k → ⊥))
 
 -- The lowest rate number of the task that makes the entry in column e of the row after it.
 abbrev pub rate_of : Frame → List ℕ → List ℕ → ℕ → ℕ → ℕ

@@ -5,10 +5,9 @@
 #![tactic(auto)]
 
 ghost use Rattle.std.specs.Prelude.{◌≡◌, ◌+◌, ◌≤◌, length};
-ghost use Rattle.numbers.specs.Search.{Found};
 ghost use Rattle.engine.specs.Arrays.{Written};
 ghost use Rattle.table.specs.Rows.{Relaxable, relaxed, RowReady, RowWritten, TableReady, Tabled};
-ghost use Rattle.table.specs.Rows.{Defined, RateReady, rate_of};
+ghost use Rattle.table.specs.Rows.{Defined, FirstBelow, RateReady, rate_of};
 
 // The size of a table: a row for no task and one more for each task, so many columns a row, and the rate numbers 1 to
 // `rates` of each task; and the cap of its loads.
@@ -20,47 +19,35 @@ pub struct Frame {
     pub cap: u32,
 }
 
-// Sets the words of d from lo up to hi to v.
-pub fn fill(d: &mut [u32], lo: usize, hi: usize, v: u32)
-    requires { (lo ≤ hi) × (hi ≤ length d.old) }
-    ensures { Written (λ p. v) lo hi d.old d.new }
+// Lowers each word of a row from column c on to l more than the word c columns before it in the row before, where that
+// is less.
+fn relax(row: &mut [u32], before: &[u32], c: usize, l: u32)
+    requires { Relaxable c l before.now row.old }
+    ensures { Written (relaxed c l before.now row.old) c (length row.old) row.old row.new }
 {
-    let mut i = lo;
-    while i < hi {
-        d[i] = v;
-        i += 1;
+    for e in c..row.len() {
+        row[e] = row[e].min(before[e - c] + l);
     }
 }
 
-// Lowers each word of d from lo up to hi to l more than the word s places before it, where that is less.
-fn relax(d: &mut [u32], lo: usize, hi: usize, s: usize, l: u32)
-    requires { Relaxable lo hi s l d.old }
-    ensures { Written (relaxed s l d.old) lo hi d.old d.new }
+// Writes the row after the task at a place, by the row before that.
+fn row(
+    words: &mut [u32],
+    before: &[u32],
+    f: Frame,
+    task: usize,
+    cost: &[usize; 512],
+    load: &[u32; 512],
+)
+    requires { RowReady f task cost.now load.now before.now words.old }
+    ensures { RowWritten f task cost.now load.now words.new }
 {
-    let mut p = lo;
-    while p < hi {
-        d[p] = arithmetic::lesser(d[p], d[p - s] + l);
-        p += 1;
-    }
-}
-
-// Writes the row after the task at a place, behind the row before it, which begins at `start`.
-fn row(d: &mut [u32], f: Frame, start: usize, task: usize, cost: &[usize; 512], load: &[u32; 512])
-    requires { RowReady f start task cost.now load.now d.old }
-    ensures { RowWritten f start task cost.now load.now d.old d.new }
-{
-    let columns = f.columns;
-    let here = start + columns;
-    let end = here + columns;
-    fill(d, here, end, f.cap);
-    let mut r = 1;
-    while r <= f.rates {
+    words.fill(f.cap);
+    for r in 1..=f.rates {
         let c = cost[task * 16 + r];
-        let l = load[task * 16 + r];
-        if c < columns {
-            relax(d, here + c, end, columns + c, l);
+        if c < f.columns {
+            relax(words, before, c, load[task * 16 + r]);
         }
-        r += 1;
     }
 }
 
@@ -69,31 +56,23 @@ pub fn table(d: &mut [u32], f: Frame, cost: &[usize; 512], load: &[u32; 512])
     requires { TableReady f load.now d.old }
     ensures { Tabled f f.tasks cost.now load.now d.old d.new }
 {
-    let tasks = f.tasks;
     let columns = f.columns;
-    fill(d, 0, columns, 0);
-    let mut start = 0;
-    let mut task = 0;
-    while task < tasks {
-        row(d, f, start, task, cost, load);
-        start += columns;
-        task += 1;
+    d[..columns].fill(0);
+    for task in 0..f.tasks {
+        let (front, rest) = d.split_at_mut((task + 1) * columns);
+        let before = &front[task * columns..];
+        row(&mut rest[..columns], before, f, task, cost, load);
     }
 }
 
-// The least column, of the row that begins at `start`, that is not 'none'; `columns` where all are.
-pub fn least_column(d: &[u32], start: usize, columns: usize, cap: u32) -> usize
+// The least column, of the row that begins at `start`, that is not 'none'.
+pub fn least_column(d: &[u32], start: usize, columns: usize, cap: u32) -> Option<usize>
     requires { start + columns ≤ length d.now }
-    ensures { Found (Defined d.now start cap) 0 columns result }
+    ensures { FirstBelow (Defined d.now start cap) columns result }
 {
-    let mut column = 0;
-    while column < columns {
-        if d[start + column] < cap {
-            return column;
-        }
-        column += 1;
-    }
-    column
+    d[start..start + columns]
+        .iter()
+        .position(|load| *load < cap)
 }
 
 // The lowest rate number of the task at a place that makes the entry in a column of its row, where the row before that
@@ -108,18 +87,14 @@ pub fn rate_at(
     load: &[u32; 512],
 ) -> usize
     requires { RateReady f start column task cost.now load.now d.now }
-    ensures { result ≡ rate_of f cost.now load.now task column }
+    ensures { (result ≡ rate_of f cost.now load.now task column) × (result ≤ f.rates) }
 {
     let made = d[start + f.columns + column];
-    let mut number = 1;
-    while number <= f.rates {
+    for number in 1..=f.rates {
         let c = cost[task * 16 + number];
-        if c <= column {
-            if d[start + (column - c)] + load[task * 16 + number] == made {
-                return number;
-            }
+        if c <= column && d[start + (column - c)] + load[task * 16 + number] == made {
+            return number;
         }
-        number += 1;
     }
-    number
+    unreachable!()
 }

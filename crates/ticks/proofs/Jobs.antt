@@ -14,7 +14,7 @@ use Rattle.numbers.proofs.Tests.{bool_cases, lt_or_le}
 use Rattle.schedule.specs.Walk.{Task, sooner, pick}
 use Rattle.schedule.specs.Counted.{left_at}
 use Rattle.schedule.proofs.Stretch.{work_for, left_past, pick-left, in_list}
-use Rattle.ticks.specs.Arrays.{jobs_from, blank, picked, IsPick, Early}
+use Rattle.ticks.specs.Arrays.{jobs_from, blank, picked, IsJob, Early}
 use Rattle.ticks.specs.declared.Picked.{Picked}
 
 -- ---- the pick does not look at tasks
@@ -75,12 +75,12 @@ pub jobs_work : (k : ℕ → Task) (l d : List ℕ) (v b n : ℕ) → b < n → 
     jobs_from k (set l b (get_or l b 0 - v)) d 0 n ≡ work_for v (jobs_from k l d 0 n) b
 jobs_work k l d v b n h q = rw (zero-add b) at (work_from k l d v b 0 n h (omega arith))
 
--- ---- the pick is the place of an unfinished job, with its ticks left, or n
-module _ {l d : List ℕ} {n : ℕ} {r : Picked} (v : IsPick l d n r) where
-  pub pick_some : 0 < r.left → (r.place < n) × (r.left ≡ get_or l r.place 0)
+-- ---- the picked place, with the ticks left there: its job, or none
+module _ (l d : List ℕ) (n : ℕ) (r : Picked) (place : r.place ≡ picked l d n) (left : r.left ≡ left_at (jobs_from blank l d 0 n) r.place) where
+  pub pick_some : 0 < r.left → IsJob l d n r
   pick_some h =
-      let here : r.place < n = omega (arith, in_list (jobs_from blank l d 0 n) r.place (omega (arith, v.left)), length_jobs blank l d 0 n) in
-      (here, v.left ∙ left_jobs blank l d n r.place here)
+      let here : r.place < n = omega (arith, in_list (jobs_from blank l d 0 n) r.place (omega (arith, left)), length_jobs blank l d 0 n) in
+      record { place = place; inside = here; left = left ∙ left_jobs blank l d n r.place here; some = h }
 
   pub pick-none : r.left ≡ 0 → n ≤ picked l d n
   unfolding picked
@@ -88,7 +88,7 @@ module _ {l d : List ℕ} {n : ℕ} {r : Picked} (v : IsPick l d n r) where
       let js = jobs_from blank l d 0 n in
       let size = length_jobs blank l d 0 n in
       ⊎_elim
-      (λ (h : pick js < n). absurd (omega (arith, pick-left js (omega arith), v.left, ap (left_at js) v.place)))
+      (λ (h : pick js < n). absurd (omega (arith, pick-left js (omega arith), left, ap (left_at js) place)))
       (λ (h : n ≤ pick js). h)
       (lt_or_le (pick js) n)
 

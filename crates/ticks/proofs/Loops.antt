@@ -7,6 +7,7 @@ use native.Mathlib.Omega.{arith}
 use native.Mathlib.Nat.{sub-zero}
 use native.Mathlib.Numerals.{add-one}
 use lib.ListN.{get_or}
+use Rattle.std.specs.Prelude.{Option, None}
 use Rattle.numbers.proofs.Tests.{below_more}
 use Rattle.schedule.specs.Walk.{Task, tasks_from}
 use Rattle.schedule.specs.Counted.{walk_from}
@@ -17,18 +18,18 @@ use Rattle.ticks.proofs.Stretches.{InStretch, stretch_start, stretch_over}
 use Rattle.ticks.proofs.Releases.{Steady, Counted, counted_fit, Held, held_start, held_next, Gap, gap_is, gap_quiet, Part, part_start, part_end, offset_start, offset_steady}
 
 -- Before tick t: what is left of the walk is the whole walk.
-pub record AtTick (k : ℕ → Task) (n end t late : ℕ) (s : State) : Type 0 where
+pub record AtTick (k : ℕ → Task) (n end t : ℕ) (late : Option ℕ) (s : State) : Type 0 where
   pub reached : t ≤ end
-  pub on_time : late ≡ 0
+  pub on_time : late ≡ None
   pub held : Held k n t s
   pub early : Early n s.left s.due
   pub rest : walk_from (tasks_from k 0 n) t (end - t) ≡ walk_from (tasks_from k 0 n) 0 end
 
 -- In tick t, with the turns of the tasks before place i over: `next` is the earliest release to come of theirs, or the
 -- end where that is earlier.
-pub record AtTask (k : ℕ → Task) (n end t i late next : ℕ) (s : State) : Type 0 where
+pub record AtTask (k : ℕ → Task) (n end t i : ℕ) (late : Option ℕ) (next : ℕ) (s : State) : Type 0 where
   pub inside : i ≤ n
-  pub on_time : late ≡ 0
+  pub on_time : late ≡ None
   pub part : Part k n t i s.left s.due
   pub counts : Counted k n t s
   pub early : Early n s.left s.due
@@ -41,7 +42,7 @@ module _ {p c a : List ℕ} {n end : ℕ} (ready : RunReady p c a n end) where
   pub steady : (i : ℕ) → i < n → Steady (task_at p c a i)
   steady i h = offset_steady (get_or a i 0) (get_or p i 0) (get_or c i 0) (ready.period i h).0 (ready.time i h)
 
-  pub first_tick : {s : State} → Begun a n s → AtTick (task_at p c a) n end 0 0 s
+  pub first_tick : {s : State} → Begun a s → AtTick (task_at p c a) n end 0 None s
   first_tick {s} b = record {
     reached = omega arith;
     on_time = refl;
@@ -56,7 +57,7 @@ module _ {p c a : List ℕ} {n end : ℕ} (ready : RunReady p c a n end) where
   }
 
 -- Every task has its turn.
-pub turns_come : {k : ℕ → Task} {n end t late : ℕ} {s : State} → AtTick k n end t late s → AtTask k n end t 0 late end s
+pub turns_come : {k : ℕ → Task} {n end t : ℕ} {late : Option ℕ} {s : State} → AtTick k n end t late s → AtTask k n end t 0 late end s
 turns_come v = record {
   inside = omega arith;
   on_time = v.on_time;
@@ -69,7 +70,7 @@ turns_come v = record {
 }
 
 -- A task's turn: `next` is then the lesser of what it was and that task's next release.
-pub turn_over : {k : ℕ → Task} {n end t i late next next' : ℕ} {s s' : State} → AtTask k n end t i late next s → i < n
+pub turn_over : {k : ℕ → Task} {n end t i : ℕ} {late : Option ℕ} {next next' : ℕ} {s s' : State} → AtTask k n end t i late next s → i < n
     → Part k n t (i + 1) s'.left s'.due →
     Counted k n t s' → Early n s'.left s'.due → ((j : ℕ) → j < i → get_or s'.due j 0 ≡ get_or s.due j 0) →
     next' ≡ min next (get_or s'.due i 0) → AtTask k n end t (i + 1) late next' s'
@@ -85,14 +86,14 @@ turn_over {i = i} v h part counts early same e = record {
 }
 
 -- All turns are over before the end: the stretch up to `next` begins, and at its end the walk stands there.
-module _ {k : ℕ → Task} {n end t i late next : ℕ} {s : State} (v : AtTask k n end t i late next s) (all : i ≡ n) (before : t < end) where
+module _ {k : ℕ → Task} {n end t i : ℕ} {late : Option ℕ} {next : ℕ} {s : State} (v : AtTask k n end t i late next s) (all : i ≡ n) (before : t < end) where
   gap : Gap n t next s.due
   gap = record { some = v.ahead before; least = λ j x. v.least j (omega arith) }
 
   pub stretch_comes : InStretch n t next t s s
   stretch_comes = stretch_start (omega (arith, gap.some)) v.early v.counts.inside (counted_fit v.counts)
 
-  pub next_tick : {late₀ t' : ℕ} {s₀ r : State} → AtTick k n end t late₀ s₀ → InStretch n t next t' s r → next ≤ t' → AtTick k n end t' late r
+  pub next_tick : {late₀ : Option ℕ} {t' : ℕ} {s₀ r : State} → AtTick k n end t late₀ s₀ → InStretch n t next t' s r → next ≤ t' → AtTick k n end t' late r
   next_tick {t' = t'} {r = r} u w over =
       let ks = tasks_from k 0 n in
       let a = part_end all v.part in

@@ -100,13 +100,11 @@ module _ {k : ℕ → Task} {n t : ℕ} {s : State} (c : Counted k n t s) where
   -- the arrays may change
   pub counted_on : (l d : List ℕ) → Counted k n t (record {
     left = l;
+    due = d;
     busy = s.busy;
     idle = s.idle;
     preempted = s.preempted;
-    rest = s.rest;
-    at = s.at;
-    made = s.made;
-    due = d;
+    last = s.last;
   })
   counted_on l d = record { busy = c.busy; idle = c.idle; preempted = c.preempted; last = c.last; inside = c.inside }
 
@@ -266,7 +264,7 @@ fresh_jobs k l d i (suc n) h =
     (record { task = refl; left = e; due = λ x. absurd (omega arith) }, fresh_jobs k l d (suc i) n (λ j x. h j (omega arith)))
 
 pub held_start : {k : ℕ → Task} {n : ℕ} {first : List ℕ} {s : State} → n ≤ 32
-    → ((j : ℕ) → j < n → Coming (k j) 0 (get_or first j 0)) → Begun first n s → Held k n 0 s
+    → ((j : ℕ) → j < n → Coming (k j) 0 (get_or first j 0)) → Begun first s → Held k n 0 s
 held_start {k} {n} {first} {s} few start b = record {
   jobs = fresh_jobs k s.left s.due 0 n (λ j x. rw b.left (get_or-replicate {A = ℕ} 32 j 0 0 (omega arith)));
   coming = rw b.due start;
@@ -274,8 +272,8 @@ held_start {k} {n} {first} {s} few start b = record {
     busy = b.busy;
     idle = b.idle;
     preempted = b.preempted;
-    last = rw b.rest (sym (length-tasks k 0 n));
-    inside = λ h. absurd (omega (arith, b.rest));
+    last = rw b.last (sym (length-tasks k 0 n));
+    inside = rw b.last tt;
   };
 }
 

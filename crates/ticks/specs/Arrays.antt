@@ -1,14 +1,15 @@
 -- The walk's state as arrays hold it, and what the walk's functions take and give. Not part of what a reader must
 -- believe: the call's contract speaks of the walk's own definitions.
-use Rattle.std.specs.Prelude.{ℕ, zero, suc, ◌+◌, ◌-◌, ◌≤◌, ◌<◌, min, ◌≡◌, cond, List, [], ◌∷◌, ltb, length, get_or, set, replicate}
+use Rattle.std.specs.Prelude.{ℕ, zero, suc, ◌+◌, ◌≤◌, ◌<◌, min, ◌≡◌, Bool, false, not, cond, ltb, eqb}
+use Rattle.std.specs.Prelude.{Option, None, Some, unwrap_or, IfSome, List, [], ◌∷◌, length, get_or, replicate}
 use Rattle.schedule.specs.Walk.{Task, offset, Job, pick, tasks_from}
-use Rattle.schedule.specs.Counted.{left_at, kept, missed, walk}
+use Rattle.schedule.specs.Counted.{kept, missed, walk}
 use Rattle.schedule.specs.Stretch.{Going, ticks}
 use Rattle.layout.specs.Words.{longest_period}
 use Rattle.ticks.specs.declared.Picked.{Picked}
 use Rattle.ticks.specs.declared.State.{State}
-use Rattle.ticks.specs.declared.WalkEnd.{WalkEnd}
-use Rattle.ticks.specs.declared.WalkEnd.TheVariants.{Kept, Missed}
+use Rattle.taskset.specs.declared.WalkEnd.{WalkEnd}
+use Rattle.taskset.specs.declared.WalkEnd.TheVariants.{Kept, Missed}
 
 -- The jobs of the n tasks from place i on, where k gives each place's task, by ticks left and deadlines.
 abbrev pub jobs_from : (ℕ → Task) → List ℕ → List ℕ → ℕ → ℕ → List Job
@@ -23,10 +24,22 @@ blank i = record { period = 0; time = 0; arrives = λ t. 0 }
 unfoldable pub picked : List ℕ → List ℕ → ℕ → ℕ
 picked left due n = pick (jobs_from blank left due 0 n)
 
--- The place that runs next, and the ticks left there.
-pub record IsPick (l d : List ℕ) (n : ℕ) (r : Picked) : Type 0 where
-  pub place : r.place ≡ picked l d n
-  pub left : r.left ≡ left_at (jobs_from blank l d 0 n) r.place
+-- The job at the place that runs next, with its ticks left.
+pub record IsJob (l d : List ℕ) (n : ℕ) (job : Picked) : Type 0 where
+  pub place : job.place ≡ picked l d n
+  pub inside : job.place < n
+  pub left : job.left ≡ get_or l job.place 0
+  pub some : 0 < job.left
+
+-- What the pick gives: that job, or none where all are finished.
+abbrev pub IsPick : (l d : List ℕ) (n : ℕ) → Option Picked → Type 0
+IsPick l d n None = n ≤ picked l d n
+IsPick l d n (Some job) = IsJob l d n job
+
+-- Whether a job at `best` cuts the last one short, which is unfinished.
+abbrev pub cuts_short : ℕ → Option ℕ → Bool
+cuts_short best None = false
+cuts_short best (Some at) = not (eqb best at)
 
 -- Room in the arrays, and deadlines below the largest word.
 pub record Early (n : ℕ) (left due : List ℕ) : Type 0 where
@@ -36,15 +49,13 @@ pub record Early (n : ℕ) (left due : List ℕ) : Type 0 where
   pub low : (i : ℕ) → i < n → get_or due i 0 < 4294967295
 
 -- Before tick 0.
-pub record Begun (first : List ℕ) (n : ℕ) (r : State) : Type 0 where
+pub record Begun (first : List ℕ) (r : State) : Type 0 where
   pub left : r.left ≡ replicate 32 0
+  pub due : r.due ≡ first
   pub busy : r.busy ≡ 0
   pub idle : r.idle ≡ 0
   pub preempted : r.preempted ≡ 0
-  pub rest : r.rest ≡ 0
-  pub at : r.at ≡ n
-  pub made : r.made ≡ 0
-  pub due : r.due ≡ first
+  pub last : r.last ≡ None
 
 -- The state as the laws of the schedule have it.
 abbrev pub going : (ℕ → Task) → ℕ → State → Going
@@ -53,29 +64,15 @@ going k n s = record {
   busy = s.busy;
   idle = s.idle;
   preempted = s.preempted;
-  last = cond (ltb 0 s.rest) s.at n;
-}
-
--- The state once the list has the ticks left of the job that ran, if one did.
-abbrev pub listed : Picked → State → State
-listed job s = record {
-  left = cond (ltb 0 job.left) (set s.left job.place s.rest) s.left;
-  busy = s.busy;
-  idle = s.idle;
-  preempted = s.preempted;
-  rest = s.rest;
-  at = s.at;
-  made = s.made;
-  due = s.due;
+  last = unwrap_or s.last n;
 }
 
 -- An unfinished job of the tick before is one of the n.
 abbrev pub Inside : ℕ → State → Type 0
-Inside n s = 0 < s.rest → s.at < n
+Inside n s = IfSome s.last (λ at. at < n)
 
--- A state of which `room` ticks can be made, and the job that is picked.
-pub record TickReady (n room : ℕ) (job : Picked) (s : State) : Type 0 where
-  pub picks : IsPick s.left s.due n job
+-- A state of which `room` ticks can be made.
+pub record TickReady (n room : ℕ) (s : State) : Type 0 where
   pub early : Early n s.left s.due
   pub inside : Inside n s
   pub some : 0 < room
@@ -83,13 +80,19 @@ pub record TickReady (n room : ℕ) (job : Picked) (s : State) : Type 0 where
   pub idle_room : s.idle + room < 4294967295
   pub preempted_room : s.preempted + room < 4294967295
 
--- The ticks up to the job's finish or to the bound, whoever's the jobs are. With a bound of 1 it is document 01's tick.
-pub record Ticked (n room : ℕ) (job : Picked) (s r : State) : Type 0 where
-  pub made : r.made ≡ cond (ltb 0 job.left) (min job.left room) room
-  pub goes : (k : ℕ → Task) → going k n (listed job r) ≡ ticks r.made (going k n s)
-  pub rest : r.rest ≡ job.left - r.made
-  pub at : r.at ≡ cond (ltb 0 job.left) job.place n
-  pub left : r.left ≡ s.left
+-- The ticks up to the job's finish or to the bound.
+abbrev pub ticks_made : ℕ → ℕ → State → ℕ
+ticks_made n room s =
+    let b = picked s.left s.due n in
+    cond (ltb b n) (min (get_or s.left b 0) room) room
+
+-- That many were made, whoever's the jobs are. With a bound of 1 it is document 01's tick.
+pub record Ticked (n room : ℕ) (s : State) (made : ℕ) (r : State) : Type 0 where
+  pub is : made ≡ ticks_made n room s
+  pub some : 0 < made
+  pub within : made ≤ room
+  pub goes : (k : ℕ → Task) → going k n r ≡ ticks made (going k n s)
+  pub size : length r.left ≡ length s.left
   pub due : r.due ≡ s.due
   pub inside : Inside n r
 

@@ -2,118 +2,91 @@
 // Whose periods and job times these are, and what was checked before, are left to others.
 #![tactic(auto)]
 
-ghost use Rattle.std.specs.Prelude.{◌≡◌, not, ◌&&◌, ltb, eqb};
-ghost use Rattle.schedule.specs.Counted.{count};
-ghost use Rattle.ticks.specs.Arrays.{Early, IsPick, Begun, TickReady, Ticked, RunReady, Says};
+ghost use Rattle.std.specs.Prelude.{◌≡◌};
+ghost use Rattle.ticks.specs.Arrays.{Early, IsPick, cuts_short, Begun, TickReady, Ticked, RunReady, Says};
 
-// How a walk ends: kept, with its busy ticks, idle ticks and preemptions; or missed, at a tick by a task's number.
-#[derive(Clone, Copy)]
-pub enum WalkEnd {
-    Kept(u64, u64, u64),
-    Missed(u64, u64),
-}
+use taskset::WalkEnd;
 
-// What the walk holds: of each task the ticks left of its job; the counts so far; of the job of the tick before its ticks
-// left and its place, 0 and the number of tasks where there was none; how many ticks were made last; and of each task
-// its job's deadline, which is its next release: before its first job that first release. The ticks left of the job that
-// runs are held in `rest`, and its entry in the list is written after the call: so a tick changes no list; and the
-// numbers stand between the two lists: so the compiler copies neither.
+// What the walk holds: of each task the ticks left of its job, and that job's deadline, which is its next release: before
+// its first job that first release; the counts so far; and the place of the job of the tick before, where it is
+// unfinished.
 #[derive(Drop)]
 struct State {
     left: [u32; 32],
+    due: [u32; 32],
     busy: u32,
     idle: u32,
     preempted: u32,
-    rest: u32,
-    at: usize,
-    made: u32,
-    due: [u32; 32],
+    last: Option<usize>,
 }
 
-// The job that runs next: its place and its ticks left; n and 0 where all jobs are finished.
+// The job that runs next: its place and its ticks left.
 #[derive(Clone, Copy)]
 struct Picked {
     place: usize,
     left: u32,
 }
 
-// 1 where the job at `best` runs and another, at `at`, is unfinished with `rest` ticks left; else 0.
-fn preempts(best: usize, at: usize, rest: u32) -> u32
-    ensures { result ≡ count (not (eqb best at) && ltb 0 rest) }
+// Whether a job at `best` cuts the one of the tick before short: another that is unfinished.
+fn preempts(best: usize, last: Option<usize>) -> bool
+    ensures { result ≡ cuts_short best last }
 {
-    if best != at {
-        let is_unfinished = 0 < rest;
-        if is_unfinished {
-            return 1;
-        }
-    }
-    0
+    last.is_some_and(|at| best != at)
 }
 
 // The unfinished job with the earliest deadline, of several the first.
-fn pick<'a>(left: &'a [u32; 32], due: &'a [u32; 32], n: usize) -> Picked
+fn pick(left: &[u32; 32], due: &[u32; 32], n: usize) -> Option<Picked>
     requires { Early n left.now due.now }
     ensures { IsPick left.now due.now n result }
 {
-    let mut best: usize = n;
-    let mut had: u32 = 0;
-    let mut when: u32 = 4294967295;
-    let mut i: usize = 0;
-    while i < n {
+    // No ticks left stands for none here: with an Option in the loop, 8 tasks or more take 1.1 to 1.4 of the time.
+    let mut best = Picked { place: n, left: 0 };
+    let mut when = u32::MAX;
+    for i in 0..n {
         let l = left[i];
         let d = due[i];
-        if 0 < l {
-            if d < when {
-                best = i;
-                had = l;
-                when = d;
-            }
+        if 0 < l && d < when {
+            best = Picked { place: i, left: l };
+            when = d;
         }
-        i += 1;
     }
-    Picked {
-        place: best,
-        left: had,
-    }
+    if 0 < best.left { Some(best) } else { None }
 }
 
 impl State {
     // Before tick 0, where each task's first job is to come.
-    fn new(first: &[u32; 32], n: usize) -> State
-        ensures { Begun first.now n result }
+    fn new(first: &[u32; 32]) -> State
+        ensures { Begun first.now result }
     {
         State {
-            left: [0u32; 32],
+            left: [0; 32],
+            due: *first,
             busy: 0,
             idle: 0,
             preempted: 0,
-            rest: 0,
-            at: n,
-            made: 0,
-            due: *first,
+            last: None,
         }
     }
 
     // One tick or more, with no release after the first of them: the job that is picked runs to its finish or to the
-    // bound. Where there is none, all ticks up to the bound are idle.
-    fn tick(&mut self, n: usize, room: u32, job: Picked)
-        requires { TickReady n room job self.old }
-        ensures { Ticked n room job self.old self.new }
+    // bound. Where there is none, all ticks up to the bound are idle. Returns how many ticks were made.
+    fn tick(&mut self, n: usize, room: u32) -> u32
+        requires { TickReady n room self.old }
+        ensures { Ticked n room self.old result self.new }
     {
-        if job.left == 0 {
+        let Some(job) = pick(&self.left, &self.due, n) else {
             self.idle += room;
-            self.rest = 0;
-            self.at = n;
-            self.made = room;
-            return;
-        }
-        let ran = arithmetic::lesser(job.left, room);
-        let cut = preempts(job.place, self.at, self.rest);
+            self.last = None;
+            return room;
+        };
+        let ran = job.left.min(room);
+        let rest = job.left - ran;
+        self.left[job.place] = rest;
+        let cut = u32::from(preempts(job.place, self.last));
         self.busy += ran;
         self.preempted += cut;
-        self.rest = job.left - ran;
-        self.at = job.place;
-        self.made = ran;
+        self.last = (0 < rest).then_some(job.place);
+        ran
     }
 }
 
@@ -124,42 +97,40 @@ pub fn run(p: &[u32; 32], c: &[u32; 32], first: &[u32; 32], n: usize, end: u32) 
     requires { RunReady p.now c.now first.now n end }
     ensures { Says p.now c.now first.now n end result }
 {
-    let mut s = State::new(first, n);
-    let mut late: usize = 0;
+    let mut s = State::new(first);
+    let mut late: Option<usize> = None;
     let mut t: u32 = 0;
     'ticks: while t <= end {
-        let mut next: u32 = end;
-        let mut i: usize = 0;
-        while i < n {
+        let mut next = end;
+        for i in 0..n {
             if s.due[i] == t {
                 let is_late = 0 < s.left[i];
                 if is_late {
-                    late = i + 1;
+                    late = Some(i);
                     break 'ticks;
                 }
                 s.left[i] = c[i];
                 s.due[i] = t + p[i];
             }
-            let d = s.due[i];
-            next = arithmetic::lesser(next, d);
-            i += 1;
+            next = next.min(s.due[i]);
         }
         if t == end {
             break 'ticks;
         }
         while t < next {
-            let room = next - t;
-            let job = pick(&s.left, &s.due, n);
-            s.tick(n, room, job);
-            if 0 < job.left {
-                let at = job.place;
-                s.left[at] = s.rest;
-            }
-            t += s.made;
+            let made = s.tick(n, next - t);
+            t += made;
         }
     }
-    if 0 < late {
-        return WalkEnd::Missed(t as u64, late as u64);
+    match late {
+        Some(i) => WalkEnd::Missed {
+            tick: u64::from(t),
+            task: (i + 1) as u64,
+        },
+        None => WalkEnd::Kept {
+            busy: u64::from(s.busy),
+            idle: u64::from(s.idle),
+            preempted: u64::from(s.preempted),
+        },
     }
-    WalkEnd::Kept(s.busy as u64, s.idle as u64, s.preempted as u64)
 }

@@ -1,6 +1,7 @@
 -- From the functions below it to the call: what the checks give is what the loop asks for, and what the loop says is
 -- the call's answer.
 -- Assumes nothing.
+use Rattle.std.specs.Prelude.{Ok, Err}
 use Prim.Native.Nat.{ℕ, ◌+◌, ◌*◌, ◌≤◌, ◌<◌}
 use mathlib.Core.Path.{◌≡◌, refl, sym, ap, ◌∙◌}
 use mathlib.Core.Bool.{Bool, cond}
@@ -18,11 +19,6 @@ use Rattle.taskset.specs.Refusals.{number, second, IsBadPlan, Check, ◌▹◌, 
 use Rattle.taskset.specs.Calls.{SetAfter, outcome_values, walk_of, WalkAnswers}
 use Rattle.taskset.specs.declared.Refusal.{Refusal}
 use Rattle.taskset.specs.declared.Refusal.TheVariants.{BadPlan}
-use Rattle.taskset.specs.declared.Checked.TheVariants.{Good, Refused as NotGood}
-use Rattle.taskset.specs.declared.WalkAnswer.{WalkAnswer}
-use Rattle.ticks.specs.declared.WalkEnd.{WalkEnd}
-use Rattle.ticks.specs.declared.WalkEnd.TheVariants.{Kept as EndsKept, Missed as EndsMissed}
-use Rattle.taskset.specs.declared.WalkAnswer.TheVariants.{Refused as NotWalked}
 use Rattle.taskset.proofs.Checks.{accepts_next, refuses_next, refuses_before, passed}
 use Rattle.layout.proofs.Layouts.{head_few, extra_few, task-words}
 use Rattle.layout.proofs.Whole.{in_list, first_in}
@@ -32,33 +28,36 @@ use Rattle.taskset.proofs.Released.{zeros_alike, last_fits}
 use Rattle.taskset.proofs.DemandThree.{plan_of, walk-set, walk_owes}
 use Rattle.ticks.specs.Arrays.{RunReady, task_at, Says}
 use Rattle.walk.specs.Answers.{Walked}
-use Rattle.walk.specs.Steps.{SetGiven, SoundPlan, Holds, column_at, HasColumn, time_at, answer_of}
+use Rattle.walk.specs.Steps.{SetGiven, SoundPlan, Holds, column_at, HasColumn, time_at}
+use Rattle.taskset.specs.Answers.{WalkAnswer, ok_measured}
+use Rattle.taskset.specs.declared.WalkEnd.{WalkEnd}
+use Rattle.taskset.specs.declared.WalkEnd.TheVariants.{Kept, Missed}
 
 pub walked : (s P : List ℕ) (a : WalkAnswer) → WalkAnswers s P a → Walked s P a
 walked s P a h = record { answers = h; owes = walk_owes s P a h }
 
 -- A refusal of the checks is the walk's.
-pub refused : (s P : List ℕ) (r : Refusal) → SetAfter (walk_checks s P) Ordinary s (NotGood r) → Walked s P (NotWalked r)
-refused s P r h = walked s P (NotWalked r) h
+pub refused : (s P : List ℕ) (r : Refusal) → SetAfter (walk_checks s P) Ordinary s (Err r) → Walked s P (Err r)
+refused s P r h = walked s P (Err r) h
 
 module _ (s P : List ℕ) where
   abbrev before : List Check
   before = word_checks Ordinary s ▹ hyper_check Ordinary s
 
   -- A refusal of the set is the checks'.
-  pub set_refused : (r : Refusal) → SetAfter before Ordinary s (NotGood r) → SetAfter (walk_checks s P) Ordinary s (NotGood r)
+  pub set_refused : (r : Refusal) → SetAfter before Ordinary s (Err r) → SetAfter (walk_checks s P) Ordinary s (Err r)
   set_refused r h = refuses_before before (plan_check Ordinary s P) (number r) (second r) h
 
   -- Check 8 by the counts that the checks gave.
-  module _ (m n l : ℕ) (good : SetAfter before Ordinary s (Good m n l)) where
-    pub plan_refused : (k : ℕ) → IsBadPlan m n P k → SetAfter (walk_checks s P) Ordinary s (NotGood (BadPlan k))
+  module _ (m n l : ℕ) (good : SetAfter before Ordinary s (ok_measured m n l)) where
+    pub plan_refused : (k : ℕ) → IsBadPlan m n P k → SetAfter (walk_checks s P) Ordinary s (Err (BadPlan k))
     plan_refused k h = refuses_next before (plan_check Ordinary s P) k good.0 (rw (good.1, good.2) at h)
 
-    pub plan_sound : ((k : ℕ) → IsBadPlan m n P k → ⊥) → SetAfter (walk_checks s P) Ordinary s (Good m n l)
+    pub plan_sound : ((k : ℕ) → IsBadPlan m n P k → ⊥) → SetAfter (walk_checks s P) Ordinary s (ok_measured m n l)
     plan_sound pass = (accepts_next before (plan_check Ordinary s P) good.0 (λ k h. pass k (rw (good.1, good.2) h)), good.1, good.2, good.3)
 
 -- A set and a plan that have passed the checks.
-module _ (s P : List ℕ) (m n l : ℕ) (ready : SetAfter (walk_checks s P) Ordinary s (Good m n l)) where
+module _ (s P : List ℕ) (m n l : ℕ) (ready : SetAfter (walk_checks s P) Ordinary s (ok_measured m n l)) where
   set : IsSet Ordinary s
   set = walk-set s P ready.0
 
@@ -143,9 +142,9 @@ module _ (s P : List ℕ) (m n l : ℕ) (ready : SetAfter (walk_checks s P) Ordi
           (λ j b d. rw (periods.at j (omega arith), times.at j (omega arith), firsts.at j (omega arith)) refl) in
           ap (λ (ks : List Task). walk ks end) (same ∙ ap (tasks_from place 0) ready.2) ∙ ap (walk (walk_tasks Ordinary s P)) last_is
 
-      says_answers : (x : WalkEnd) → Says p c a n end x → WalkAnswers s P (answer_of x)
-      says_answers (EndsKept b i q) h = (ready.0, sym (ap outcome_values (sym walk_is ∙ h)))
-      says_answers (EndsMissed t k) h = (ready.0, sym (ap outcome_values (sym walk_is ∙ h)))
+      says_answers : (x : WalkEnd) → Says p c a n end x → WalkAnswers s P (Ok x)
+      says_answers (Kept b i q) h = (ready.0, sym (ap outcome_values (sym walk_is ∙ h)))
+      says_answers (Missed t k) h = (ready.0, sym (ap outcome_values (sym walk_is ∙ h)))
 
-      pub says_walked : (x : WalkEnd) → Says p c a n end x → Walked s P (answer_of x)
-      says_walked x h = walked s P (answer_of x) (says_answers x h)
+      pub says_walked : (x : WalkEnd) → Says p c a n end x → Walked s P (Ok x)
+      says_walked x h = walked s P (Ok x) (says_answers x h)

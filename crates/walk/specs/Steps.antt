@@ -1,21 +1,15 @@
 -- What the functions below the walk's call take and give. Not part of what a reader must believe.
-use Rattle.std.specs.Prelude.{ℕ, ◌+◌, ◌*◌, ◌^◌, ◌≤◌, ◌<◌, ◌≡◌, List, length, get_or}
+use Rattle.std.specs.Prelude.{ℕ, ◌+◌, ◌*◌, ◌^◌, ◌≤◌, ◌<◌, ◌≡◌, Result, Ok, Err, List, length, get_or}
 use Rattle.layout.specs.Words.{most_tasks, word, rate_count, task_count}
 use Rattle.layout.specs.declared.Layout.TheVariants.{Ordinary}
 use Rattle.taskset.specs.Quantities.{job_time}
 use Rattle.taskset.specs.Refusals.{IsBadPlan}
 use Rattle.taskset.specs.Sets.{IsSet}
-use Rattle.taskset.specs.declared.WalkAnswer.{WalkAnswer}
-use Rattle.taskset.specs.declared.WalkAnswer.TheVariants.{Kept, Missed}
-use Rattle.ticks.specs.declared.WalkEnd.{WalkEnd}
-use Rattle.ticks.specs.declared.WalkEnd.TheVariants.{Kept as EndsKept, Missed as EndsMissed}
-use Rattle.walk.specs.declared.PlanCheck.{PlanCheck}
-use Rattle.walk.specs.declared.PlanCheck.TheVariants.{At, Sound}
 
 -- Check 8.
-abbrev pub PlanAnswers : ℕ → ℕ → List ℕ → PlanCheck → Type 0
-PlanAnswers m n P (At k) = IsBadPlan m n P k
-PlanAnswers m n P Sound = (k : ℕ) → IsBadPlan m n P k → ⊥
+abbrev pub PlanAnswers : ℕ → ℕ → List ℕ → Result (Unit {0}) ℕ → Type 0
+PlanAnswers m n P (Err k) = IsBadPlan m n P k
+PlanAnswers m n P (Ok x) = (k : ℕ) → IsBadPlan m n P k → ⊥
 
 -- A set of m rates and n tasks; a plan that passes check 8.
 pub record SetGiven (m n : ℕ) (s : List ℕ) : Type 0 where
@@ -46,8 +40,3 @@ pub record HasColumn (s : List ℕ) (at step n : ℕ) : Type 0 where
 -- The job time of the task at t under plan P.
 abbrev pub time_at : List ℕ → List ℕ → ℕ → ℕ
 time_at s P t = job_time Ordinary s t (get_or P t 0)
-
--- The answer of a walk that ends so.
-abbrev pub answer_of : WalkEnd → WalkAnswer
-answer_of (EndsKept busy idle preempted) = Kept busy idle preempted
-answer_of (EndsMissed tick task) = Missed tick task

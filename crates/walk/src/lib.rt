@@ -3,46 +3,35 @@
 // walk. Which plan is selected, and texts, are left to others.
 #![tactic(auto)]
 
-ghost use Rattle.std.specs.Prelude.{◌≡◌, cond, ◌*◌, ◌≤◌, get_or};
+ghost use Rattle.std.specs.Prelude.{◌≡◌, ◌↔◌, cond, ◌*◌, ◌≤◌, get_or, IsTrue, slice_index, EachIndex, Ok};
 ghost use Rattle.layout.specs.Words.{most_tasks};
 ghost use Rattle.layout.specs.declared.Layout.TheVariants.{Ordinary};
 ghost use Rattle.taskset.specs.Quantities.{hyper_limit, all_zero};
 ghost use Rattle.taskset.specs.Refusals.{walk_checks};
 ghost use Rattle.taskset.specs.Calls.{SetAfter};
-ghost use Rattle.taskset.specs.declared.Checked.TheVariants.{Good};
 ghost use Rattle.walk.specs.Answers.{Walked};
-ghost use Rattle.walk.specs.Steps.{PlanAnswers, Holds, column_at, HasColumn, SetGiven, SoundPlan, time_at, answer_of};
+ghost use Rattle.walk.specs.Steps.{PlanAnswers, Holds, column_at, HasColumn, SetGiven, SoundPlan, time_at};
 
 use layout::Layout;
-use taskset::{Checked, Refusal, WalkAnswer};
-use ticks::WalkEnd;
+use taskset::{Checked, Measured, Refusal, WalkAnswer, WalkEnd};
 
-// Check 8's answer: its second number, or that the plan is sound.
-#[derive(Clone, Copy)]
-enum PlanCheck {
-    At(usize),
-    Sound,
-}
-
-// Check 8: the first word that is not 1 to m, the plan's length if it is short, n if it is long.
-fn check_plan(plan: &[u32], m: usize, n: usize) -> PlanCheck
+// Check 8: the first word that is not 1 to m, the plan's length if it is short, n if it is long; or that the plan is
+// sound.
+fn check_plan(plan: &[u32], m: usize, n: usize) -> Result<(), usize>
     ensures { PlanAnswers m n plan.now result }
 {
-    let mut k: usize = 0;
-    while k < plan.len() {
+    for (k, r) in plan.iter().enumerate() {
         if n <= k {
-            return PlanCheck::At(n);
+            return Err(n);
         }
-        let r = plan[k] as u64;
-        if !arithmetic::is_between(1, m as u64, r) {
-            return PlanCheck::At(k);
+        if !(1..=m).contains(&(*r as usize)) {
+            return Err(k);
         }
-        k += 1;
     }
-    if k < n {
-        return PlanCheck::At(plan.len());
+    if plan.len() < n {
+        return Err(plan.len());
     }
-    PlanCheck::Sound
+    Ok(())
 }
 
 // A word of each of n tasks: every step-th word of a list, from place `at` on.
@@ -50,15 +39,18 @@ fn column(set: &[u32], at: usize, step: usize, n: usize) -> [u32; 32]
     requires { HasColumn set.now at step n }
     ensures { Holds (column_at set.now at step) n result }
 {
-    let mut words = [0u32; 32];
-    let mut q = at;
-    let mut t: usize = 0;
-    while t < n {
-        words[t] = set[q];
-        q += step;
-        t += 1;
+    let mut words = [0; 32];
+    for (t, word) in words[..n].iter_mut().enumerate() {
+        *word = set[at + t * step];
     }
     words
+}
+
+// Whether all first releases are 0.
+fn are_all_zero(first: &[u32]) -> bool
+    ensures { IsTrue result ↔ EachIndex first.now (λ t. slice_index first.now t ≡ 0) }
+{
+    first.iter().all(|a| *a == 0)
 }
 
 // The walk's last tick: the hyper-period where n first releases are all 0, else twice that.
@@ -66,13 +58,8 @@ fn last_tick(first: &[u32; 32], n: usize, hyper: u32) -> u32
     requires { (n ≤ most_tasks) × (hyper ≤ hyper_limit) }
     ensures { result ≡ cond (all_zero (λ t. get_or first.now t 0) n) hyper (2 * hyper) }
 {
-    let mut t: usize = 0;
-    while t < n {
-        let is_later = 0 < first[t];
-        if is_later {
-            return 2 * hyper;
-        }
-        t += 1;
+    if !are_all_zero(&first[..n]) {
+        return 2 * hyper;
     }
     hyper
 }
@@ -83,46 +70,31 @@ fn times(set: &[u32], plan: &[u32], m: usize, n: usize) -> [u32; 32]
     requires sound_plan { SoundPlan m n plan.now }
     ensures { Holds (time_at set.now plan.now) n result }
 {
-    let mut c = [0u32; 32];
-    let mut t: usize = 0;
-    while t < n {
-        let r = plan[t] as usize;
-        c[t] = checks::job_time(set, Layout::Ordinary, m, t, r);
-        t += 1;
+    let mut c = [0; 32];
+    for (t, r) in plan.iter().enumerate() {
+        c[t] = checks::job_time(set, Layout::Ordinary, m, t, *r as usize);
     }
     c
 }
 
-// Checks 2, 3, 4 and 8, in this order: rate count, task count and hyper-period, or a refusal.
+// Checks 2, 3, 4 and 8, in this order.
 pub fn ready(set: &[u32], plan: &[u32]) -> Checked
     ensures { SetAfter (walk_checks set.now plan.now) Ordinary set.now result }
 {
-    let checked = checks::check_set(set, Layout::Ordinary);
-    match checked {
-        Checked::Refused(r) => Checked::Refused(r),
-        Checked::Good {
-            rates,
-            tasks,
-            hyper,
-        } => {
-            let sound = check_plan(plan, rates, tasks);
-            match sound {
-                PlanCheck::At(k) => Checked::Refused(Refusal::BadPlan(k)),
-                PlanCheck::Sound => Checked::Good {
-                    rates,
-                    tasks,
-                    hyper,
-                },
-            }
-        }
+    let measured = checks::check_set(set, Layout::Ordinary)?;
+    match check_plan(plan, measured.rates, measured.tasks) {
+        Err(k) => Err(Refusal::BadPlan(k)),
+        Ok(()) => Ok(measured),
     }
 }
 
 // How the walk ends, of a set and a plan that have passed the checks: it refuses nothing.
-pub fn walk_checked(set: &[u32], plan: &[u32], rates: usize, tasks: usize, hyper: u64) -> WalkEnd
-    requires { SetAfter (walk_checks set.now plan.now) Ordinary set.now (Good rates tasks hyper) }
-    ensures { Walked set.now plan.now (answer_of result) }
+pub fn walk_checked(set: &[u32], plan: &[u32], measured: Measured) -> WalkEnd
+    requires { SetAfter (walk_checks set.now plan.now) Ordinary set.now (Ok measured) }
+    ensures { Walked set.now plan.now (Ok result) }
 {
+    let rates = measured.rates;
+    let tasks = measured.tasks;
     let step = places::task_size(Layout::Ordinary, rates);
     let p = column(
         set,
@@ -137,35 +109,14 @@ pub fn walk_checked(set: &[u32], plan: &[u32], rates: usize, tasks: usize, hyper
         step,
         tasks,
     );
-    let end = last_tick(&first, tasks, hyper as u32);
+    let end = last_tick(&first, tasks, measured.hyper as u32);
     ticks::run(&p, &c, &first, tasks, end)
-}
-
-// The answer of a walk that ends so.
-fn answer_of(e: WalkEnd) -> WalkAnswer
-    ensures { result ≡ answer_of e }
-{
-    match e {
-        WalkEnd::Kept(busy, idle, preempted) => WalkAnswer::Kept {
-            busy,
-            idle,
-            preempted,
-        },
-        WalkEnd::Missed(tick, task) => WalkAnswer::Missed { tick, task },
-    }
 }
 
 // The walk of a set under a plan: refusal 2, 3, 4 or 8, or what the walk to its last tick says.
 pub fn walk(set: &[u32], plan: &[u32]) -> WalkAnswer
     ensures { Walked set.now plan.now result }
 {
-    let checked = ready(set, plan);
-    match checked {
-        Checked::Refused(r) => WalkAnswer::Refused(r),
-        Checked::Good {
-            rates,
-            tasks,
-            hyper,
-        } => answer_of(walk_checked(set, plan, rates, tasks, hyper)),
-    }
+    let measured = ready(set, plan)?;
+    Ok(walk_checked(set, plan, measured))
 }

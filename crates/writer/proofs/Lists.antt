@@ -6,13 +6,12 @@ use mathlib.Core.List.{List, [], ◌++◌, append_assoc}
 use mathlib.Core.Option.{Option, none, some}
 use native.Mathlib.Nat.{zero-add}
 use native.Mathlib.Omega.{arith}
-use lib.ListN.{length, get_or, take, drop, length-append}
+use lib.ListN.{length, get_or, take, drop}
 use Rattle.numbers.specs.Numbers.{each, joined}
 use Rattle.numbers.proofs.Lists.{each-length, each_at}
-use Rattle.layout.specs.Words.{slack_place, idle_place, head_size, most_rates, most_tasks, word, idle, rate_count, task_count}
+use Rattle.layout.specs.Words.{head_size, most_rates, most_tasks, word, slack, idle, rate_count, task_count}
 use Rattle.layout.specs.Words.{rate_place, task_count_place, task_size, energy_place, rate, first, energy}
 use Rattle.layout.specs.declared.Layout.TheVariants.{Ordinary}
-use Rattle.layout.proofs.Layouts.{idle_in_head}
 use Rattle.layout.proofs.Whole.{in_list}
 use Rattle.text.specs.Text.{bytes, decimal, spaced, first_text, task_text, idle_text, clock_text, script_text, list_rates}
 use Rattle.text.specs.Text.{shown, line_of, script_of}
@@ -21,7 +20,7 @@ use Rattle.text.proofs.Sizes.{text_length}
 use Rattle.text.proofs.RoundTrip.{script_of_list}
 use Rattle.checks.specs.Steps.{OfTask}
 use Rattle.writer.specs.Lines.{WithRates, WithTasks, optional_text, slack_text, idle_line, rates_text}
-use Rattle.writer.proofs.Rows.{one_more, one-room, part}
+use Rattle.writer.proofs.Rows.{part}
 
 -- ---- the words of a list that passes check 2
 module _ {w : List ℕ} {m : ℕ} (has : WithRates w m) where
@@ -30,12 +29,6 @@ module _ {w : List ℕ} {m : ℕ} (has : WithRates w m) where
 
   pub rates_inside : task_count_place Ordinary m ≤ length w
   rates_inside = omega (arith, has.rates, has.whole.size)
-
-  pub slack_inside : slack_place < length w
-  slack_inside = omega (arith, has.whole.size)
-
-  pub idle_inside : idle_place < length w
-  idle_inside = omega (arith, has.whole.size, idle_in_head Ordinary)
 
   pub rates_are : (a e : ℕ) → a ≡ rate_place Ordinary 1 → e ≡ task_count_place Ordinary m → take (e - a) (drop a w) ≡ list_rates w
   rates_are a e x y =
@@ -63,16 +56,12 @@ module _ (front end : List ℕ) where
   unfolding optional_text
   shown-none v e = rw e
 
-  pub shown_some : (v : ℕ) → 0 < v → (front ++ decimal v) ++ end ≡ optional_text front end (shown v)
+  pub shown_some : (v : ℕ) → 0 < v → optional_text front end (shown v) ≡ front ++ (decimal v ++ end)
   unfolding optional_text
   shown_some zero above = absurd (omega arith)
-  shown_some (suc v) above = append_assoc front (decimal (suc v)) end
+  shown_some (suc v) above = refl
 
--- The idle line is one, with what was taken from the list, and so is a first release.
-pub idle_same : (w : List ℕ) {h : ℕ} → h ≡ idle w → optional_text (bytes "(idle ") (bytes ")\n") (shown h) ≡ idle_line (script_of w).idle
-unfolding script_of idle_line
-idle_same w is = ap (λ (k : ℕ). idle_line (shown k)) is
-
+-- A first release is one.
 first_same : (o : Option ℕ) → optional_text (bytes " (from ") (bytes ")") o ≡ first_text o
 unfolding optional_text
 first_same none = refl
@@ -104,15 +93,9 @@ module _ {w : List ℕ} {m n : ℕ} (has : WithTasks w m n) where
     pub task_of : OfTask Ordinary m t w
     task_of = record { whole = has.list.whole; counted = has.list.rates; task = omega (arith, has.tasks) }
 
-    line_is : get_or (script_of w).tasks t (line_of w t) ≡ line_of w t
+    pub line_is : get_or (script_of w).tasks t (line_of w t) ≡ line_of w t
     unfolding script_of
     line_is = each_at (line_of w) 0 (task_count Ordinary w) t task_of.task (line_of w t) ∙ ap (line_of w) (zero-add t)
-
-    pub lines_more : joined task_text (take (t + 1) (script_of w).tasks) ≡ joined task_text (take t (script_of w).tasks) ++ task_text (line_of w t)
-    lines_more = rw line_is at (one_more task_text (script_of w).tasks t (line_of w t) (omega (arith, tasks-count)))
-
-    pub lines_room : length (joined task_text (take t (script_of w).tasks)) + length (task_text (line_of w t)) ≤ length (joined task_text (script_of w).tasks)
-    lines_room = rw line_is at (one-room task_text (script_of w).tasks t (line_of w t) (omega (arith, tasks-count)))
 
 -- ---- the whole text
 -- The bracket of the line behind the idle line, which a script's text has at its end, before it.
@@ -121,30 +104,20 @@ unfolding idle_line optional_text
 turned none u = refl
 turned (some h) u = simp append_assoc
 
-pub cut : (w : List ℕ) → let s = script_of w in
+forms : (w : List ℕ) → let s = script_of w in
     script_text s ≡ ((slack_text s.slack ++ idle_line s.idle) ++ rates_text (list_rates w)) ++ joined task_text s.tasks
 unfolding script_of slack_text rates_text
-cut w =
+forms w =
     let s = script_of w in
     ap (λ (l : List ℕ). bytes "(slack " ++ (decimal s.slack ++ (bytes ")\n" ++ l)))
     (turned s.idle (clock_text s.clock ++ (bytes ")\n" ++ joined task_text s.tasks)))
     ∙ simp append_assoc
 
-pub cut_length : (w : List ℕ) → let s = script_of w in
-    length (script_text s) ≡ length (slack_text s.slack) + length (idle_line s.idle) + length (rates_text (list_rates w)) +
-    length (joined task_text s.tasks)
-cut_length w =
-    let slack = slack_text (script_of w).slack in
-    let idle = idle_line (script_of w).idle in
-    let rates = rates_text (list_rates w) in
-    let tasks = joined task_text (script_of w).tasks in
-    omega (
-      arith,
-      ap length (cut w),
-      length-append ((slack ++ idle) ++ rates) tasks,
-      length-append (slack ++ idle) rates,
-      length-append slack idle,
-    )
+-- Form by form, with what was taken from the list.
+pub cut : (w : List ℕ) {g h : ℕ} {fs : List ℕ} → g ≡ slack w → h ≡ idle w → fs ≡ list_rates w
+    → script_text (script_of w) ≡ slack_text g ++ (idle_line (shown h) ++ (rates_text fs ++ joined task_text (script_of w).tasks))
+unfolding script_of
+cut w x y z = rw (x, y, z) (forms w ∙ simp append_assoc)
 
 pub text_short : {w : List ℕ} {m : ℕ} → WithRates w m → length (script_text (script_of w)) < 6000
 text_short {w} has = text_length (script_of w) (script_text (script_of w)) (record { script = script_of_list w has.whole; text = refl })

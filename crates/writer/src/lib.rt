@@ -1,263 +1,181 @@
 // The writer of the bracketed text: checks 2 and 3, then the bytes needed are counted, and only where the buffer has
-// them is it written to. Each form has a writer, which is lent the rest of the buffer that is not yet written, and
-// beside it a counter, which is the writer without the buffer: the same parts in the same order.
+// them is it written to. Each form has one function, for any sink: with a counter it counts, with a buffer it writes.
 // A list's text names no chip: it has a line of rates, and each task's line has its energies.
 #![tactic(auto)]
 
-ghost use Rattle.std.specs.Prelude.{◌≡◌, ◌+◌, ◌^◌, ◌≤◌, ◌<◌, length};
+ghost use Rattle.std.specs.Prelude.{◌≡◌, ◌≤◌, ◌<◌, length};
 ghost use Rattle.numbers.specs.Numbers.{joined};
-ghost use Rattle.layout.specs.Words.{slack_place, idle_place};
 ghost use Rattle.text.specs.Text.{spaced, task_text, script_text, list_rates, shown, line_of, script_of};
 ghost use Rattle.text.specs.Calls.{WriterGives};
-ghost use Rattle.printer.specs.Puts.{Put, Added};
+ghost use Rattle.printer.specs.Puts.{Put};
 ghost use Rattle.layout.specs.declared.Layout.TheVariants.{Ordinary};
 ghost use Rattle.checks.specs.Steps.{OfTask};
 ghost use Rattle.writer.specs.Lines.{WithRates, WithTasks, optional_text, slack_text, idle_line, rates_text};
 
 use layout::Layout;
-use taskset::{CopyAnswer, Refusal, Shape};
+use printer::{Buffer, Count, Sink};
+use taskset::{CopyAnswer, Refusal};
 
 // The least idle energy that has a line of its own, and the least first release that has a form.
 const LEAST_SHOWN: u64 = 1;
 
-// The words of a list that passes check 2: its rates, and of the task at place t its period, its cycles and its
-// energies.
-fn rates_of(w: &[u32], m: usize) -> &[u32]
-    requires { WithRates w.now m }
-    ensures { result.now ≡ list_rates w.now }
-{
-    let start = places::rate_place(Layout::Ordinary, 1);
-    let end = places::task_count_place(Layout::Ordinary, m);
-    &w[start..end]
+// A list that passes checks 2 and 3, with its rate count and its task count.
+#[derive(Clone, Copy)]
+struct Set<'a> {
+    words: &'a [u32],
+    rates: usize,
+    tasks: usize,
+    ghost counted: { WithTasks words.now rates tasks },
 }
 
-fn energies_of(w: &[u32], m: usize, t: usize) -> &[u32]
-    requires { OfTask Ordinary m t w.now }
-    ensures { result.now ≡ (line_of w.now t).energies }
+// A space and a number. (A function of its own: a byte string in a loop would be part of the loop's invariant.)
+fn spaced<S: Sink>(sink: &mut S, v: u32)
+    requires { S.fits sink.old (spaced v) }
+    ensures { S.takes sink.old (spaced v) sink.new }
 {
-    let start = places::energy_place(Layout::Ordinary, m, t, 1);
-    let end = start + m;
-    &w[start..end]
-}
-
-// A space and a number. (Functions of their own: a byte string in a loop would be part of the loop's invariant.)
-fn add_spaced(buf: &mut [u8], at: usize, v: u32) -> usize
-    requires { at + length (spaced v) ≤ length buf.old }
-    ensures { Added at (spaced v) buf.old buf.new result }
-{
-    printer::add_field(buf, at, b" ", v as u64)
-}
-
-fn count_spaced(at: usize, v: u32) -> usize
-    requires { at + length (spaced v) < 2 ^ 64 }
-    ensures { result ≡ at + length (spaced v) }
-{
-    printer::count_field(at, b" ", v as u64)
+    sink.put_field(b" ", u64::from(v));
 }
 
 // Numbers in a row, each behind a space.
-fn add_numbers(buf: &mut [u8], at: usize, l: &[u32]) -> usize
-    requires { at + length (joined spaced l.now) ≤ length buf.old }
-    ensures { Added at (joined spaced l.now) buf.old buf.new result }
+fn numbers<S: Sink>(sink: &mut S, l: &[u32])
+    requires { S.fits sink.old (joined spaced l.now) }
+    ensures { S.takes sink.old (joined spaced l.now) sink.new }
 {
-    let mut p = at;
-    let mut i: usize = 0;
-    while i < l.len() {
-        p = add_spaced(buf, p, l[i]);
-        i += 1;
+    for v in l {
+        spaced(sink, *v);
     }
-    p
-}
-
-fn count_numbers(at: usize, l: &[u32]) -> usize
-    requires { at + length (joined spaced l.now) < 2 ^ 64 }
-    ensures { result ≡ at + length (joined spaced l.now) }
-{
-    let mut p = at;
-    let mut i: usize = 0;
-    while i < l.len() {
-        p = count_spaced(p, l[i]);
-        i += 1;
-    }
-    p
 }
 
 // A form that stands only where its number is above 0: two fixed strings, and the number between them.
-fn add_shown(buf: &mut [u8], at: usize, front: &[u8], v: u64, end: &[u8]) -> usize
-    requires { at + length (optional_text front.now end.now (shown v)) ≤ length buf.old }
-    ensures { Added at (optional_text front.now end.now (shown v)) buf.old buf.new result }
+// (No Option: in the words that `seedspell_plan` takes 0 is none.)
+fn shown<S: Sink>(sink: &mut S, front: &[u8], v: u64, end: &[u8])
+    requires { S.fits sink.old (optional_text front.now end.now (shown v)) }
+    ensures { S.takes sink.old (optional_text front.now end.now (shown v)) sink.new }
 {
     if LEAST_SHOWN <= v {
-        let a = printer::add_field(buf, at, front, v);
-        return printer::add_bytes(buf, a, end);
+        sink.put_bytes(front);
+        sink.put_number(v);
+        sink.put_bytes(end);
     }
-    at
-}
-
-fn count_shown(at: usize, front: &[u8], v: u64, end: &[u8]) -> usize
-    requires { at + length (optional_text front.now end.now (shown v)) < 2 ^ 64 }
-    ensures { result ≡ at + length (optional_text front.now end.now (shown v)) }
-{
-    if LEAST_SHOWN <= v {
-        let a = printer::count_field(at, front, v);
-        return printer::count_bytes(a, end);
-    }
-    at
 }
 
 // The slack's line.
-fn put_slack(buf: &mut [u8], w: &[u32]) -> usize
-    requires { (slack_place < length w.now) × (length (slack_text (script_of w.now).slack) ≤ length buf.old) }
-    ensures { Put (slack_text (script_of w.now).slack) buf.old buf.new result }
+fn slack_line<S: Sink>(sink: &mut S, slack: u64)
+    requires { S.fits sink.old (slack_text slack) }
+    ensures { S.takes sink.old (slack_text slack) sink.new }
 {
-    let slack = checks::slack_of(w) as u64;
-    let a = printer::add_field(buf, 0, b"(slack ", slack);
-    printer::add_bytes(buf, a, b")\n")
-}
-
-fn count_slack(w: &[u32]) -> usize
-    requires { (slack_place < length w.now) × (length (slack_text (script_of w.now).slack) < 2 ^ 64) }
-    ensures { result ≡ length (slack_text (script_of w.now).slack) }
-{
-    let slack = checks::slack_of(w) as u64;
-    let a = printer::count_field(0, b"(slack ", slack);
-    printer::count_bytes(a, b")\n")
+    sink.put_field(b"(slack ", slack);
+    sink.put_bytes(b")\n");
 }
 
 // The idle line, where there is one.
-fn put_idle(buf: &mut [u8], w: &[u32]) -> usize
-    requires { (idle_place < length w.now) × (length (idle_line (script_of w.now).idle) ≤ length buf.old) }
-    ensures { Put (idle_line (script_of w.now).idle) buf.old buf.new result }
+fn idle_line<S: Sink>(sink: &mut S, idle: u64)
+    requires { S.fits sink.old (idle_line (shown idle)) }
+    ensures { S.takes sink.old (idle_line (shown idle)) sink.new }
 {
-    let idle = checks::idle_of(w) as u64;
-    add_shown(buf, 0, b"(idle ", idle, b")\n")
-}
-
-fn count_idle(w: &[u32]) -> usize
-    requires { (idle_place < length w.now) × (length (idle_line (script_of w.now).idle) < 2 ^ 64) }
-    ensures { result ≡ length (idle_line (script_of w.now).idle) }
-{
-    let idle = checks::idle_of(w) as u64;
-    count_shown(0, b"(idle ", idle, b")\n")
+    shown(sink, b"(idle ", idle, b")\n");
 }
 
 // The rates' line.
-fn put_rates(buf: &mut [u8], w: &[u32], m: usize) -> usize
-    requires { WithRates w.now m × (length (rates_text (list_rates w.now)) ≤ length buf.old) }
-    ensures { Put (rates_text (list_rates w.now)) buf.old buf.new result }
+fn rates_line<S: Sink>(sink: &mut S, rates: &[u32])
+    requires { S.fits sink.old (rates_text rates.now) }
+    ensures { S.takes sink.old (rates_text rates.now) sink.new }
 {
-    let rates = rates_of(w, m);
-    let a = printer::add_bytes(buf, 0, b"(rates");
-    let b = add_numbers(buf, a, rates);
-    printer::add_bytes(buf, b, b")\n")
+    sink.put_bytes(b"(rates");
+    numbers(sink, rates);
+    sink.put_bytes(b")\n");
 }
 
-fn count_rates(w: &[u32], m: usize) -> usize
-    requires { WithRates w.now m × (length (rates_text (list_rates w.now)) < 2 ^ 64) }
-    ensures { result ≡ length (rates_text (list_rates w.now)) }
-{
-    let rates = rates_of(w, m);
-    let a = printer::count_bytes(0, b"(rates");
-    let b = count_numbers(a, rates);
-    printer::count_bytes(b, b")\n")
-}
-
-// The line of the task at place t.
-fn put_task(buf: &mut [u8], w: &[u32], m: usize, t: usize) -> usize
-    requires { OfTask Ordinary m t w.now × (length (task_text (line_of w.now t)) ≤ length buf.old) }
-    ensures { Put (task_text (line_of w.now t)) buf.old buf.new result }
-{
-    let period = checks::period_of(w, Layout::Ordinary, m, t) as u64;
-    let cycles = checks::cycles_of(w, Layout::Ordinary, m, t) as u64;
-    let first = checks::first_of(w, Layout::Ordinary, m, t) as u64;
-    let energies = energies_of(w, m, t);
-    let a = printer::add_field(buf, 0, b"(task (period ", period);
-    let b = printer::add_field(buf, a, b") (cycles ", cycles);
-    let c = printer::add_bytes(buf, b, b") (energy");
-    let d = add_numbers(buf, c, energies);
-    let e = printer::add_bytes(buf, d, b")");
-    let f = add_shown(buf, e, b" (from ", first, b")");
-    printer::add_bytes(buf, f, b")\n")
-}
-
-fn count_task(w: &[u32], m: usize, t: usize) -> usize
-    requires { OfTask Ordinary m t w.now × (length (task_text (line_of w.now t)) < 2 ^ 64) }
-    ensures { result ≡ length (task_text (line_of w.now t)) }
-{
-    let period = checks::period_of(w, Layout::Ordinary, m, t) as u64;
-    let cycles = checks::cycles_of(w, Layout::Ordinary, m, t) as u64;
-    let first = checks::first_of(w, Layout::Ordinary, m, t) as u64;
-    let energies = energies_of(w, m, t);
-    let a = printer::count_field(0, b"(task (period ", period);
-    let b = printer::count_field(a, b") (cycles ", cycles);
-    let c = printer::count_bytes(b, b") (energy");
-    let d = count_numbers(c, energies);
-    let e = printer::count_bytes(d, b")");
-    let f = count_shown(e, b" (from ", first, b")");
-    printer::count_bytes(f, b")\n")
-}
-
-// The lines of the n tasks: the rest of the buffer is lent for each.
-fn put_tasks(buf: &mut [u8], w: &[u32], m: usize, n: usize) -> usize
-    requires { WithTasks w.now m n × (length (joined task_text (script_of w.now).tasks) ≤ length buf.old) }
-    ensures { Put (joined task_text (script_of w.now).tasks) buf.old buf.new result }
-{
-    let mut p: usize = 0;
-    let mut t: usize = 0;
-    while t < n {
-        p += put_task(&mut buf[p..], w, m, t);
-        t += 1;
+impl Set<'_> {
+    // Its rates, and the energies of the task at place t, as they stand in the words.
+    fn rates(&self) -> &[u32]
+        ensures { result.now ≡ list_rates self.now.words.now }
+    {
+        let start = places::rate_place(Layout::Ordinary, 1);
+        let end = places::task_count_place(Layout::Ordinary, self.rates);
+        &self.words[start..end]
     }
-    p
-}
 
-fn count_tasks(w: &[u32], m: usize, n: usize) -> usize
-    requires { WithTasks w.now m n × (length (joined task_text (script_of w.now).tasks) < 2 ^ 64) }
-    ensures { result ≡ length (joined task_text (script_of w.now).tasks) }
-{
-    let mut p: usize = 0;
-    let mut t: usize = 0;
-    while t < n {
-        p += count_task(w, m, t);
-        t += 1;
+    fn energies(&self, t: usize) -> &[u32]
+        requires { t < self.now.tasks }
+        ensures { result.now ≡ (line_of self.now.words.now t).energies }
+    {
+        let start = places::energy_place(Layout::Ordinary, self.rates, t, 1);
+        let end = start + self.rates;
+        &self.words[start..end]
     }
-    p
+
+    // The line of the task at place t.
+    fn task_line<S: Sink>(&self, sink: &mut S, t: usize)
+        requires has { t < self.now.tasks }
+        requires fits { S.fits sink.old (task_text (line_of self.now.words.now t)) }
+        ensures { S.takes sink.old (task_text (line_of self.now.words.now t)) sink.new }
+    {
+        let period = u64::from(checks::period_of(self.words, Layout::Ordinary, self.rates, t));
+        let cycles = u64::from(checks::cycles_of(self.words, Layout::Ordinary, self.rates, t));
+        let first = u64::from(checks::first_of(self.words, Layout::Ordinary, self.rates, t));
+        let energies = self.energies(t);
+        sink.put_field(b"(task (period ", period);
+        sink.put_field(b") (cycles ", cycles);
+        sink.put_bytes(b") (energy");
+        numbers(sink, energies);
+        sink.put_bytes(b")");
+        shown(sink, b" (from ", first, b")");
+        sink.put_bytes(b")\n");
+    }
+
+    // The whole text.
+    fn text<S: Sink>(&self, sink: &mut S)
+        requires { S.fits sink.old (script_text (script_of self.now.words.now)) }
+        ensures { S.takes sink.old (script_text (script_of self.now.words.now)) sink.new }
+    {
+        slack_line(sink, u64::from(checks::slack_of(self.words)));
+        idle_line(sink, u64::from(checks::idle_of(self.words)));
+        rates_line(sink, self.rates());
+        for t in 0..self.tasks {
+            self.task_line(sink, t);
+        }
+    }
 }
 
-// The whole text: the rest of the buffer is lent for each form.
-fn put_text(buf: &mut [u8], w: &[u32], m: usize, n: usize) -> usize
-    requires { WithTasks w.now m n × (length (script_text (script_of w.now)) ≤ length buf.old) }
-    ensures { Put (script_text (script_of w.now)) buf.old buf.new result }
-{
-    let a = put_slack(buf, w);
-    let b = a + put_idle(&mut buf[a..], w);
-    let c = b + put_rates(&mut buf[b..], w, m);
-    c + put_tasks(&mut buf[c..], w, m, n)
-}
-
+// How many bytes the text of a list of m rates and n tasks has.
 fn count_text(w: &[u32], m: usize, n: usize) -> usize
     requires { WithTasks w.now m n }
     ensures { result ≡ length (script_text (script_of w.now)) }
 {
-    let a = count_slack(w);
-    let b = a + count_idle(w);
-    let c = b + count_rates(w, m);
-    c + count_tasks(w, m, n)
+    let set = Set {
+        words: w,
+        rates: m,
+        tasks: n,
+    };
+    let mut counter = Count { bytes: 0 };
+    set.text(&mut counter);
+    counter.bytes
+}
+
+// The text to the front of a buffer.
+fn put_text(buf: &mut [u8], w: &[u32], m: usize, n: usize) -> usize
+    requires { WithTasks w.now m n × (length (script_text (script_of w.now)) ≤ length buf.old) }
+    ensures { Put (script_text (script_of w.now)) buf.old buf.new result }
+{
+    let set = Set {
+        words: w,
+        rates: m,
+        tasks: n,
+    };
+    let mut lent = Buffer { all: buf, at: 0 };
+    set.text(&mut lent);
+    lent.at
 }
 
 // The text of a set of words that passes checks 2 and 3; how many bytes, or a refusal that leaves the buffer as it was.
 pub fn write(set: &[u32], text: &mut [u8]) -> CopyAnswer
     ensures { WriterGives set.now text.old text.new result }
 {
-    let shape = checks::check_words(set, Layout::Ordinary);
-    match shape {
-        Shape::Refused(r) => CopyAnswer::Refused(r),
-        Shape::Whole { rates, tasks } => {
-            let needed = count_text(set, rates, tasks);
-            if text.len() < needed {
-                return CopyAnswer::Refused(Refusal::TooShort(needed));
-            }
-            CopyAnswer::Wrote(put_text(text, set, rates, tasks))
-        }
+    let counts = checks::check_words(set, Layout::Ordinary)?;
+    let needed = count_text(set, counts.rates, counts.tasks);
+    if text.len() < needed {
+        return Err(Refusal::TooShort(needed));
     }
+    Ok(put_text(text, set, counts.rates, counts.tasks))
 }

@@ -1,13 +1,7 @@
--- The number is the length of the definition's table.
--- Assumes nothing.
-use Rattle.chips.specs.Chips.{megahertz}
-use borrow.Author.Rules.{rules}
+use mathlib.Core.Path.{ap, ◌∙◌}
+use lib.ListN.{length}
+use Rattle.chips.proofs.Tables.{rates-length}
 use Rattle.chips.proofs.rate_count.Goals as goal
 
-pub returns-in-Xscale : goal.returns-in-Xscale
-unfolding megahertz
-returns-in-Xscale c = search rules
-
-pub returns-in-Ppc405lp : goal.returns-in-Ppc405lp
-unfolding megahertz
-returns-in-Ppc405lp c = search rules
+pub returns : goal.returns
+returns c = ap length c.rates.ensures ∙ rates-length c.args.chip

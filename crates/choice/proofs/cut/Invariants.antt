@@ -1,10 +1,6 @@
-use Prim.Native.Nat.{◌≤◌, ◌-◌, ◌*◌}
 use Rattle.engine.specs.Arrays.{Written}
 use Rattle.choice.specs.Units.{cut_of}
 use Rattle.choice.proofs.cut.Given as goal
 
 abbrev pub invariant-loop-k : goal.invariant-loop-k
-invariant-loop-k l = (l.k ≤ l.tasks * 16) × Written (cut_of l.loads l.cap) 0 l.k l.initial.load l.load
-
-abbrev pub decreases-loop-k : goal.decreases-loop-k
-decreases-loop-k l = l.tasks * 16 - l.k
+invariant-loop-k l = Written (cut_of l.loads l.cap) 0 l.k l.initial.load l.load

@@ -4,7 +4,7 @@ use Rattle.choice.proofs.Trying.{Trying}
 use Rattle.choice.proofs.find_unit.Given as goal
 
 abbrev pub invariant-loop-q : goal.invariant-loop-q
-invariant-loop-q l = Trying l.q l.loads l.energies l.initial.work l.initial.unit.exponent l.cost l.work l.unit l.columns
+invariant-loop-q l = Trying l.q l.loads l.energies l.initial.work l.initial.unit.exponent l.work l.unit l.columns
 
 abbrev pub decreases-loop-q : goal.decreases-loop-q
 decreases-loop-q l = l.unit.exponent

@@ -4,7 +4,4 @@ use Rattle.choice.proofs.Ways.{OnWay}
 use Rattle.choice.proofs.way_back.Given as goal
 
 abbrev pub invariant-loop-task : goal.invariant-loop-task
-invariant-loop-task l = OnWay l.f l.column l.cost l.load l.initial.plan l.plan l.left l.task l.start
-
-abbrev pub decreases-loop-task : goal.decreases-loop-task
-decreases-loop-task l = l.task
+invariant-loop-task l = OnWay l.f l.column l.cost l.load l.fn.plan l.plan l.left l.task

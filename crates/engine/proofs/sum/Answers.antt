@@ -1,48 +1,32 @@
-use Prim.Native.Nat.{ℕ, ◌+◌, ◌≤◌}
-use mathlib.Core.Path.{sym, ap, ◌∙◌}
-use lib.ListN.{get_or}
-use Rattle.engine.proofs.Adding.{sum_low, sum_turn}
+use Prim.Native.Nat.{ℕ, ◌+◌, ◌*◌, ◌<◌}
+use mathlib.Core.Path.{◌≡◌, sym}
+use mathlib.Core.List.{List}
+use lib.ListN.{length, get_or, take, length-take}
+use lib.Seq.{get_or-take}
 use native.Mathlib.Omega.{arith}
 use Rattle.numbers.specs.Numbers.{total}
 use Rattle.numbers.proofs.Sums.{total-none}
 use Rattle.engine.specs.Arrays.{option_at, load_bound}
+use Rattle.engine.proofs.Adding.{sum_low, sum_turn}
 use Rattle.engine.proofs.sum.Goals as goal
 
+-- The sum with one task more, whose rate number is read from the first words of the plan.
+turn : (options plan : List ℕ) (tasks t : ℕ) {s : ℕ} → s ≡ total (option_at options) t plan → t < length (take tasks plan)
+    → s + get_or options (t * 16 + get_or (take tasks plan) t 0) 0 ≡ total (option_at options) (t + 1) plan
+turn options plan tasks t e h =
+    let lt : t < tasks = omega (arith, length-take tasks plan) in
+    rw (get_or-take tasks plan t 0 lt) (sum_turn (option_at options) t plan e)
+
 pub loop-t-init : goal.loop-t-init
-loop-t-init c = (omega arith, sym (total-none _ _))
-
-pub overflow_cast-r : goal.overflow_cast-r
-overflow_cast-r c =
-    let rate-number : get_or c.args.plan.now c.loop-t.t 0 ≤ 8 = c.requires.numbers c.loop-t.t (omega arith) in
-    omega (arith, rate-number)
-
-pub overflow_add-s : goal.overflow_add-s
-overflow_add-s c =
-    let rate-number : get_or c.args.plan.now c.loop-t.t 0 ≤ 8 = c.requires.numbers c.loop-t.t (omega arith) in
-    omega (arith, rate-number, c.requires.few)
-
-pub offset_bounds-options-t : goal.offset_bounds-options-t
-offset_bounds-options-t c =
-    let rate-number : get_or c.args.plan.now c.loop-t.t 0 ≤ 8 = c.requires.numbers c.loop-t.t (omega arith) in
-    omega (arith, rate-number, c.requires.few)
-
-pub bounds-options-t : goal.bounds-options-t
-bounds-options-t c =
-    let rate-number : get_or c.args.plan.now c.loop-t.t 0 ≤ 8 = c.requires.numbers c.loop-t.t (omega arith) in
-    omega (arith, rate-number, c.requires.few)
+loop-t-init c = sym (total-none _ _)
 
 pub overflow_add-s-in-loop-t : goal.overflow_add-s-in-loop-t
-overflow_add-s-in-loop-t c = let g = c.requires in
-    let s = c.args.options.now in
-    let P = c.args.plan.now in
+overflow_add-s-in-loop-t c = let i = c.args in
     omega (
       arith,
-      sum_turn (option_at s) c.loop-t.t P c.loop-t.invariant.1,
-      sum_low load_bound s P (c.loop-t.t + 1) g.small (omega (arith, g.few)),
+      turn i.options.now i.plan.now i.tasks c.loop-t.t c.loop-t.invariant c.loop-t-test.true,
+      sum_low load_bound i.options.now i.plan.now (c.loop-t.t + 1) c.requires.small (omega (arith, c.requires.few, length-take i.tasks i.plan.now)),
     )
 
 pub loop-t-preserved : goal.loop-t-preserved
-loop-t-preserved c = (omega arith, sum_turn (option_at c.args.options.now) c.loop-t.t c.args.plan.now c.loop-t.invariant.1)
-
-pub returns : goal.returns
-returns c = c.loop-t.invariant.1 ∙ ap (λ (x : ℕ). total (option_at c.args.options.now) x c.args.plan.now) (omega arith)
+loop-t-preserved c = let i = c.args in turn i.options.now i.plan.now i.tasks c.loop-t.t c.loop-t.invariant c.loop-t-test.true

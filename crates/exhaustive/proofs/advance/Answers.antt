@@ -1,19 +1,12 @@
-use Prim.Native.Nat.{◌+◌, ◌≤◌, ◌<◌}
+use Prim.Native.Nat.{◌+◌}
 use mathlib.Core.Path.{refl}
 use native.Mathlib.Omega.{arith}
 use lib.ListN.{get_or}
-use Rattle.exhaustive.proofs.Hands.{change_ready, carry_start, carry_raise, carry_turn, carry_end}
+use Rattle.exhaustive.proofs.Hands.{change_ready, carry_start, carry_raise, carry_turn}
 use Rattle.exhaustive.proofs.advance.Goals as goal
 
 pub loop-t-init : goal.loop-t-init
 loop-t-init c = carry_start c.requires.posed c.requires.hand
-
-pub overflow_add-here : goal.overflow_add-here
-overflow_add-here c =
-    let number : c.loop-t.t < c.args.q.tasks → (1 ≤ get_or c.loop-t.hand c.loop-t.t 0) × (get_or c.loop-t.hand c.loop-t.t 0 ≤ c.args.q.rates) = λ task. let h = c.loop-t.invariant.hand.numbered in
-    (h.above c.loop-t.t task, h.below c.loop-t.t task) in
-    let g = c.requires.posed in
-    omega (arith, number c.loop-t-test.true, g.rates.1, g.tasks.1)
 
 pub change-requires : goal.change-requires
 change-requires c = change_ready c.requires.posed c.loop-t.invariant.hand c.loop-t.t (get_or c.loop-t.hand c.loop-t.t 0 + 1)
@@ -30,6 +23,3 @@ change-sums-requires c = change_ready c.requires.posed c.loop-t.invariant.hand c
 pub loop-t-preserved : goal.loop-t-preserved
 loop-t-preserved c = carry_turn c.requires.posed c.loop-t.invariant c.loop-t-test.true refl
     c.change-sums.ensures (omega arith) refl
-
-pub returns : goal.returns
-returns c = carry_end c.requires.posed c.loop-t.invariant (omega arith)

@@ -1,12 +1,13 @@
 -- The costs of the unit, then the best of all plans by them.
 -- Assumes nothing.
-use Rattle.exhaustive.proofs.Chosen.{all_posed, all_chosen}
+use Rattle.exhaustive.proofs.Chosen.{all_posed, some_best, all_chosen}
 use Rattle.exhaustive.proofs.best_at.Goals as goal
 
 pub best_plan-requires : goal.best_plan-requires
-best_plan-requires c = let g = c.requires in
-    (all_posed g.all _ c.round_up.ensures, g.all.plans_are)
+best_plan-requires c = (all_posed c.requires _ c.round_up.ensures, c.requires.plans_are)
+
+pub unwrap-requires : goal.unwrap-requires
+unwrap-requires c = some_best c.requires c.args.unit.exponent c.round_up.ensures _ c.best_plan.ensures
 
 pub returns : goal.returns
-returns c = let g = c.requires in
-    all_chosen g.all c.args.unit.exponent c.round_up.ensures c.best_plan.ensures
+returns c = all_chosen c.requires c.args.unit.exponent c.round_up.ensures (rw c.unwrap.ensures at c.best_plan.ensures)

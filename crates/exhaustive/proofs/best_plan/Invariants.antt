@@ -1,11 +1,7 @@
 -- All plans, as many a turn as there are rates.
 -- Assumes nothing.
-use Prim.Native.Nat.{◌-◌}
 use Rattle.exhaustive.proofs.Hands.{Going}
 use Rattle.exhaustive.proofs.best_plan.Given as goal
 
 abbrev pub invariant-loop-rank : goal.invariant-loop-rank
-invariant-loop-rank l = Going l.q l.loads l.cost l.hand l.s l.rank l.b
-
-abbrev pub decreases-loop-rank : goal.decreases-loop-rank
-decreases-loop-rank l = l.plans - l.rank
+invariant-loop-rank l = Going l.q l.loads l.cost l.hand l.s l.rank l.best

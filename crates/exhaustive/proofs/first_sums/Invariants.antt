@@ -1,6 +1,5 @@
 -- The invariant: the sums of the tasks before the one in hand.
 -- Assumes nothing.
-use Prim.Native.Nat.{◌-◌, ◌≤◌}
 use mathlib.Core.Path.{◌≡◌}
 use lib.ListN.{replicate}
 use Rattle.numbers.specs.Numbers.{total}
@@ -8,8 +7,5 @@ use Rattle.engine.specs.Arrays.{option_at}
 use Rattle.exhaustive.proofs.first_sums.Given as goal
 
 abbrev pub invariant-loop-t : goal.invariant-loop-t
-invariant-loop-t l = (l.t ≤ l.q.tasks) × (l.load ≡ total (option_at l.loads) l.t (replicate 32 1)) ×
-    (l.whole ≡ total (option_at l.cost) l.t (replicate 32 1))
-
-abbrev pub decreases-loop-t : goal.decreases-loop-t
-decreases-loop-t l = l.q.tasks - l.t
+invariant-loop-t l = (l.sums.load ≡ total (option_at l.loads) l.t (replicate 32 1)) ×
+    (l.sums.cost ≡ total (option_at l.cost) l.t (replicate 32 1))

@@ -1,7 +1,7 @@
 -- The energies: as the line has them, or as the chip does.
 -- Assumes nothing.
 use mathlib.Core.Path.{refl}
-use Rattle.forms.proofs.Lists.{gives}
+use Rattle.forms.proofs.Gives.{gives}
 use Rattle.forms.proofs.Words.{no_energies}
 use Rattle.forms.proofs.energies.Goals as goal
 
@@ -17,4 +17,4 @@ pub returns-in-Rates : goal.returns-in-Rates
 returns-in-Rates c = rw c.in-Rates.is c.energy_form.ensures
 
 pub returns-in-Named : goal.returns-in-Named
-returns-in-Named c = rw c.in-Named.is (gives (no_energies _ _) refl c.put_energies.ensures)
+returns-in-Named c = rw c.in-Named.is (gives _ _ _ (no_energies _) refl c.put_energies.ensures)

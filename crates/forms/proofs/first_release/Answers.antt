@@ -1,28 +1,38 @@
 -- The next byte tells whether the form stands there.
 -- Assumes nothing.
-use mathlib.Core.Path.{◌≡◌, sym, ap, ◌∙◌}
+use mathlib.Core.Path.{◌≡◌}
 use mathlib.Core.Bool.{true}
-use mathlib.Core.Option.{some}
+use mathlib.Core.Option.{none}
 use native.Mathlib.Omega.{arith}
 use lib.ListN.{drop}
-use Rattle.text.specs.Text.{first_of}
-use Rattle.text.specs.Reading.{map_res, starts, read_first_form, read_at}
+use Rattle.std.specs.Prelude.{Ok, Err}
+use Rattle.text.specs.Text.{bytes, first_of}
+use Rattle.text.specs.Reading.{starts, field, read_first_form, read_first}
 use Rattle.scanner.proofs.Classes.{there, not_there, not_space}
-use Rattle.scanner.proofs.Places.{map_id}
-use Rattle.forms.proofs.Lists.{map-map}
-use Rattle.forms.proofs.Words.{optional-none, optional_some}
+use Rattle.scanner.proofs.Places.{shown, piece_departs, closed, handed}
+use Rattle.forms.proofs.Words.{is_absent, is_present}
 use Rattle.forms.proofs.first_release.Goals as goal
+use Rattle.forms.proofs.first_release.Goals.{In-Space}
+
+stands : (c : In-Space) → let x = c.args.text.now in starts 32 (drop x.at x.text.now) ≡ true
+stands c = there _ _ 32 32 c.in-Space.ensures.inside (omega (arith, c.in-Space.ensures))
 
 pub returns-in_default : goal.returns-in_default
-returns-in_default c = let a = c.args in
-    let none = not_there a.s.now a.at 32 (not_space _ _ c.step.result c.step.ensures c.in_default.not-Space) in
-    sym (ap (map_res first_of) (optional-none 32 read_first_form a.s.now a.at none))
+returns-in_default c = let x = c.args.text.now in
+    let none_there = not_there x.text.now x.at 32 (not_space _ _ c.step.result c.step.ensures c.in_default.not-Space) in
+    shown first_of read_first (Ok none) (is_absent 32 read_first_form none_there)
+
+pub returns-in_err-a : goal.returns-in_err-a
+returns-in_err-a c = handed _ c.from_residual.ensures.1 (shown first_of read_first _
+    (is_present 32 read_first_form _ (stands (goal.at.returns-in_err-a c).In-Space)
+    (piece_departs (field (bytes " (from ")) (bytes ")") c.in_err-a.ensures)))
+
+pub returns-in_err-literal : goal.returns-in_err-literal
+returns-in_err-literal c = handed _ c.from_residual-in_err-literal.ensures.1 (shown first_of read_first _
+    (is_present 32 read_first_form _ (stands (goal.at.returns-in_err-literal c).In-Space)
+    (closed (field (bytes " (from ")) (bytes ")") (Err _) c.in_ok-a.ensures c.in_err-literal.ensures)))
 
 pub returns : goal.returns
-returns c =
-    let stands : let a = c.args in starts 32 (drop a.at a.s.now) ≡ true = let b = rw c.in-Space.is at c.step.ensures in
-    there _ _ 32 32 b.inside (omega arith) in
-    let a = c.args in
-    c.release_form.ensures
-    ∙ sym (ap (map_res first_of) (optional_some 32 read_first_form a.s.now a.at stands)
-    ∙ map-map first_of some (read_at read_first_form a.s.now a.at) ∙ map_id _)
+returns c = shown first_of read_first _
+    (is_present 32 read_first_form _ (stands (goal.at.returns c).In-Space)
+    (closed (field (bytes " (from ")) (bytes ")") (Ok _) c.in_ok-a.ensures c.in_ok-literal.ensures))

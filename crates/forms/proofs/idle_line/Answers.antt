@@ -1,38 +1,36 @@
 -- The first letter tells whether the line stands there.
 -- Assumes nothing.
-use mathlib.Core.Path.{◌≡◌, sym, ap, ◌∙◌}
-use mathlib.Core.Option.{some}
+use mathlib.Core.Path.{◌≡◌, sym, ◌∙◌}
+use mathlib.Core.Bool.{true}
+use mathlib.Core.Option.{none}
+use lib.ListN.{drop}
+use Rattle.std.specs.Prelude.{Ok, Err}
 use Rattle.text.specs.Text.{bytes}
-use Rattle.text.specs.Reading.{got, bad, ext, map_res, literal, field, read_idle_line, read_idle, read_at}
-use Rattle.scanner.specs.Steps.{of_read, no_value}
-use Rattle.scanner.proofs.Places.{seq_at, took, lost}
-use Rattle.forms.proofs.Words.{optional-none, optional_some}
+use Rattle.text.specs.Reading.{starts, field, read_idle_line, read_idle}
+use Rattle.scanner.proofs.Places.{shown, piece_departs, closed, handed}
+use Rattle.forms.specs.Forms.{given}
+use Rattle.forms.proofs.Words.{is_absent, is_present}
 use Rattle.forms.proofs.idle_line.Goals as goal
+use Rattle.forms.proofs.idle_line.Goals.{Else-not-is_letter}
+
+stands : (c : Else-not-is_letter) → let x = c.args.text.now in starts 105 (drop x.at x.text.now) ≡ true
+stands c = sym c.is_letter.ensures ∙ c.if-not-is_letter.false
 
 pub returns-then-not-is_letter : goal.returns-then-not-is_letter
-returns-then-not-is_letter c = sym (optional-none 105 read_idle_line _ _
-    (sym c.is_letter.ensures ∙ c.if-not-is_letter.true))
+returns-then-not-is_letter c =
+    shown given read_idle (Ok none) (is_absent 105 read_idle_line (sym c.is_letter.ensures ∙ c.if-not-is_letter.true))
 
-pub returns-in_default : goal.returns-in_default
-returns-in_default c =
-    let line : let a = c.args in read_at read_idle a.s.now a.at ≡ map_res some (read_at read_idle_line a.s.now a.at) = let i = c.is_letter in
-    optional_some 105 read_idle_line _ _ (sym i.ensures ∙ c.if-not-is_letter.false) in
-    let told = ap of_read c.in_default.is in
-    let e = sym c.field-number.ensures ∙ told in
-    ap bad (c.place_of.ensures ∙ ap ext told) ∙ sym (rw (line, seq_at, e))
+pub returns-in_err-h : goal.returns-in_err-h
+returns-in_err-h c = handed _ c.from_residual.ensures.1 (shown given read_idle _
+    (is_present 105 read_idle_line _ (stands (goal.at.returns-in_err-h c).Else-not-is_letter)
+    (piece_departs (field (bytes "idle ")) (bytes ")\n(") c.in_err-h.ensures)))
 
-pub returns-in-Got-literal : goal.returns-in-Got-literal
-returns-in-Got-literal c =
-    let line : let a = c.args in read_at read_idle a.s.now a.at ≡ map_res some (read_at read_idle_line a.s.now a.at) = let i = c.is_letter in
-    optional_some 105 read_idle_line _ _ (sym i.ensures ∙ c.if-not-is_letter.false) in
-    let number : let a = c.args in read_at (field (bytes "idle ")) a.s.now a.at ≡ got c.in-Got.h c.in-Got.i = sym c.field-number.ensures ∙ ap of_read c.in-Got.is in
-    let e = (took no_value (read_at (literal _) _ _) c.literal.ensures (ap of_read c.in-Got-literal.is)).is in
-    sym (rw (line, seq_at, number, e))
+pub returns-in_err-literal : goal.returns-in_err-literal
+returns-in_err-literal c = handed _ c.from_residual-in_err-literal.ensures.1 (shown given read_idle _
+    (is_present 105 read_idle_line _ (stands (goal.at.returns-in_err-literal c).Else-not-is_letter)
+    (closed (field (bytes "idle ")) (bytes ")\n(") (Err _) c.in_ok-h.ensures c.in_err-literal.ensures)))
 
-pub returns-in-Bad : goal.returns-in-Bad
-returns-in-Bad c =
-    let line : let a = c.args in read_at read_idle a.s.now a.at ≡ map_res some (read_at read_idle_line a.s.now a.at) = let i = c.is_letter in
-    optional_some 105 read_idle_line _ _ (sym i.ensures ∙ c.if-not-is_letter.false) in
-    let number : let a = c.args in read_at (field (bytes "idle ")) a.s.now a.at ≡ got c.in-Got.h c.in-Got.i = sym c.field-number.ensures ∙ ap of_read c.in-Got.is in
-    let e = lost no_value (read_at (literal _) _ _) c.literal.ensures (ap of_read c.in-Bad.is) in
-    sym (rw (line, seq_at, number, e))
+pub returns : goal.returns
+returns c = shown given read_idle _
+    (is_present 105 read_idle_line _ (stands (goal.at.returns c).Else-not-is_letter)
+    (closed (field (bytes "idle ")) (bytes ")\n(") (Ok _) c.in_ok-h.ensures c.in_ok-literal.ensures))

@@ -1,38 +1,26 @@
 -- The rates behind the line's name.
 -- Assumes nothing.
-use Prim.Native.Nat.{ℕ}
-use mathlib.Core.Path.{◌≡◌, refl, sym, ap}
+use mathlib.Core.Path.{ap}
 use lib.ListN.{length}
 use Rattle.text.specs.Text.{bytes, rates}
-use Rattle.text.specs.Reading.{got, literal, numbers, read_at}
-use Rattle.scanner.specs.Steps.{of_read, no_value}
-use Rattle.scanner.proofs.Places.{map_id, map_at, seq_at, Took, took, lost}
+use Rattle.text.specs.Reading.{skip, numbers}
+use Rattle.scanner.proofs.Places.{skip_departs, skipped, lost}
+use Rattle.forms.specs.Forms.{plain}
 use Rattle.forms.specs.declared.Clock.TheVariants.{Rates}
-use Rattle.forms.proofs.Lists.{departs, departs_at, gives}
+use Rattle.forms.proofs.Gives.{refuses, gives, handed, map_gives, told}
 use Rattle.forms.proofs.rates_line.Goals as goal
-use Rattle.forms.proofs.rates_line.Goals.{In-Got-numbers}
 
--- The rates that were read.
-read-rates : (c : In-Got-numbers) → Took length (read_at (numbers 2 6) c.args.s.now
-    c.in-Got.i) c.in-Got-numbers.n c.in-Got-numbers.j
-read-rates c =
-    took length (read_at (numbers 2 6) _ _) c.numbers.ensures.answers
-    (ap of_read c.in-Got-numbers.is)
+pub returns-in_err-literal : goal.returns-in_err-literal
+returns-in_err-literal c = handed _ _ _ _ c.from_residual.ensures.1
+    (map_gives rates (skip (bytes "rates") (numbers 2 6))
+    (refuses _ _ _ (skip_departs (bytes "rates") (numbers 2 6) c.in_err-literal.ensures)))
 
-pub returns-in_default : goal.returns-in_default
-returns-in_default c = let told = ap of_read c.in_default.is in
-    let e = lost no_value (read_at (literal _) _ _) c.literal-line.ensures told in
-    departs_at (rw (map_at, seq_at, e)) c.place_of.ensures told
+pub returns-in_err-n : goal.returns-in_err-n
+returns-in_err-n c = handed _ _ _ _ c.from_residual-in_err-n.ensures.1
+    (map_gives rates (skip (bytes "rates") (numbers 2 6))
+    (refuses _ _ _ (skipped (bytes "rates") (numbers 2 6) c.in_ok-literal.ensures (lost length (numbers 2 6) c.in_err-n.ensures.reads))))
 
-pub returns-in-Got-numbers : goal.returns-in-Got-numbers
-returns-in-Got-numbers c =
-    let begun : let a = c.args in read_at (literal (bytes "rates")) a.s.now a.at ≡ got tt c.in-Got.i = (took no_value (read_at (literal _) _ _) c.literal-line.ensures (ap of_read c.in-Got.is)).is in
-    let t = (read-rates c) in
-    gives {a = rates t.item} {i = c.in-Got-numbers.j} (rw (map_at, seq_at, begun, map_id, t.is))
-    (ap (λ (z : ℕ). got (Rates z) c.in-Got-numbers.j) (sym t.shows)) (rw t.is at c.numbers.ensures.wrote)
-
-pub returns-in-Bad : goal.returns-in-Bad
-returns-in-Bad c =
-    let begun : let a = c.args in read_at (literal (bytes "rates")) a.s.now a.at ≡ got tt c.in-Got.i = (took no_value (read_at (literal _) _ _) c.literal-line.ensures (ap of_read c.in-Got.is)).is in
-    let e = lost length (read_at (numbers 2 6) _ _) c.numbers.ensures.answers (ap of_read c.in-Bad.is) in
-    departs (rw (map_at, seq_at, begun, map_id, e)) refl
+pub returns : goal.returns
+returns c = let t = told length plain (numbers 2 6) c.in_ok-n.ensures in
+    map_gives rates (skip (bytes "rates") (numbers 2 6))
+    (gives _ _ _ (skipped (bytes "rates") (numbers 2 6) c.in_ok-literal.ensures t.reads) (ap Rates t.shows) t.wrote)

@@ -1,195 +1,98 @@
 -- A task's line: each answer on the way says what the next piece reads.
 -- Assumes nothing.
-use Prim.Native.Nat.{ℕ, ◌+◌, ◌≤◌}
-use mathlib.Core.Path.{◌≡◌, sym, ap, ◌∙◌}
-use mathlib.Core.List.{[], ◌∷◌}
+use Prim.Native.Nat.{ℕ}
+use mathlib.Core.Path.{sym, ap, ◌∙◌}
+use mathlib.Core.List.{List, [], ◌∷◌}
 use native.Mathlib.Omega.{arith}
-use lib.ListN.{length, length-set}
+use lib.ListN.{length-set}
+use Rattle.std.specs.Prelude.{Result, Ok}
 use Rattle.layout.specs.declared.Layout.TheVariants.{Ordinary}
 use Rattle.layout.proofs.Layouts.{first_in_extra}
-use Rattle.text.specs.Text.{bytes, first_of, extra_words}
-use Rattle.text.specs.Reading.{got, map_res, literal, up_to, field, mk_task, both, read_energies, read_first, read_ending, read_task, read_at}
-use Rattle.scanner.specs.Steps.{of_read, no_value}
-use Rattle.scanner.proofs.Places.{map_id, seq_at, Took, took, lost}
-use Rattle.forms.specs.Forms.{energies_in, energies_by}
-use Rattle.forms.proofs.Lists.{departs, closed, map-map}
+use Rattle.text.specs.Text.{bytes, TaskLine, first_of, extra_words}
+use mathlib.Core.Option.{Option}
+use Rattle.text.specs.Reading.{Res, seq, literal, skip, up_to, field, mk_task, both, read_energies, read_first, read_ending, read_task}
+use Rattle.scanner.specs.Steps.{Reads}
+use Rattle.scanner.specs.declared.Cursor.{Cursor}
+use Rattle.scanner.specs.declared.Departure.{Departure}
+use Rattle.scanner.proofs.Places.{first_departs, skip_departs, piece_departs, took, lost}
+use Rattle.forms.specs.Forms.{Gives, no_value, energies_in, energies_by}
+use Rattle.forms.proofs.Gives.{refuses, handed, told, then_gives, skip_gives, closes}
 use Rattle.lists.proofs.Stores.{stored, in_front}
 use Rattle.forms.proofs.Words.{task_front}
 use Rattle.forms.proofs.task.Goals as goal
-use Rattle.forms.proofs.task.Goals.{In_default-form, In_default-release, After-literal}
+
+-- The pieces of a line that has m energies.
+abbrev period : List ℕ
+period = bytes "(task (period "
+
+abbrev cycles : List ℕ
+cycles = bytes ") (cycles "
+
+abbrev behind_cycles : ℕ → List ℕ → Res (List ℕ × Option ℕ)
+behind_cycles m = skip (bytes ")") (read_ending m)
+
+abbrev behind_period : ℕ → List ℕ → Res (ℕ × (List ℕ × Option ℕ))
+behind_period m = seq both (field cycles) (λ _. behind_cycles m)
+
+abbrev behind_energies : List ℕ → Res (Option ℕ)
+behind_energies = up_to read_first (bytes ")\n")
 
 -- What is left to read behind the cycles.
-to-energies : (c : In_default-form) → let a = c.args in
-    read_at (read_task (energies_in a.clock)) a.s.now a.at
-    ≡ map_res (mk_task c.in-Got.p)
-    (map_res (both c.in-Got-cycles.c)
-    (read_at (read_ending (energies_in a.clock)) a.s.now c.in-Got-closed.i))
-to-energies c =
-    let period : let a = c.args in read_at (field (bytes "(task (period ")) a.s.now a.at ≡ got c.in-Got.p c.in-Got.i = sym c.field-period.ensures ∙ ap of_read c.in-Got.is in
-    let cycles : read_at (field (bytes ") (cycles ")) c.args.s.now c.in-Got.i ≡ got c.in-Got-cycles.c c.in-Got-cycles.i = sym c.field-cycles.ensures ∙ ap of_read c.in-Got-cycles.is in
-    let shut : read_at (literal (bytes ")")) c.args.s.now c.in-Got-cycles.i ≡ got tt c.in-Got-closed.i = (took no_value (read_at (literal _) _ _) c.literal-closed.ensures (ap of_read c.in-Got-closed.is)).is in
-    rw (seq_at, period, seq_at, cycles, seq_at, shut, map_id)
+ending : (m : ℕ) {words : TaskLine → List ℕ} {x y z u v : Cursor} {k : ℕ} {d e : List ℕ} {r : Result (Unit {0}) Departure} {p c : ℕ}
+    {t : Unit {0}} → Reads (field period) x y (Ok p) → Reads (field cycles) y z (Ok c) → Reads (literal (bytes ")")) z u (Ok t)
+    → Gives no_value (λ b. words (mk_task p (c, b))) (read_ending m) u v k d e r → Gives no_value words (read_task m) x v k d e r
+ending m h i j g =
+    then_gives mk_task (field period) (λ _. behind_period m) h
+    (then_gives both (field cycles) (λ _. behind_cycles m) i (skip_gives (bytes ")") (read_ending m) j g))
 
-energies : (c : In_default-release) → let a = c.args in
-    Took no_value (read_at (read_energies (energies_in a.clock)) a.s.now c.in-Got-closed.i)
-    c.in-Got-form.field-0 c.in-Got-form.i
-energies c =
-    let m = energies_in c.args.clock in
-    took no_value (read_at (read_energies m) _ _) c.energies-form.ensures.answers (ap of_read c.in-Got-form.is)
+pub returns-in_err-p : goal.returns-in_err-p
+returns-in_err-p c = let m = energies_in c.args.clock in
+    handed _ _ _ _ c.from_residual.ensures.1
+    (refuses _ _ _ (first_departs mk_task (field period) (λ _. behind_period m) c.in_err-p.ensures))
 
-to-energies-2 : (c : In_default-release) → let a = c.args in
-    read_at (read_task (energies_in a.clock)) a.s.now a.at
-    ≡ map_res (mk_task c.in-Got.p)
-    (map_res (both c.in-Got-cycles.c)
-    (read_at (read_ending (energies_in a.clock)) a.s.now c.in-Got-closed.i))
-to-energies-2 c =
-    let period : let a = c.args in read_at (field (bytes "(task (period ")) a.s.now a.at ≡ got c.in-Got.p c.in-Got.i = sym c.field-period.ensures ∙ ap of_read c.in-Got.is in
-    let cycles : read_at (field (bytes ") (cycles ")) c.args.s.now c.in-Got.i ≡ got c.in-Got-cycles.c c.in-Got-cycles.i = sym c.field-cycles.ensures ∙ ap of_read c.in-Got-cycles.is in
-    let shut : read_at (literal (bytes ")")) c.args.s.now c.in-Got-cycles.i ≡ got tt c.in-Got-closed.i = (took no_value (read_at (literal _) _ _) c.literal-closed.ensures (ap of_read c.in-Got-closed.is)).is in
-    rw (seq_at, period, seq_at, cycles, seq_at, shut, map_id)
+pub returns-in_err-c : goal.returns-in_err-c
+returns-in_err-c c = let m = energies_in c.args.clock in
+    handed _ _ _ _ c.from_residual-in_err-c.ensures.1
+    (then_gives mk_task (field period) (λ _. behind_period m) c.in_ok-p.ensures
+    (refuses _ _ _ (first_departs both (field cycles) (λ _. behind_cycles m) c.in_err-c.ensures)))
 
--- What is left to read behind the energies.
-to-first : (c : In_default-release) → let a = c.args in
-    read_at (read_task (energies_in a.clock)) a.s.now a.at
-    ≡ map_res (mk_task c.in-Got.p)
-    (map_res (both c.in-Got-cycles.c)
-    (map_res (both (energies c).item) (read_at (up_to read_first (bytes ")\n")) a.s.now c.in-Got-form.i)))
-to-first c =
-    rw ((to-energies-2 c), seq_at, (energies c).is)
+pub returns-in_err-literal : goal.returns-in_err-literal
+returns-in_err-literal c = let m = energies_in c.args.clock in
+    handed _ _ _ _ c.from_residual-in_err-literal.ensures.1
+    (then_gives mk_task (field period) (λ _. behind_period m) c.in_ok-p.ensures
+    (then_gives both (field cycles) (λ _. behind_cycles m) c.in_ok-c.ensures
+    (refuses _ _ _ (skip_departs (bytes ")") (read_ending m) c.in_err-literal.ensures))))
 
-energies-2 : (c : After-literal) → let a = c.args in
-    Took no_value (read_at (read_energies (energies_in a.clock)) a.s.now c.in-Got-closed.i)
-    c.in-Got-form.field-0 c.in-Got-form.i
-energies-2 c =
-    let m = energies_in c.args.clock in
-    took no_value (read_at (read_energies m) _ _) c.energies-form.ensures.answers (ap of_read c.in-Got-form.is)
+pub returns-in_err-energies : goal.returns-in_err-energies
+returns-in_err-energies c = let m = energies_in c.args.clock in
+    handed _ _ _ _ c.from_residual-in_err-energies.ensures.1
+    (ending m c.in_ok-p.ensures c.in_ok-c.ensures c.in_ok-literal.ensures
+    (refuses _ _ _ (first_departs both (read_energies m) (λ _. behind_energies)
+    (lost no_value (read_energies m) c.in_err-energies.ensures.reads))))
 
-to-energies-3 : (c : After-literal) → let a = c.args in
-    read_at (read_task (energies_in a.clock)) a.s.now a.at
-    ≡ map_res (mk_task c.in-Got.p)
-    (map_res (both c.in-Got-cycles.c)
-    (read_at (read_ending (energies_in a.clock)) a.s.now c.in-Got-closed.i))
-to-energies-3 c =
-    let period : let a = c.args in read_at (field (bytes "(task (period ")) a.s.now a.at ≡ got c.in-Got.p c.in-Got.i = sym c.field-period.ensures ∙ ap of_read c.in-Got.is in
-    let cycles : read_at (field (bytes ") (cycles ")) c.args.s.now c.in-Got.i ≡ got c.in-Got-cycles.c c.in-Got-cycles.i = sym c.field-cycles.ensures ∙ ap of_read c.in-Got-cycles.is in
-    let shut : read_at (literal (bytes ")")) c.args.s.now c.in-Got-cycles.i ≡ got tt c.in-Got-closed.i = (took no_value (read_at (literal _) _ _) c.literal-closed.ensures (ap of_read c.in-Got-closed.is)).is in
-    rw (seq_at, period, seq_at, cycles, seq_at, shut, map_id)
-
-to-first-2 : (c : After-literal) → let a = c.args in
-    read_at (read_task (energies_in a.clock)) a.s.now a.at
-    ≡ map_res (mk_task c.in-Got.p)
-    (map_res (both c.in-Got-cycles.c)
-    (map_res (both (energies-2 c).item) (read_at (up_to read_first (bytes ")\n")) a.s.now c.in-Got-form.i)))
-to-first-2 c =
-    rw ((to-energies-3 c), seq_at, (energies-2 c).is)
-
-first : (c : After-literal) → let a = c.args in
-    Took first_of (read_at read_first a.s.now c.in-Got-form.i) c.in-Got-release.a c.in-Got-release.i
-first c =
-    took first_of (read_at read_first _ _) c.first_release-release.ensures (ap of_read c.in-Got-release.is)
-
-pub returns-in_default : goal.returns-in_default
-returns-in_default c = let e = sym c.field-period.ensures ∙ ap of_read c.in_default.is in
-    departs (rw (seq_at, e)) (ap of_read c.in_default.is)
-
-pub returns-in_default-cycles : goal.returns-in_default-cycles
-returns-in_default-cycles c =
-    let period : let a = c.args in read_at (field (bytes "(task (period ")) a.s.now a.at ≡ got c.in-Got.p c.in-Got.i = sym c.field-period.ensures ∙ ap of_read c.in-Got.is in
-    let e = sym c.field-cycles.ensures ∙ ap of_read c.in_default-cycles.is in
-    departs (rw (seq_at, period, seq_at, e)) (ap of_read c.in_default-cycles.is)
-
-pub returns-in_default-closed : goal.returns-in_default-closed
-returns-in_default-closed c =
-    let period : let a = c.args in read_at (field (bytes "(task (period ")) a.s.now a.at ≡ got c.in-Got.p c.in-Got.i = sym c.field-period.ensures ∙ ap of_read c.in-Got.is in
-    let cycles : read_at (field (bytes ") (cycles ")) c.args.s.now c.in-Got.i ≡ got c.in-Got-cycles.c c.in-Got-cycles.i = sym c.field-cycles.ensures ∙ ap of_read c.in-Got-cycles.is in
-    let told = ap of_read c.in_default-closed.is in
-    let e = lost no_value (read_at (literal _) _ _) c.literal-closed.ensures told in
-    departs (rw (seq_at, period, seq_at, cycles, seq_at, e)) told
-
-pub returns-in_default-form : goal.returns-in_default-form
-returns-in_default-form c = let told = ap of_read c.in_default-form.is in
-    let m = energies_in c.args.clock in
-    let e = lost no_value (read_at (read_energies m) _ _) c.energies-form.ensures.answers told in
-    departs (rw ((to-energies c), seq_at, e)) told
-
-pub returns-in_default-release : goal.returns-in_default-release
-returns-in_default-release c = let told = ap of_read c.in_default-release.is in
-    let e = lost first_of (read_at read_first _ _) c.first_release-release.ensures told in
-    departs (rw ((to-first c), seq_at, e)) told
-
-pub offset_bounds-out-k : goal.offset_bounds-out-k
-offset_bounds-out-k c =
-    let room : let a = c.args in (a.k + 3 ≤ length c.energies-form.new.out) × (length c.energies-form.new.out ≡ length a.out.now) = (
-      omega (arith, first_in_extra Ordinary, c.energies-form.auto.out, c.requires.1),
-      c.energies-form.auto.out,
-    ) in
-    omega (arith, room, c.slice_known-1.given)
-
-pub bounds-out-k : goal.bounds-out-k
-bounds-out-k c =
-    let room : let a = c.args in (a.k + 3 ≤ length c.energies-form.new.out) × (length c.energies-form.new.out ≡ length a.out.now) = (
-      omega (arith, first_in_extra Ordinary, c.energies-form.auto.out, c.requires.1),
-      c.energies-form.auto.out,
-    ) in
-    omega (arith, room)
-
-pub overflow_add-out : goal.overflow_add-out
-overflow_add-out c =
-    let room : let a = c.args in (a.k + 3 ≤ length c.energies-form.new.out) × (length c.energies-form.new.out ≡ length a.out.now) = (
-      omega (arith, first_in_extra Ordinary, c.energies-form.auto.out, c.requires.1),
-      c.energies-form.auto.out,
-    ) in
-    omega (arith, room, c.slice_known-1.given)
-
-pub offset_bounds-out-k-2 : goal.offset_bounds-out-k-2
-offset_bounds-out-k-2 c =
-    let room : let a = c.args in (a.k + 3 ≤ length c.energies-form.new.out) × (length c.energies-form.new.out ≡ length a.out.now) = (
-      omega (arith, first_in_extra Ordinary, c.energies-form.auto.out, c.requires.1),
-      c.energies-form.auto.out,
-    ) in
-    omega (arith, room, c.slice_known-1.given)
-
-pub bounds-out-k-2 : goal.bounds-out-k-2
-bounds-out-k-2 c =
-    let room : let a = c.args in (a.k + 3 ≤ length c.energies-form.new.out) × (length c.energies-form.new.out ≡ length a.out.now) = (
-      omega (arith, first_in_extra Ordinary, c.energies-form.auto.out, c.requires.1),
-      c.energies-form.auto.out,
-    ) in
-    simp length-set (omega (arith, room))
-
-pub overflow_add-out-2 : goal.overflow_add-out-2
-overflow_add-out-2 c =
-    let room : let a = c.args in (a.k + 3 ≤ length c.energies-form.new.out) × (length c.energies-form.new.out ≡ length a.out.now) = (
-      omega (arith, first_in_extra Ordinary, c.energies-form.auto.out, c.requires.1),
-      c.energies-form.auto.out,
-    ) in
-    omega (arith, room, c.slice_known-1.given)
-
-pub offset_bounds-out-k-3 : goal.offset_bounds-out-k-3
-offset_bounds-out-k-3 c =
-    let room : let a = c.args in (a.k + 3 ≤ length c.energies-form.new.out) × (length c.energies-form.new.out ≡ length a.out.now) = (
-      omega (arith, first_in_extra Ordinary, c.energies-form.auto.out, c.requires.1),
-      c.energies-form.auto.out,
-    ) in
-    omega (arith, room, c.slice_known-1.given)
+pub returns-in_err-a : goal.returns-in_err-a
+returns-in_err-a c = let m = energies_in c.args.clock in
+    let es = took no_value (read_energies m) c.in_ok-energies.ensures.reads in
+    handed _ _ _ _ c.from_residual-in_err-a.ensures.1
+    (ending m c.in_ok-p.ensures c.in_ok-c.ensures c.in_ok-literal.ensures
+    (then_gives both (read_energies m) (λ _. behind_energies) es.reads
+    (refuses _ _ _ (piece_departs read_first (bytes ")\n") (lost first_of read_first c.in_err-a.ensures)))))
 
 pub bounds-out-k-3 : goal.bounds-out-k-3
-bounds-out-k-3 c =
-    let room : let a = c.args in (a.k + 3 ≤ length c.energies-form.new.out) × (length c.energies-form.new.out ≡ length a.out.now) = (
-      omega (arith, first_in_extra Ordinary, c.energies-form.auto.out, c.requires.1),
-      c.energies-form.auto.out,
-    ) in
-    simp length-set (omega (arith, room))
+bounds-out-k-3 c = simp length-set (omega (arith, first_in_extra Ordinary, c.energies.auto.out, c.requires.1))
 
 pub returns : goal.returns
-returns c = let g = (energies-2 c) in
-    let f = (first c) in
-    let t = mk_task c.in-Got.p (c.in-Got-cycles.c, (g.item, f.item)) in
+returns c = let m = energies_in c.args.clock in
+    let g = told no_value (energies_by c.args.clock c.in_ok-c.c) (read_energies m) c.in_ok-energies.ensures in
+    let f = took first_of read_first c.in_ok-a.ensures in
+    let t = mk_task c.in_ok-p.p (c.in_ok-c.c, (g.item, f.item)) in
     let es = energies_by c.args.clock t.cycles t.energies in
     let size = c.before_energies.ensures in
-    rw ((to-first-2 c), seq_at, f.is, map-map, map-map, map-map)
-    (closed t (read_at (literal _) _ _) c.literal.ensures
-    (ap (λ (v : ℕ). stored c.args.k (t.period ∷ t.cycles ∷ v ∷ []) c.energies-form.new.out) (sym f.shows)
-    ∙ ap (stored c.args.k (t.period ∷ t.cycles ∷ extra_words t)) (rw g.is at c.energies-form.ensures.wrote)
+    ending m c.in_ok-p.ensures c.in_ok-c.ensures c.in_ok-literal.ensures
+    (then_gives both (read_energies m) (λ _. behind_energies) g.reads
+    (closes _ read_first (bytes ")\n") _ f.reads
+    (ap (λ (v : ℕ). stored c.args.k (t.period ∷ t.cycles ∷ v ∷ []) c.energies.new.out) (sym f.shows)
+    ∙ ap (stored c.args.k (t.period ∷ t.cycles ∷ extra_words t)) g.wrote
     ∙ in_front (t.period ∷ t.cycles ∷ extra_words t) es c.args.out.now c.args.k _
-    (omega (arith, task_front t, size)) (omega (arith, size, c.requires.1))))
+    (omega (arith, task_front t, size)) (omega (arith, size, c.requires.1)))
+    c.literal-2.ensures))

@@ -1,8 +1,7 @@
 -- The tasks. The invariant: the tasks so far are in place, and with those that are left, read at the place in hand,
 -- they give the whole answer.
 -- Assumes nothing.
-use Prim.Native.Nat.{◌-◌}
-use Rattle.layout.specs.Words.{most_tasks, tasks_place, task_size}
+use Rattle.layout.specs.Words.{tasks_place, task_size}
 use Rattle.layout.specs.declared.Layout.TheVariants.{Ordinary}
 use Rattle.text.specs.Reading.{read_task}
 use Rattle.forms.specs.Forms.{energies_in, words_by}
@@ -10,7 +9,5 @@ use Rattle.forms.proofs.Lists.{SoFar}
 use Rattle.forms.proofs.tasks.Given as goal
 
 abbrev pub invariant-loop-n : goal.invariant-loop-n
-invariant-loop-n l = SoFar (read_task (energies_in l.clock)) 40 1 31 (words_by l.clock) (task_size Ordinary l.m) l.s l.at (tasks_place Ordinary l.m) l.initial.out l.i l.n l.out
-
-abbrev pub decreases-loop-n : goal.decreases-loop-n
-decreases-loop-n l = most_tasks - l.n
+invariant-loop-n l = SoFar (read_task (energies_in l.clock)) 40 1 31 (words_by l.clock) (task_size Ordinary l.m)
+    l.initial.text (tasks_place Ordinary l.m) l.initial.out l.text l.n l.out

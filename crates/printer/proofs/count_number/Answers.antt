@@ -1,15 +1,15 @@
--- The digits of a number: those of a shorter one, or ten and those of what is left without the lower ten.
+-- A number has a digit more than its highest power of ten.
 -- Assumes nothing.
-use Prim.Native.Nat.{◌/◌, ◌^◌}
+use mathlib.Core.Path.{sym, ◌∙◌}
+use native.Mathlib.Nat.{pow-succ'}
 use native.Mathlib.Omega.{arith}
-use Rattle.text.proofs.Sizes.{decimal-length}
-use Rattle.printer.proofs.Puts.{length_above}
+use Rattle.printer.proofs.Puts.{length_small, length-between}
 use Rattle.printer.proofs.count_number.Goals as goal
 
-pub overflow_add-result : goal.overflow_add-result
-overflow_add-result c = let v = c.args.v in
-    omega (arith, c.count_low-else-v-lt10000000000.ensures, decimal-length (v / 10 ^ 10))
+pub returns-in-Some : goal.returns-in-Some
+returns-in-Some c =
+    let k = c.in-Some.power in
+    sym (length-between k c.args.v c.in-Some.ensures.power_le (rw (pow-succ' 10 k) c.in-Some.ensures.next_power_gt) (omega arith) ∙ omega arith)
 
-pub returns-else-v-lt10000000000 : goal.returns-else-v-lt10000000000
-returns-else-v-lt10000000000 c = let v = c.args.v in
-    omega (arith, c.count_low-else-v-lt10000000000.ensures, length_above 10 v (omega arith) (omega arith))
+pub returns-in-None : goal.returns-in-None
+returns-in-None c = sym (length_small _ (omega (arith, c.in-None.ensures.none)))

@@ -4,14 +4,14 @@ use Rattle.answer.proofs.Outputs.{never_short}
 use Rattle.taskset.proofs.Copied.{count-within}
 use Rattle.seedspell.proofs.answer_bytes.Goals as goal
 
-pub returns-in-Wrote : goal.returns-in-Wrote
-returns-in-Wrote c =
-    let responds = c.in-Wrote.ensures in
+pub returns : goal.returns
+returns c =
+    let responds = c.in-Ok.ensures in
     record {
       within = count-within responds.gives.0 _ _ _ responds.gives.3;
       prints = responds.owes.0;
       owes = responds.owes.1;
     }
 
-pub returns-in-Refused : goal.returns-in-Refused
-returns-in-Refused c = absurd (never_short _ _ _ _ (omega arith) c.in-Refused.ensures)
+pub unreachable-requires : goal.unreachable-requires
+unreachable-requires c = never_short _ _ _ _ (omega arith) c.in-Err.ensures

@@ -9,9 +9,6 @@ use Rattle.ticks.proofs.run.Given as goal
 abbrev pub invariant-loop-i : goal.invariant-loop-i
 invariant-loop-i l = AtTask (task_at l.p l.c l.first) l.n l.end l.t l.i l.late l.next l.s
 
-abbrev pub decreases-loop-i : goal.decreases-loop-i
-decreases-loop-i l = l.n - l.i
-
 abbrev pub invariant-loop-t : goal.invariant-loop-t
 invariant-loop-t l = InStretch l.n l.initial.t l.next l.t l.initial.s l.s
 

@@ -1,11 +1,7 @@
 -- The job times, task by task. The invariant: the array holds those of the tasks before the one in hand.
 -- Assumes nothing.
-use Prim.Native.Nat.{◌≤◌, ◌-◌}
 use Rattle.walk.specs.Steps.{Holds, time_at}
 use Rattle.walk.proofs.times.Given as goal
 
 abbrev pub invariant-loop-t : goal.invariant-loop-t
-invariant-loop-t l = (l.t ≤ l.n) × Holds (time_at l.set l.plan) l.t l.c
-
-abbrev pub decreases-loop-t : goal.decreases-loop-t
-decreases-loop-t l = l.n - l.t
+invariant-loop-t l = Holds (time_at l.set l.plan) l.t l.c

@@ -18,13 +18,13 @@ third-inside : (m : ℕ) → 2 < task_size Ordinary m
 third-inside m = omega (arith, first_in_extra Ordinary)
 
 -- The columns of the periods and of the first releases.
-periods : (c : After-column-p) → Holds (period Ordinary c.args.set.now) c.args.tasks c.column-p.result
+periods : (c : After-column-p) → Holds (period Ordinary c.args.set.now) c.args.measured.tasks c.column-p.result
 periods c = let set : List ℕ = c.args.set.now in
     column_holds set c.args.plan.now _ _ _ c.requires 0 (omega arith) _ _
     (c.period_place.ensures ∙ sym (add-zero _)) c.task_size-step.ensures
     (period Ordinary set) (λ t. ap (word set) (add-zero _)) _ c.column-p.ensures
 
-firsts : (c : After-column-first) → Holds (first Ordinary c.args.set.now) c.args.tasks c.column-first.result
+firsts : (c : After-column-first) → Holds (first Ordinary c.args.set.now) c.args.measured.tasks c.column-first.result
 firsts c = let set : List ℕ = c.args.set.now in
     column_holds set c.args.plan.now _ _ _ c.requires 2 (third-inside _) _ _
     c.first_place.ensures c.task_size-step.ensures
@@ -56,8 +56,8 @@ column-first-requires c =
     has_column c.args.set.now c.args.plan.now _ _ _ c.requires 2 (third-inside _) _ _
     c.first_place.ensures c.task_size-step.ensures
 
-pub overflow_cast-hyper : goal.overflow_cast-hyper
-overflow_cast-hyper c = omega (arith, hyper_fits c.args.set.now c.args.plan.now _ _ _ c.requires)
+pub overflow_cast-measured : goal.overflow_cast-measured
+overflow_cast-measured c = omega (arith, hyper_fits c.args.set.now c.args.plan.now _ _ _ c.requires)
 
 pub last_tick-end-requires : goal.last_tick-end-requires
 last_tick-end-requires c = let set : List ℕ = c.args.set.now in

@@ -1,9 +1,0 @@
--- The place falls, and stays within the list.
-use Rattle.std.proofs.Common.{◌≤◌}
-use Rattle.cases.proofs.print.words_used.Given as goal
-
-abbrev pub invariant-loop-n : goal.invariant-loop-n
-invariant-loop-n l = l.n ≤ 400
-
-abbrev pub decreases-loop-n : goal.decreases-loop-n
-decreases-loop-n l = l.n
