@@ -51,6 +51,7 @@ fn check_front(s: &[u32], layout: Layout) -> Shape
 }
 
 // Check 2 of the words behind it, task by task.
+#[tactic(auto, using(crate::proofs::Fronts::left_over))]
 fn check_tasks(s: &[u32], layout: Layout, counts: Counts) -> Result<(), Refusal>
     requires { FrontPassed layout counts.rates counts.tasks s.now }
     ensures { PassedAfter (word_check layout s.now ∷ []) result }

@@ -12,6 +12,7 @@ ghost use Rattle.taskset.specs.Calls.{SetAfter};
 ghost use Rattle.walk.specs.Answers.{Walked};
 ghost use Rattle.walk.specs.Steps.{PlanAnswers, Holds, column_at, HasColumn, SetGiven, SoundPlan, time_at};
 
+use checks::Set;
 use layout::Layout;
 use taskset::{Checked, Measured, Refusal, WalkAnswer, WalkEnd};
 
@@ -70,9 +71,15 @@ fn times(set: &[u32], plan: &[u32], m: usize, n: usize) -> [u32; 32]
     requires sound_plan { SoundPlan m n plan.now }
     ensures { Holds (time_at set.now plan.now) n result }
 {
+    let set = Set {
+        words: set,
+        layout: Layout::Ordinary,
+        rates: m,
+        tasks: n,
+    };
     let mut c = [0; 32];
     for (t, r) in plan.iter().enumerate() {
-        c[t] = checks::job_time(set, Layout::Ordinary, m, t, *r as usize);
+        c[t] = set.job_time(t, *r as usize);
     }
     c
 }

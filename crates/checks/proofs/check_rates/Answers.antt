@@ -11,7 +11,7 @@ pub returns-then-s-q : goal.returns-then-s-q
 returns-then-s-q c = inl (
   refl,
   record {
-    here = (omega (arith, c.rate_place-q.ensures), omega (arith, c.task_count_place-q-end.ensures, c.requires.counted), c.if-s-q.true);
+    here = (omega (arith, c.rate_place-q.ensures), omega (arith, c.task_count_place-q-end.ensures, c.requires.counted), omega (arith, c.if-s-q.true));
     before = c.loop-q.invariant;
   },
 )

@@ -3,7 +3,7 @@ use mathlib.Core.Path.{◌≡◌, sym, ◌∙◌}
 use native.Mathlib.Omega.{arith}
 use Rattle.std.proofs.lemmas.Result.{err_from_is_err_and}
 use Rattle.layout.specs.Words.{period_place, task_size, kind_at}
-use Rattle.checks.proofs.Fronts.{good_more, bad_word, kind_here, wanted_here, left_over}
+use Rattle.checks.proofs.Fronts.{good_more, bad_word, kind_here, wanted_here}
 use Rattle.checks.proofs.check_tasks.Goals as goal
 use Rattle.checks.proofs.check_tasks.Goals.{After-task_kind}
 
@@ -26,8 +26,3 @@ pub loop-k-preserved : goal.loop-k-preserved
 loop-k-preserved c = let h = (goal.at.loop-k-preserved c).After-task_kind in
     good_more c.args.layout c.args.s.now c.loop-k.invariant (kind_is h)
     (rw c.period_place-at.ensures at c.in_ok-word_at.ensures) (omega arith)
-
-pub returns-then-end-s : goal.returns-then-end-s
-returns-then-end-s c = let last : c.loop-t.t ≡ c.args.counts.tasks = omega arith in
-    rw c.period_place-end.ensures
-    (left_over c.requires (rw last at c.loop-t.invariant) (omega (arith, c.if-end-s.true, c.period_place-end.ensures)))

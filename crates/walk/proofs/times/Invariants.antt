@@ -4,4 +4,4 @@ use Rattle.walk.specs.Steps.{Holds, time_at}
 use Rattle.walk.proofs.times.Given as goal
 
 abbrev pub invariant-loop-t : goal.invariant-loop-t
-invariant-loop-t l = Holds (time_at l.set l.plan) l.t l.c
+invariant-loop-t l = Holds (time_at l.fn.set l.plan) l.t l.c
