@@ -2,7 +2,7 @@
 -- Assumes nothing.
 use Prim.Native.Nat.{◌≤◌}
 use Rattle.table.specs.Rows.{rate_of}
-use Rattle.table.proofs.rate_at.Given as goal
+use Rattle.table.proofs.Options.rate_at.Given as goal
 
 abbrev pub invariant-loop-number : goal.invariant-loop-number
-invariant-loop-number l = l.number ≤ rate_of l.fn.f l.cost l.load l.task l.column
+invariant-loop-number l = l.number ≤ rate_of l.self.frame l.self.cost.now l.self.load.now l.task l.column
