@@ -4,11 +4,7 @@ use Rattle.std.proofs.Math.Nat.{pow-succ', le_antisymm}
 use mathlib.Core.Logic.{⊎_elim}
 use Rattle.numbers.proofs.Tests.{lt_or_le}
 use Rattle.numbers.proofs.Powers.{power_positive}
-<<<<<<<< HEAD:crates/arithmetic/proofs/power/least_power/Answers.antt
-use Rattle.arithmetic.proofs.power.least_power.Goals as goal
-========
 use Rattle.engine.proofs.least_power.Goals as goal
->>>>>>>> d4bf6efc2426fc4e88e015029a628b46d7fa694e:crates/engine/proofs/least_power/Answers.antt
 
 -- A power of two below twice another is not above it.
 not_above : (k r : ℕ) → 2 ^ k < 2 * 2 ^ r → k ≤ r
