@@ -6,13 +6,14 @@ use mathlib.Core.List.{List}
 use native.Mathlib.Omega.{arith}
 use native.Mathlib.Nat.{sub-zero}
 use native.Mathlib.Numerals.{add-one}
-use lib.ListN.{get_or}
+use lib.ListN.{length, get_or}
 use Rattle.std.specs.Prelude.{Option, None}
 use Rattle.numbers.proofs.Tests.{below_more}
 use Rattle.schedule.specs.Walk.{Task, tasks_from}
 use Rattle.schedule.specs.Counted.{walk_from}
 use Rattle.schedule.proofs.Stretch.{walk_on}
-use Rattle.ticks.specs.Arrays.{task_at, Early, Begun, RunReady}
+use Rattle.ticks.specs.declared.Timing.{Timing}
+use Rattle.ticks.specs.Arrays.{timing_at, task_at, Early, Begun, RunReady}
 use Rattle.ticks.specs.declared.State.{State}
 use Rattle.ticks.proofs.Stretches.{InStretch, stretch_start, stretch_over}
 use Rattle.ticks.proofs.Releases.{Steady, Counted, counted_fit, Held, held_start, held_next, Gap, gap_is, gap_quiet, Part, part_start, part_end, offset_start, offset_steady}
@@ -38,20 +39,22 @@ pub record AtTask (k : ℕ → Task) (n end t i : ℕ) (late : Option ℕ) (next
   pub least : (j : ℕ) → j < i → next ≤ get_or s.due j 0
 
 -- The tasks that the code is given.
-module _ {p c a : List ℕ} {n end : ℕ} (ready : RunReady p c a n end) where
-  pub steady : (i : ℕ) → i < n → Steady (task_at p c a i)
-  steady i h = offset_steady (get_or a i 0) (get_or p i 0) (get_or c i 0) (ready.period i h).0 (ready.time i h)
+module _ {ts : List Timing} {end : ℕ} (ready : RunReady ts end) where
+  pub steady : (i : ℕ) → i < length ts → Steady (task_at ts i)
+  steady i h =
+      let x = timing_at ts i in
+      offset_steady x.first x.period x.time (ready.period i h).0 (ready.time i h)
 
-  pub first_tick : {s : State} → Begun a s → AtTick (task_at p c a) n end 0 None s
+  pub first_tick : {s : State} → Begun ts s → AtTick (task_at ts) (length ts) end 0 None s
   first_tick {s} b = record {
     reached = omega arith;
     on_time = refl;
-    held = held_start ready.few (λ j x. offset_start (get_or a j 0) (get_or p j 0) (get_or c j 0)) b;
+    held = held_start ready.few (λ j x. let y = timing_at ts j in offset_start y.first y.period y.time) b;
     early = record {
       few = ready.few;
       lefts = rw b.left refl;
-      dues = rw b.due ready.firsts;
-      low = λ j x. rw b.due (omega (arith, ready.first j x));
+      dues = b.size;
+      low = λ j x. omega (arith, b.due j x, ready.first j x);
     };
     rest = rw sub-zero refl;
   }

@@ -23,7 +23,8 @@ use Rattle.schedule.proofs.Offset.{offset_there, offset-before, offset-between, 
 use Rattle.schedule.specs.Stretch.{Going, ticks}
 use Rattle.schedule.proofs.Stretch.{pending, going_at, Quiet, stretch, Fits, counts_fit}
 use Rattle.schedule.proofs.Alike.{AllAlike, AlikeGoing, late-alike, release-alike, ticks-alike}
-use Rattle.ticks.specs.Arrays.{jobs_from, blank, going, Inside, Begun}
+use Rattle.ticks.specs.Arrays.{jobs_from, blank, going, Inside, timing_at, Begun}
+use Rattle.ticks.specs.declared.Timing.{Timing}
 use Rattle.ticks.specs.declared.State.{State}
 use Rattle.ticks.proofs.Jobs.{jobs_same}
 
@@ -263,16 +264,16 @@ fresh_jobs k l d i (suc n) h =
     let e = h i (omega arith) in
     (record { task = refl; left = e; due = λ x. absurd (omega arith) }, fresh_jobs k l d (suc i) n (λ j x. h j (omega arith)))
 
-pub held_start : {k : ℕ → Task} {n : ℕ} {first : List ℕ} {s : State} → n ≤ 32
-    → ((j : ℕ) → j < n → Coming (k j) 0 (get_or first j 0)) → Begun first s → Held k n 0 s
-held_start {k} {n} {first} {s} few start b = record {
-  jobs = fresh_jobs k s.left s.due 0 n (λ j x. rw b.left (get_or-replicate {A = ℕ} 32 j 0 0 (omega arith)));
-  coming = rw b.due start;
+pub held_start : {k : ℕ → Task} {ts : List Timing} {s : State} → length ts ≤ 32
+    → ((j : ℕ) → j < length ts → Coming (k j) 0 (timing_at ts j).first) → Begun ts s → Held k (length ts) 0 s
+held_start {k} {ts} {s} few start b = record {
+  jobs = fresh_jobs k s.left s.due 0 (length ts) (λ j x. rw b.left (get_or-replicate {A = ℕ} 32 j 0 0 (omega arith)));
+  coming = λ j x. rw (b.due j x) (start j x);
   counts = record {
     busy = b.busy;
     idle = b.idle;
     preempted = b.preempted;
-    last = rw b.last (sym (length-tasks k 0 n));
+    last = rw b.last (sym (length-tasks k 0 (length ts)));
     inside = rw b.last tt;
   };
 }

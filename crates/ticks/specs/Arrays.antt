@@ -8,6 +8,7 @@ use Rattle.schedule.specs.Stretch.{Going, ticks}
 use Rattle.layout.specs.Words.{longest_period}
 use Rattle.ticks.specs.declared.Picked.{Picked}
 use Rattle.ticks.specs.declared.State.{State}
+use Rattle.ticks.specs.declared.Timing.{Timing}
 use Rattle.taskset.specs.declared.WalkEnd.{WalkEnd}
 use Rattle.taskset.specs.declared.WalkEnd.TheVariants.{Kept, Missed}
 
@@ -48,10 +49,15 @@ pub record Early (n : ℕ) (left due : List ℕ) : Type 0 where
   pub dues : length due ≡ 32
   pub low : (i : ℕ) → i < n → get_or due i 0 < 4294967295
 
+-- The timing at a place: past the last one, of a task that releases nothing.
+abbrev pub timing_at : List Timing → ℕ → Timing
+timing_at ts i = get_or ts i (record { period = 0; time = 0; first = 0 })
+
 -- Before tick 0.
-pub record Begun (first : List ℕ) (r : State) : Type 0 where
+pub record Begun (ts : List Timing) (r : State) : Type 0 where
   pub left : r.left ≡ replicate 32 0
-  pub due : r.due ≡ first
+  pub size : length r.due ≡ 32
+  pub due : (i : ℕ) → i < length ts → get_or r.due i 0 ≡ (timing_at ts i).first
   pub busy : r.busy ≡ 0
   pub idle : r.idle ≡ 0
   pub preempted : r.preempted ≡ 0
@@ -96,22 +102,19 @@ pub record Ticked (n room : ℕ) (s : State) (made : ℕ) (r : State) : Type 0 w
   pub due : r.due ≡ s.due
   pub inside : Inside n r
 
--- What the loop over ticks asks: n tasks by their periods, job times and first releases, and a last tick.
-pub record RunReady (p c a : List ℕ) (n end : ℕ) : Type 0 where
-  pub few : n ≤ 32
-  pub periods : length p ≡ 32
-  pub times : length c ≡ 32
-  pub firsts : length a ≡ 32
-  pub period : (i : ℕ) → i < n → (0 < get_or p i 0) × (get_or p i 0 ≤ longest_period)
-  pub time : (i : ℕ) → i < n → 0 < get_or c i 0
-  pub first : (i : ℕ) → i < n → get_or a i 0 ≤ longest_period
+-- What the loop over ticks asks: tasks by their periods, job times and first releases, and a last tick.
+pub record RunReady (ts : List Timing) (end : ℕ) : Type 0 where
+  pub few : length ts ≤ 32
+  pub period : (i : ℕ) → i < length ts → (0 < (timing_at ts i).period) × ((timing_at ts i).period ≤ longest_period)
+  pub time : (i : ℕ) → i < length ts → 0 < (timing_at ts i).time
+  pub first : (i : ℕ) → i < length ts → (timing_at ts i).first ≤ longest_period
   pub ends : end ≤ 200000000
 
 -- The task at a place.
-abbrev pub task_at : List ℕ → List ℕ → List ℕ → ℕ → Task
-task_at p c a i = offset (get_or a i 0) (get_or p i 0) (get_or c i 0)
+abbrev pub task_at : List Timing → ℕ → Task
+task_at ts i = offset (timing_at ts i).first (timing_at ts i).period (timing_at ts i).time
 
--- The answer is the definition's walk of n tasks with these periods, job times and first releases, to the tick end.
-abbrev pub Says : List ℕ → List ℕ → List ℕ → ℕ → ℕ → WalkEnd → Type 0
-Says p c a n end (Kept busy idle preempted) = walk (tasks_from (task_at p c a) 0 n) end ≡ kept busy idle preempted
-Says p c a n end (Missed tick task) = walk (tasks_from (task_at p c a) 0 n) end ≡ missed tick task
+-- The answer is the definition's walk of these tasks, to the tick end.
+abbrev pub Says : List Timing → ℕ → WalkEnd → Type 0
+Says ts end (Kept busy idle preempted) = walk (tasks_from (task_at ts) 0 (length ts)) end ≡ kept busy idle preempted
+Says ts end (Missed tick task) = walk (tasks_from (task_at ts) 0 (length ts)) end ≡ missed tick task

@@ -1,11 +1,19 @@
-// The walk over arrays of periods, job times and first releases: the state, the ticks of it, and the loop over the ticks.
-// Whose periods and job times these are, and what was checked before, are left to others.
+// The walk over tasks by their periods, job times and first releases: the state, the ticks of it, and the loop over the
+// ticks. Whose periods and job times these are, and what was checked before, are left to others.
 #![tactic(auto)]
 
-ghost use Rattle.std.specs.Prelude.{◌≡◌};
+ghost use Rattle.std.specs.Prelude.{◌≡◌, ◌≤◌, length};
 ghost use Rattle.ticks.specs.Arrays.{Early, IsPick, cuts_short, Begun, TickReady, Ticked, RunReady, Says};
 
 use taskset::WalkEnd;
+
+// A task as the walk has it: its period, the ticks that each of its jobs takes, and its first release.
+#[derive(Clone, Copy)]
+pub struct Timing {
+    pub period: u32,
+    pub time: u32,
+    pub first: u32,
+}
 
 // What the walk holds: of each task the ticks left of its job, and that job's deadline, which is its next release: before
 // its first job that first release; the counts so far; and the place of the job of the tick before, where it is
@@ -55,12 +63,17 @@ fn pick(left: &[u32; 32], due: &[u32; 32], n: usize) -> Option<Picked>
 
 impl State {
     // Before tick 0, where each task's first job is to come.
-    fn new(first: &[u32; 32]) -> State
-        ensures { Begun first.now result }
+    fn new(tasks: &[Timing]) -> State
+        requires { length tasks.now ≤ 32 }
+        ensures { Begun tasks.now result }
     {
+        let mut due = [0; 32];
+        for (i, task) in tasks.iter().enumerate() {
+            due[i] = task.first;
+        }
         State {
             left: [0; 32],
-            due: *first,
+            due,
             busy: 0,
             idle: 0,
             preempted: 0,
@@ -90,14 +103,14 @@ impl State {
     }
 }
 
-// The walk of n tasks with periods p, job times c and first releases `first`, to the tick end. It goes from each tick
-// with a release to the next one, or to `end`, and in between from job to job; the loop over the ticks is left at the
-// first task with work left.
-pub fn run(p: &[u32; 32], c: &[u32; 32], first: &[u32; 32], n: usize, end: u32) -> WalkEnd
-    requires { RunReady p.now c.now first.now n end }
-    ensures { Says p.now c.now first.now n end result }
+// The walk of tasks, 32 at most, to the tick end. It goes from each tick with a release to the next one, or to `end`, and
+// in between from job to job; the loop over the ticks is left at the first task with work left.
+pub fn run(tasks: &[Timing], end: u32) -> WalkEnd
+    requires { RunReady tasks.now end }
+    ensures { Says tasks.now end result }
 {
-    let mut s = State::new(first);
+    let n = tasks.len();
+    let mut s = State::new(tasks);
     let mut late: Option<usize> = None;
     let mut t: u32 = 0;
     'ticks: while t <= end {
@@ -109,8 +122,8 @@ pub fn run(p: &[u32; 32], c: &[u32; 32], first: &[u32; 32], n: usize, end: u32) 
                     late = Some(i);
                     break 'ticks;
                 }
-                s.left[i] = c[i];
-                s.due[i] = t + p[i];
+                s.left[i] = tasks[i].time;
+                s.due[i] = t + tasks[i].period;
             }
             next = next.min(s.due[i]);
         }

@@ -3,18 +3,19 @@
 // walk. Which plan is selected, and texts, are left to others.
 #![tactic(auto)]
 
-ghost use Rattle.std.specs.Prelude.{◌≡◌, ◌↔◌, cond, ◌*◌, ◌≤◌, get_or, IsTrue, slice_index, EachIndex, Ok};
-ghost use Rattle.layout.specs.Words.{most_tasks};
+ghost use Rattle.std.specs.Prelude.{◌≡◌, ◌↔◌, ℕ, cond, ◌*◌, ◌<◌, ◌≤◌, length, IsTrue, Ok};
 ghost use Rattle.layout.specs.declared.Layout.TheVariants.{Ordinary};
 ghost use Rattle.taskset.specs.Quantities.{hyper_limit, all_zero};
 ghost use Rattle.taskset.specs.Refusals.{walk_checks};
 ghost use Rattle.taskset.specs.Calls.{SetAfter};
 ghost use Rattle.walk.specs.Answers.{Walked};
-ghost use Rattle.walk.specs.Steps.{PlanAnswers, Holds, column_at, HasColumn, SetGiven, SoundPlan, time_at};
+ghost use Rattle.walk.specs.Steps.{PlanAnswers, Holds, SetGiven, SoundPlan};
+ghost use Rattle.ticks.specs.Arrays.{timing_at};
 
 use checks::Set;
 use layout::Layout;
 use taskset::{Checked, Measured, Refusal, WalkAnswer, WalkEnd};
+use ticks::Timing;
 
 // Check 8: the first word that is not 1 to m, the plan's length if it is short, n if it is long; or that the plan is
 // sound.
@@ -35,41 +36,11 @@ fn check_plan(plan: &[u32], m: usize, n: usize) -> Result<(), usize>
     Ok(())
 }
 
-// A word of each of n tasks: every step-th word of a list, from place `at` on.
-fn column(set: &[u32], at: usize, step: usize, n: usize) -> [u32; 32]
-    requires { HasColumn set.now at step n }
-    ensures { Holds (column_at set.now at step) n result }
-{
-    let mut words = [0; 32];
-    for (t, word) in words[..n].iter_mut().enumerate() {
-        *word = set[at + t * step];
-    }
-    words
-}
-
-// Whether all first releases are 0.
-fn are_all_zero(first: &[u32]) -> bool
-    ensures { IsTrue result ↔ EachIndex first.now (λ t. slice_index first.now t ≡ 0) }
-{
-    first.iter().all(|a| *a == 0)
-}
-
-// The walk's last tick: the hyper-period where n first releases are all 0, else twice that.
-fn last_tick(first: &[u32; 32], n: usize, hyper: u32) -> u32
-    requires { (n ≤ most_tasks) × (hyper ≤ hyper_limit) }
-    ensures { result ≡ cond (all_zero (λ t. get_or first.now t 0) n) hyper (2 * hyper) }
-{
-    if !are_all_zero(&first[..n]) {
-        return 2 * hyper;
-    }
-    hyper
-}
-
-// The job times of a set's n tasks under a plan.
-fn times(set: &[u32], plan: &[u32], m: usize, n: usize) -> [u32; 32]
+// A set's n tasks as the walk takes them, with their job times under a plan, at the front of an array.
+fn tasks_of(set: &[u32], plan: &[u32], m: usize, n: usize) -> [Timing; 32]
     requires set_given { SetGiven m n set.now }
     requires sound_plan { SoundPlan m n plan.now }
-    ensures { Holds (time_at set.now plan.now) n result }
+    ensures { Holds set.now plan.now n result }
 {
     let set = Set {
         words: set,
@@ -77,11 +48,37 @@ fn times(set: &[u32], plan: &[u32], m: usize, n: usize) -> [u32; 32]
         rates: m,
         tasks: n,
     };
-    let mut c = [0; 32];
+    let mut tasks = [Timing {
+        period: 0,
+        time: 0,
+        first: 0,
+    }; 32];
     for (t, r) in plan.iter().enumerate() {
-        c[t] = set.job_time(t, *r as usize);
+        tasks[t] = Timing {
+            period: set.period(t),
+            time: set.job_time(t, *r as usize),
+            first: set.first(t),
+        };
     }
-    c
+    tasks
+}
+
+// Whether all first releases are 0.
+fn are_all_zero(tasks: &[Timing]) -> bool
+    ensures { IsTrue result ↔ ((t : ℕ) → t < length tasks.now → (timing_at tasks.now t).first ≡ 0) }
+{
+    tasks.iter().all(|task| task.first == 0)
+}
+
+// The walk's last tick: the hyper-period where the first releases are all 0, else twice that.
+fn last_tick(tasks: &[Timing], hyper: u32) -> u32
+    requires { hyper ≤ hyper_limit }
+    ensures { result ≡ cond (all_zero (λ t. (timing_at tasks.now t).first) (length tasks.now)) hyper (2 * hyper) }
+{
+    if !are_all_zero(tasks) {
+        return 2 * hyper;
+    }
+    hyper
 }
 
 // Checks 2, 3, 4 and 8, in this order.
@@ -100,24 +97,10 @@ pub fn walk_checked(set: &[u32], plan: &[u32], measured: Measured) -> WalkEnd
     requires { SetAfter (walk_checks set.now plan.now) Ordinary set.now (Ok measured) }
     ensures { Walked set.now plan.now (Ok result) }
 {
-    let rates = measured.rates;
-    let tasks = measured.tasks;
-    let step = places::task_size(Layout::Ordinary, rates);
-    let p = column(
-        set,
-        places::period_place(Layout::Ordinary, rates, 0),
-        step,
-        tasks,
-    );
-    let c = times(set, plan, rates, tasks);
-    let first = column(
-        set,
-        places::first_place(Layout::Ordinary, rates, 0),
-        step,
-        tasks,
-    );
-    let end = last_tick(&first, tasks, measured.hyper as u32);
-    ticks::run(&p, &c, &first, tasks, end)
+    let tasks = tasks_of(set, plan, measured.rates, measured.tasks);
+    let given = &tasks[..measured.tasks];
+    let end = last_tick(given, measured.hyper as u32);
+    ticks::run(given, end)
 }
 
 // The walk of a set under a plan: refusal 2, 3, 4 or 8, or what the walk to its last tick says.

@@ -2,11 +2,11 @@ use Prim.Native.Nat.{ℕ, ◌+◌, ◌-◌, ◌≤◌, ◌<◌}
 use mathlib.Core.Path.{◌≡◌, refl, sym, ap, ◌∙◌}
 use mathlib.Core.Bool.{false}
 use native.Mathlib.Omega.{arith}
-use lib.ListN.{get_or}
+use lib.ListN.{length}
 use lib.Seq.{get_or-set_other}
 use Rattle.schedule.specs.Walk.{Task, tasks_from, misses}
 use Rattle.schedule.specs.Counted.{walk_from, missed}
-use Rattle.ticks.specs.Arrays.{task_at}
+use Rattle.ticks.specs.Arrays.{timing_at, task_at}
 use Rattle.ticks.specs.declared.State.{State}
 use Rattle.ticks.proofs.Releases.{Counted, counted_on, part_pass, part_take, part_miss, part_end, walk_from_miss, walk_from_kept}
 use Rattle.ticks.proofs.Jobs.{early_set}
@@ -22,7 +22,7 @@ record Over (k : ℕ → Task) (n end t : ℕ) (s : State) : Type 0 where
   counts : Counted k n t s
 
 at_end : (c : In-None) →
-    Over (task_at c.args.p.now c.args.c.now c.args.first.now) c.args.n c.args.end c.ticks.t c.ticks-test.s
+    Over (task_at c.args.tasks.now) (length c.args.tasks.now) c.args.end c.ticks.t c.ticks-test.s
 at_end c =
     elim c.ticks-test.branch [
       | else-ticks-test w ↦ absurd (omega (arith, c.ticks.invariant.reached, w.ticks-test.false))
@@ -43,16 +43,10 @@ ticks-init c = first_tick c.requires c.new-s.ensures
 pub loop-i-init : goal.loop-i-init
 loop-i-init c = turns_come c.ticks.invariant
 
-pub overflow_add-s : goal.overflow_add-s
-overflow_add-s c =
-    let small : c.ticks.t ≤ 200000000 = omega (arith, c.ticks.invariant.reached, c.requires.ends) in
-    let deadline : c.loop-i.i < c.args.n → c.ticks.t + get_or c.args.p.now c.loop-i.i 0 < 4294967295 = λ h. omega (arith, small, c.requires.period c.loop-i.i h) in
-    omega (arith, deadline c.loop-i-test.true)
-
 pub loop-i-preserved : goal.loop-i-preserved
 loop-i-preserved c =
     let small : c.ticks.t ≤ 200000000 = omega (arith, c.ticks.invariant.reached, c.requires.ends) in
-    let deadline : c.loop-i.i < c.args.n → c.ticks.t + get_or c.args.p.now c.loop-i.i 0 < 4294967295 = λ h. omega (arith, small, c.requires.period c.loop-i.i h) in
+    let deadline : c.loop-i.i < length c.args.tasks.now → c.ticks.t + (timing_at c.args.tasks.now c.loop-i.i).period < 4294967295 = λ h. omega (arith, small, c.requires.period c.loop-i.i h) in
     let v = c.loop-i.invariant in
     let i = c.loop-i.i in
     let lt = c.loop-i-test.true in
@@ -69,7 +63,7 @@ loop-i-preserved c =
 
 pub loop-t-init : goal.loop-t-init
 loop-t-init c =
-    let turns-over : c.loop-i.i ≡ c.args.n = omega (arith, c.loop-i.invariant.inside, c.loop-i-test.false) in
+    let turns-over : c.loop-i.i ≡ length c.args.tasks.now = omega (arith, c.loop-i.invariant.inside, c.loop-i-test.false) in
     let before-end : c.ticks.t < c.args.end = omega (arith, c.ticks.invariant.reached, c.if-t-end.false) in
     stretch_comes c.loop-i.invariant turns-over before-end
 
@@ -81,7 +75,7 @@ ticks-smaller c =
 
 pub ticks-preserved : goal.ticks-preserved
 ticks-preserved c =
-    let turns-over : c.loop-i.i ≡ c.args.n = omega (arith, c.loop-i.invariant.inside, c.loop-i-test.false) in
+    let turns-over : c.loop-i.i ≡ length c.args.tasks.now = omega (arith, c.loop-i.invariant.inside, c.loop-i-test.false) in
     let before-end : c.ticks.t < c.args.end = omega (arith, c.ticks.invariant.reached, c.if-t-end.false) in
     next_tick c.loop-i.invariant turns-over before-end c.ticks.invariant c.loop-t.invariant (omega (arith, c.loop-t-test.false))
 

@@ -1,4 +1,5 @@
-use Prim.Native.Nat.{ℕ, ◌≤◌}
+use Prim.Native.Nat.{ℕ, ◌<◌}
+use Rattle.ticks.specs.Arrays.{timing_at}
 use mathlib.Core.Path.{◌≡◌, refl, sym, ◌∙◌}
 use mathlib.Core.Bool.{Bool, true, false, true≢false}
 use mathlib.Core.List.{List}
@@ -13,25 +14,22 @@ use Rattle.taskset.specs.Quantities.{all_zero}
 use Rattle.taskset.proofs.Released.{all-zero, zero-each}
 use Rattle.walk.proofs.last_tick.Goals as goal
 
--- What the code asks of the front of the array is the definition's test.
-asked : (a : List ℕ) (n : ℕ) (b : Bool) → n ≤ length a → (IsTrue b ↔ EachIndex (take n a) (λ t. slice_index (take n a) t ≡ 0))
-    → b ≡ all_zero (λ t. get_or a t 0) n
-asked a n b few h =
-    let size : length (take n a) ≡ n = length-take-le n a few in
+-- What the code asks of the tasks is the definition's test.
+asked : (f : ℕ → ℕ) (n : ℕ) (b : Bool) → (IsTrue b ↔ ((t : ℕ) → t < n → f t ≡ 0)) → b ≡ all_zero f n
+asked f n b h =
     ⊎_elim
-    (λ (e : b ≡ true). e ∙ sym (all-zero (λ t. get_or a t 0) n (λ t l. sym (get_or-take n a t 0 l) ∙ h.0 e t (omega arith))))
+    (λ (e : b ≡ true). e ∙ sym (all-zero f n (h.0 e)))
     (λ (e : b ≡ false).
     ⊎_elim
-    (λ (z : all_zero (λ t. get_or a t 0) n ≡ true).
-    absurd (true≢false (sym (h.1 (λ t l. get_or-take n a t 0 (omega arith) ∙ zero-each (λ t. get_or a t 0) n z t (omega arith))) ∙ e)))
-    (λ (z : all_zero (λ t. get_or a t 0) n ≡ false). e ∙ sym z)
-    (bool_cases (all_zero (λ t. get_or a t 0) n)))
+    (λ (z : all_zero f n ≡ true). absurd (true≢false (sym (h.1 (zero-each f n z)) ∙ e)))
+    (λ (z : all_zero f n ≡ false). e ∙ sym z)
+    (bool_cases (all_zero f n)))
     (bool_cases b)
-
-pub returns : goal.returns
-returns c =
-    rw (← asked c.args.first.now c.args.n _ (omega (arith, c.requires)) c.are_all_zero.ensures, c.if-not-are_all_zero.false) refl
 
 pub returns-then-not-are_all_zero : goal.returns-then-not-are_all_zero
 returns-then-not-are_all_zero c =
-    rw (← asked c.args.first.now c.args.n _ (omega (arith, c.requires)) c.are_all_zero.ensures, c.if-not-are_all_zero.true) refl
+    rw (← asked (λ t. (timing_at c.args.tasks.now t).first) _ _ c.are_all_zero.ensures, c.if-not-are_all_zero.true) refl
+
+pub returns : goal.returns
+returns c =
+    rw (← asked (λ t. (timing_at c.args.tasks.now t).first) _ _ c.are_all_zero.ensures, c.if-not-are_all_zero.false) refl
