@@ -44,11 +44,13 @@ pub(crate) fn checked<W: Write>(to: &mut W, a: Checked) {
 // The answer of the walk.
 pub(crate) fn walked<W: Write>(to: &mut W, a: WalkAnswer) {
     match a {
-        Ok(WalkEnd::Kept {
-            busy,
-            idle,
-            preempted,
-        }) => {
+        Ok(
+            WalkEnd::Kept {
+                busy,
+                idle,
+                preempted,
+            },
+        ) => {
             let _ = write!(to, " kept {busy} {idle} {preempted}");
         }
         Ok(WalkEnd::Missed { tick, task }) => {
@@ -63,7 +65,11 @@ pub(crate) fn planned<W: Write>(to: &mut W, a: PlannerAnswer, plan: &[u32]) {
     let used = used(plan, 0);
     match a {
         Ok(p) => {
-            let _ = write!(to, " planned {} {} {} {}", p.unit, p.load, p.hyper, p.energy);
+            let _ = write!(
+                to,
+                " planned {} {} {} {}",
+                p.unit, p.load, p.hyper, p.energy
+            );
             words(to, used);
         }
         Err(f) => {

@@ -14,6 +14,7 @@ use Rattle.engine.specs.declared.Request.{Request}
 use Rattle.engine.specs.Arrays.{option_at, load_bound, Small, SumReady, arrays}
 use Rattle.engine.proofs.Writing.{zeros_at, rest_same}
 use Rattle.engine.proofs.Chosen.{front_size, front_at, sum_ready, chosen_by}
+use Rattle.table.specs.Rows.{Framed}
 use Rattle.choice.specs.declared.Used.{Used}
 use Rattle.choice.specs.Choice.{ChoiceReady, Chose}
 use Rattle.choice.specs.Units.{frame_of, WayReady, WayTaken, SearchReady, UnitUsed}
@@ -33,14 +34,16 @@ module _ {q : Request} {loads energies plan₀ work₀ : List ℕ} (g : ChoiceRe
   last_low = last_small q.tasks q.slack g.engine.asked.tasks g.engine.asked.slacks.0
 
   module _ {load cost work : List ℕ} {o : Used} (u : UnitUsed q loads energies work₀ load cost work o) where
+    pub framed : Framed o.frame load
+    framed = rw u.frame_is (record {
+      tasks = g.engine.asked.tasks;
+      rates = g.engine.asked.rates.1;
+      small = omega (arith, g.engine.asked.small);
+      loads = u.loads_low;
+    })
+
     pub way_ready : WayReady o.frame o.least cost load work plan₀
     way_ready = rw u.frame_is (record {
-      framed = record {
-        tasks = g.engine.asked.tasks;
-        rates = g.engine.asked.rates.1;
-        small = omega (arith, g.engine.asked.small);
-        loads = u.loads_low;
-      };
       holds = u.holds;
       place = u.place;
       some = u.some;

@@ -62,7 +62,6 @@ module _ {f : Frame} {column : ℕ} {cost load d plan₀ : List ℕ} (g : WayRea
 
     pub rate_ready : RateReady f ((i - 1) * f.columns) e (i - 1) cost load d
     rate_ready = record {
-      framed = g.framed;
       is_task = omega (arith, w.tasks);
       rows = omega (arith, row_here, row_before);
       prev = g.holds.cells (i - 1) (omega (arith, w.tasks));

@@ -19,7 +19,6 @@ pub record Table (f : Frame) (cost load d : List ℕ) : Type 0 where
 
 -- What the way back asks: the table, a column of its last row that is not 'none', and room for the plan.
 pub record WayReady (f : Frame) (column : ℕ) (cost load d plan : List ℕ) : Type 0 where
-  pub framed : Framed f load
   pub holds : Table f cost load d
   pub place : column < f.columns
   pub some : entry_of f cost load f.tasks column < f.cap

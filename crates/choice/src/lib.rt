@@ -11,7 +11,7 @@ ghost use Rattle.choice.specs.Units.{WayReady, WayTaken, cut_of, UnitReady, Unit
 ghost use Rattle.choice.specs.Units.{SearchReady, UnitUsed};
 
 use engine::{Choice, Power, Request};
-use table::Frame;
+use table::{Frame, Options};
 
 // The unit used, the size of its table, and the least rounded energy of a plan that fits.
 #[derive(Clone, Copy)]
@@ -31,22 +31,16 @@ pub fn last_column(tasks: usize, slack: u32) -> usize
 
 // Writes the way back through a table from a column of its last row: the lowest rate number that makes each entry, from
 // the last task down to the first.
-fn way_back(
-    plan: &mut [u32],
-    d: &[u32],
-    f: Frame,
-    column: usize,
-    cost: &[usize; 512],
-    load: &[u32; 512],
-)
-    requires { WayReady f column cost.now load.now d.now plan.old }
-    ensures { WayTaken f column cost.now load.now plan.old plan.new }
+fn way_back(plan: &mut [u32], d: &[u32], options: Options, column: usize)
+    requires { WayReady options.frame column options.cost.now options.load.now d.now plan.old }
+    ensures { WayTaken options.entry.frame column options.entry.cost.now options.entry.load.now plan.old plan.new }
 {
+    let columns = options.frame.columns;
     let mut left = column;
-    for task in (0..f.tasks).rev() {
-        let r = table::rate_at(d, f, task * f.columns, left, task, cost, load);
+    for task in (0..options.frame.tasks).rev() {
+        let r = options.rate_at(d, task * columns, left, task);
         plan[task] = r as u32;
-        left -= cost[task * 16 + r];
+        left -= options.cost[task * 16 + r];
     }
 }
 
@@ -73,7 +67,12 @@ fn least_energy(
     ensures { UnitTabled f unit.exponent energies.now load.now work.old cost.new work.new result }
 {
     engine::round_up(energies, f.tasks, unit, cost);
-    table::table(work, f, cost, load);
+    let options = Options {
+        frame: f,
+        cost,
+        load,
+    };
+    options.table(work);
     table::least_column(work, f.tasks * f.columns, f.columns, f.cap)
 }
 
@@ -132,7 +131,12 @@ pub fn choose(
     let mut load: [u32; 512] = [0; 512];
     let mut cost: [usize; 512] = [0; 512];
     let used = find_unit(loads, energies, q, &mut load, &mut cost, work);
-    way_back(plan, work, used.frame, used.least, &cost, &load);
+    let options = Options {
+        frame: used.frame,
+        cost: &cost,
+        load: &load,
+    };
+    way_back(plan, work, options, used.least);
     work[..(q.tasks + 1) * columns].fill(0);
     Choice {
         unit: used.unit,

@@ -98,7 +98,7 @@ module _ {q : Request} {loads cost P : List ℕ} {s : Sums} (g : ArraysReady q l
       }
 
 -- ---- the plans that differ in task 1's rate alone
-module _ {q : Request} {loads cost : List ℕ} {s : Sums} {i : ℕ} {kept : Option Best} (g : BlockReady q loads cost s i kept)
+module _ {q : Request} {loads cost : List ℕ} {s : Sums} {i : ℕ} {kept : Option Best} (posed : ArraysReady q loads cost) (g : BlockReady q loads cost s i kept)
     (r : ℕ) (above : 1 ≤ r) (below : r ≤ q.rates) where
   one : 1 ≡ 0 * 16 + get_or g.plan 0 0
   one = omega (arith, g.hand.first)
@@ -107,7 +107,7 @@ module _ {q : Request} {loads cost : List ℕ} {s : Sums} {i : ℕ} {kept : Opti
   that = omega arith
 
   pub block_change : ChangeReady loads cost s 1 r
-  block_change = change_ready g.posed g.hand 0 r g.posed.tasks.0 above below one that
+  block_change = change_ready posed g.hand 0 r posed.tasks.0 above below one that
 
   pub block_turn : {best best' : Option Best} {s' : Sums} → Changed loads cost s 1 r s'
       → Seen (arrays q loads cost) (i + (r - 1)) best
@@ -115,17 +115,17 @@ module _ {q : Request} {loads cost : List ℕ} {s : Sums} {i : ℕ} {kept : Opti
       → Seen (arrays q loads cost) (i + (r - 1) + 1) best'
   block_turn {best} {best'} {s'} c seen looked =
       seen_more (arrays q loads cost) (i + (r - 1)) (set g.plan 0 r)
-      (set_long g.posed g.hand 0 r g.posed.tasks.0 above below)
-      (set-numbered g.posed g.hand 0 r g.posed.tasks.0 above below)
+      (set_long posed g.hand 0 r posed.tasks.0 above below)
+      (set-numbered posed g.hand 0 r posed.tasks.0 above below)
       (omega (
         arith,
-        set-rank g.posed g.hand 0 r g.posed.tasks.0 above below,
+        set-rank posed g.hand 0 r posed.tasks.0 above below,
         g.rank_is,
         ap (λ (x : ℕ). (x - 1) * q.rates ^ 0) g.hand.first,
         ap (λ (x : ℕ). (r - 1) * x) (pow-zero q.rates),
       ))
-      (set-load g.posed g.hand 0 r g.posed.tasks.0 above below one that c)
-      (set_cost g.posed g.hand 0 r g.posed.tasks.0 above below one that c)
+      (set-load posed g.hand 0 r posed.tasks.0 above below one that c)
+      (set_cost posed g.hand 0 r posed.tasks.0 above below one that c)
       seen looked
 
 -- ---- the carry
@@ -219,7 +219,7 @@ module _ (options : List ℕ) (t : ℕ) where
       omega (arith, ones_turn few e, sum_low bound options (replicate 32 1) (t + 1) small (omega arith))
 
 module _ (q : Request) where
-  ones_rank : q.tasks ≤ 32 → rank q.rates q.tasks (replicate 32 1) ≡ 0
+  pub ones_rank : q.tasks ≤ 32 → rank q.rates q.tasks (replicate 32 1) ≡ 0
   ones_rank few =
       omega (
         arith,
@@ -241,18 +241,18 @@ module _ (q : Request) where
     cost_is = c;
   }
 
-  pub going_start : {loads cost : List ℕ} {s : Sums} → ArraysReady q loads cost
-      → InHand q loads cost (replicate 32 1) s → Going q loads cost (replicate 32 1) s 0 None
-  going_start {loads} {cost} g h = record {
+  pub going_start : {loads cost P : List ℕ} {s : Sums} → InHand q loads cost P s → rank q.rates q.tasks P ≡ 0
+      → Going q loads cost P s 0 None
+  going_start {loads} {cost} h first = record {
     hand = h;
-    place = λ l. ones_rank g.tasks.1;
+    place = λ l. first;
     seen = seen_none (arrays q loads cost);
   }
 
 module _ {q : Request} {loads cost P : List ℕ} {s : Sums} {i : ℕ} {kept : Option Best} (g : ArraysReady q loads cost)
     (w : Going q loads cost P s i kept) (more : i < q.rates ^ q.tasks) where
   pub going_block : BlockReady q loads cost s i kept
-  going_block = record { posed = g; plan = P; hand = w.hand; rank_is = w.place more; seen = w.seen }
+  going_block = record { plan = P; hand = w.hand; rank_is = w.place more; seen = w.seen }
 
   pub going_turn : {P' : List ℕ} {s' : Sums} {b' : Option Best} → Seen (arrays q loads cost) (i + q.rates) b'
       → Advanced q loads cost P P' s' → Going q loads cost P' s' (i + q.rates) b'

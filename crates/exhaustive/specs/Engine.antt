@@ -80,18 +80,12 @@ pub record Changed (loads cost : List ℕ) (s : Sums) (from to : ℕ) (r : Sums)
 
 -- The plans that differ from one in task 1's rate alone: what a look at them asks.
 pub record BlockReady (q : Request) (loads cost : List ℕ) (s : Sums) (i : ℕ) (kept : Option Best) : Type 0 where
-  pub posed : ArraysReady q loads cost
   pub plan : List ℕ
   pub hand : InHand q loads cost plan s
   pub rank_is : rank q.rates q.tasks plan ≡ i
   pub seen : Seen (arrays q loads cost) i kept
 
--- What going on from a plan asks, and what it gives: the plan of a rank higher by as many as there are rates, if there
--- is one.
-pub record AdvanceReady (q : Request) (loads cost P : List ℕ) (s : Sums) : Type 0 where
-  pub posed : ArraysReady q loads cost
-  pub hand : InHand q loads cost P s
-
+-- What going on from a plan gives: the plan of a rank higher by as many as there are rates, if there is one.
 pub record Advanced (q : Request) (loads cost P P' : List ℕ) (r : Sums) : Type 0 where
   pub hand : InHand q loads cost P' r
   pub next : rank q.rates q.tasks P + q.rates < q.rates ^ q.tasks

@@ -7,8 +7,9 @@
 ghost use Rattle.std.specs.Prelude.{◌≡◌, suc, ◌+◌, ◌^◌, ◌≤◌, min, replicate};
 ghost use Rattle.selection.specs.Plan.{most_plans};
 ghost use Rattle.engine.specs.Arrays.{arrays, ChosenBy};
+ghost use Rattle.exhaustive.specs.Order.{rank};
 ghost use Rattle.exhaustive.specs.Engine.{Looked, Seen, ArraysReady, InHand, ChangeReady, Changed};
-ghost use Rattle.exhaustive.specs.Engine.{BlockReady, AdvanceReady, Advanced, AllReady, ChosenAt};
+ghost use Rattle.exhaustive.specs.Engine.{BlockReady, Advanced, AllReady, ChosenAt};
 ghost use Rattle.exhaustive.specs.Engine.{UnitUsed, PutReady, PlanPut, ExhaustiveReady};
 
 use engine::{Choice, Power, Request};
@@ -31,6 +32,22 @@ struct Best {
     rank: usize,
 }
 
+// What plans are compared by: what is asked, and each option's load, and its cost by a unit.
+#[derive(Clone, Copy)]
+struct Options<'a> {
+    q: Request,
+    loads: &'a [u64; 512],
+    cost: &'a [usize; 512],
+    ghost posed: { ArraysReady q loads.now cost.now },
+}
+
+// A plan in hand, with task 1 at rate 1, and its sums.
+#[derive(Clone, Copy)]
+struct Hand {
+    plan: [usize; 32],
+    sums: Sums,
+}
+
 // The unit used, and the plan chosen by it.
 #[derive(Clone, Copy)]
 struct Used {
@@ -38,7 +55,8 @@ struct Used {
     best: Best,
 }
 
-// How many plans there are; of more than the engine goes through, one more than that.
+// How many plans there are; of more than the engine goes through, one more than that. No Option: the planner's check,
+// with its edits, compares the number itself.
 pub fn plan_count(rates: usize, tasks: usize) -> usize
     requires { (1 ≤ rates) × (rates ≤ 8) }
     ensures { result ≡ min (rates ^ tasks) (suc most_plans) }
@@ -48,30 +66,6 @@ pub fn plan_count(rates: usize, tasks: usize) -> usize
         plans = (plans * rates).min(MOST_PLANS + 1);
     }
     plans
-}
-
-// The sums of the plan with every task at rate 1.
-fn first_sums(loads: &[u64; 512], cost: &[usize; 512], q: Request) -> Sums
-    requires { ArraysReady q loads.now cost.now }
-    ensures { InHand q loads.now cost.now (replicate 32 1) result }
-{
-    let mut sums = Sums { cost: 0, load: 0 };
-    for t in 0..q.tasks {
-        sums.cost += cost[t * 16 + 1];
-        sums.load += loads[t * 16 + 1];
-    }
-    sums
-}
-
-// Sums in which the option at one place is replaced by the one at another.
-fn change(loads: &[u64; 512], cost: &[usize; 512], s: Sums, from: usize, to: usize) -> Sums
-    requires { ChangeReady loads.now cost.now s from to }
-    ensures { Changed loads.now cost.now s from to result }
-{
-    Sums {
-        load: s.load - loads[from] + loads[to],
-        cost: s.cost - cost[from] + cost[to],
-    }
 }
 
 // What is kept after a look at the plan of this rank: of two that fit the one whose sums come first; of equals the
@@ -88,64 +82,77 @@ fn look(limit: u32, s: Sums, rank: usize, kept: Option<Best>) -> Option<Best>
     }
 }
 
-// Looks at the plans that differ in task 1's rate alone, from the one in hand on, whose sums and rank are given.
-fn block(
-    loads: &[u64; 512],
-    cost: &[usize; 512],
-    q: Request,
-    s: Sums,
-    rank: usize,
-    kept: Option<Best>,
-) -> Option<Best>
-    requires { BlockReady q loads.now cost.now s rank kept }
-    ensures { Seen (arrays q loads.now cost.now) (rank + q.rates) result }
-{
-    let mut best = kept;
-    for r in 1..=q.rates {
-        best = look(q.limit, change(loads, cost, s, 1, r), rank + (r - 1), best);
-    }
-    best
-}
-
-// Goes on to the next plan of tasks 2 to N: a number below M is raised by one, and that is all; one at M goes back to
-// 1, and the next task is looked at.
-fn advance(
-    hand: &mut [usize; 32],
-    loads: &[u64; 512],
-    cost: &[usize; 512],
-    q: Request,
-    s: Sums,
-) -> Sums
-    requires { AdvanceReady q loads.now cost.now hand.old s }
-    ensures { Advanced q loads.now cost.now hand.old hand.new result }
-{
-    let mut sums = s;
-    for t in 1..q.tasks {
-        let r = hand[t];
-        let here = t * 16 + r;
-        if r < q.rates {
-            hand[t] = r + 1;
-            return change(loads, cost, sums, here, here + 1);
+impl Options<'_> {
+    // The plan with every task at rate 1.
+    fn first(self) -> Hand
+        ensures { InHand self.entry.q self.entry.loads.now self.entry.cost.now result.plan result.sums × (rank self.entry.q.rates self.entry.q.tasks result.plan ≡ 0) }
+    {
+        let mut sums = Sums { cost: 0, load: 0 };
+        for t in 0..self.q.tasks {
+            sums.cost += self.cost[t * 16 + 1];
+            sums.load += self.loads[t * 16 + 1];
         }
-        hand[t] = 1;
-        sums = change(loads, cost, sums, here, t * 16 + 1);
+        Hand {
+            plan: [1; 32],
+            sums,
+        }
     }
-    sums
-}
 
-// The best of all plans, where one fits.
-fn best_plan(loads: &[u64; 512], cost: &[usize; 512], q: Request, plans: usize) -> Option<Best>
-    requires { ArraysReady q loads.now cost.now × (plans ≡ q.rates ^ q.tasks) }
-    ensures { Seen (arrays q loads.now cost.now) (q.rates ^ q.tasks) result }
-{
-    let mut hand: [usize; 32] = [1; 32];
-    let mut s = first_sums(loads, cost, q);
-    let mut best = None;
-    for rank in (0..plans).step_by(q.rates) {
-        best = block(loads, cost, q, s, rank, best);
-        s = advance(&mut hand, loads, cost, q, s);
+    // Sums in which the option at one place is replaced by the one at another.
+    fn change(self, s: Sums, from: usize, to: usize) -> Sums
+        requires { ChangeReady self.loads.now self.cost.now s from to }
+        ensures { Changed self.entry.loads.now self.entry.cost.now s from to result }
+    {
+        Sums {
+            cost: s.cost - self.cost[from] + self.cost[to],
+            load: s.load - self.loads[from] + self.loads[to],
+        }
     }
-    best
+
+    // Looks at the plans that differ in task 1's rate alone, from the one in hand on, whose sums and rank are given.
+    fn block(self, s: Sums, rank: usize, kept: Option<Best>) -> Option<Best>
+        requires { BlockReady self.q self.loads.now self.cost.now s rank kept }
+        ensures { Seen (arrays self.entry.q self.entry.loads.now self.entry.cost.now) (rank + self.entry.q.rates) result }
+    {
+        let mut best = kept;
+        for r in 1..=self.q.rates {
+            best = look(self.q.limit, self.change(s, 1, r), rank + (r - 1), best);
+        }
+        best
+    }
+
+    // Goes on to the next plan of tasks 2 to N: a number below M is raised by one, and that is all; one at M goes back
+    // to 1, and the next task is looked at.
+    fn advance(self, hand: &mut Hand)
+        requires { InHand self.q self.loads.now self.cost.now hand.old.plan hand.old.sums }
+        ensures { Advanced self.entry.q self.entry.loads.now self.entry.cost.now hand.old.plan hand.new.plan hand.new.sums }
+    {
+        for t in 1..self.q.tasks {
+            let r = hand.plan[t];
+            let here = t * 16 + r;
+            if r < self.q.rates {
+                hand.plan[t] = r + 1;
+                hand.sums = self.change(hand.sums, here, here + 1);
+                return;
+            }
+            hand.plan[t] = 1;
+            hand.sums = self.change(hand.sums, here, t * 16 + 1);
+        }
+    }
+
+    // The best of all plans, where one fits.
+    fn best_plan(self, plans: usize) -> Option<Best>
+        requires { plans ≡ self.q.rates ^ self.q.tasks }
+        ensures { Seen (arrays self.entry.q self.entry.loads.now self.entry.cost.now) (self.entry.q.rates ^ self.entry.q.tasks) result }
+    {
+        let mut hand = self.first();
+        let mut best = None;
+        for rank in (0..plans).step_by(self.q.rates) {
+            best = self.block(hand.sums, rank, best);
+            self.advance(&mut hand);
+        }
+        best
+    }
 }
 
 // The plan chosen by a unit.
@@ -155,7 +162,12 @@ fn best_at(loads: &[u64; 512], energies: &[u64; 512], q: Request, unit: Power, p
 {
     let mut cost: [usize; 512] = [0; 512];
     engine::round_up(energies, q.tasks, unit, &mut cost);
-    best_plan(loads, &cost, q, plans).unwrap()
+    let options = Options {
+        q,
+        loads,
+        cost: &cost,
+    };
+    options.best_plan(plans).unwrap()
 }
 
 // Finds the unit used: tries the first unit and halves it until the rule stops. No plan is kept from one unit to the

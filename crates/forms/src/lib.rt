@@ -10,7 +10,7 @@ ghost use Rattle.text.specs.Text;
 ghost use Rattle.text.specs.Reading;
 ghost use Rattle.text.specs.Reading.{mapped, starts};
 ghost use Rattle.scanner.specs.Steps.{Reads};
-ghost use Rattle.forms.specs.Forms.{spaced_number, Gives, plain, no_value, given, head_from, clock_of, said_of};
+ghost use Rattle.forms.specs.Forms.{Gives, plain, no_value, given, head_from, clock_of, said_of};
 ghost use Rattle.forms.specs.Forms.{rates_in, energies_in, idle_in, Fits, energies_by, words_by};
 
 use chips::Chip;
@@ -40,13 +40,6 @@ pub struct Said {
     pub words: usize,
 }
 
-// A space and a number. A function of its own: a byte string in a loop would be part of the loop's invariant.
-fn spaced(text: &mut Cursor) -> Result<u32, Departure>
-    ensures { Reads spaced_number text.old text.new result }
-{
-    text.field(b" ")
-}
-
 // At least low numbers and up to spare more, each behind a space, to the list from k on: how many.
 fn numbers(
     text: &mut Cursor,
@@ -64,7 +57,7 @@ fn numbers(
                 return Ok(n);
             };
         }
-        out[k + n] = spaced(text)?;
+        out[k + n] = text.field(b" ")?;
     }
     Ok(low + spare)
 }
@@ -241,10 +234,8 @@ fn tasks(text: &mut Cursor, out: &mut [u32], clock: Clock) -> Result<usize, Depa
 {
     let m = rate_count(clock);
     for n in 0..places::MOST_TASKS {
-        if 0 < n {
-            if !opens(text) {
-                return Ok(n);
-            }
+        if 0 < n && !opens(text) {
+            return Ok(n);
         }
         task(
             text,

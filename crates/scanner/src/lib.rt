@@ -109,11 +109,12 @@ impl<'a> Cursor<'a> {
         self.agrees(l)
     }
 
-    // Where the text departs from a fixed string that does not stand at the place.
+    // Where the text departs from a fixed string that does not stand at the place. It takes a copy, so that what stands in
+    // the cursor need not be in memory for it.
     #[cold]
-    fn departure(&self, l: &[u8]) -> Departure
-        requires { taken (read_at (Reading.literal l.now) self.now.text.now self.now.at) ≡ false }
-        ensures { result.at ≡ ext (read_at (Reading.literal l.now) self.now.text.now self.now.at) }
+    fn departure(self, l: &[u8]) -> Departure
+        requires { taken (read_at (Reading.literal l.now) self.text.now self.at) ≡ false }
+        ensures { result.at ≡ ext (read_at (Reading.literal l.now) self.entry.text.now self.entry.at) }
     {
         for i in self.at..self.text.len() {
             if self.text[i] != l[i - self.at] {
@@ -127,7 +128,7 @@ impl<'a> Cursor<'a> {
 
     // A fixed string: compared as a whole, since it stands there in nearly every text, and byte by byte only where it does
     // not. Inlined, so that the string's length is known where it is compared.
-    #[inline]
+    #[inline(always)]
     pub fn literal(&mut self, l: &[u8]) -> Result<(), Departure>
         ensures { Reads (Reading.literal l.now) self.old self.new result }
     {

@@ -10,9 +10,9 @@ use lib.ListN.{get_or}
 use Rattle.selection.proofs.Cells.{entry_cap, Sound, rate_sound, rate_lowest}
 use Rattle.engine.specs.Arrays.{option_at}
 use Rattle.table.specs.declared.Frame.{Frame}
-use Rattle.table.specs.Rows.{entry_of, rate_of, RateReady}
+use Rattle.table.specs.Rows.{entry_of, Framed, rate_of, RateReady}
 
-module _ {f : Frame} {start e i : ℕ} {cost load d : List ℕ} (g : RateReady f start e i cost load d) where
+module _ {f : Frame} {start e i : ℕ} {cost load d : List ℕ} (framed : Framed f load) (g : RateReady f start e i cost load d) where
   sound : Sound (option_at cost) (option_at load) f.rates f.cap i e (rate_of f cost load i e)
   sound = rate_sound (option_at cost) (option_at load) f.rates f.cap i e g.some
 
@@ -27,7 +27,7 @@ module _ {f : Frame} {start e i : ℕ} {cost load d : List ℕ} (g : RateReady f
 
   pub sum_fits : (j k : ℕ) → j ≤ e → get_or d (start + j) 0 + get_or load k 0 < 2 ^ 32
   sum_fits j k l =
-      omega (arith, g.framed.small, g.framed.loads k, prev j l, entry_cap (option_at cost) (option_at load) f.rates f.cap i j)
+      omega (arith, framed.small, framed.loads k, prev j l, entry_cap (option_at cost) (option_at load) f.rates f.cap i j)
 
   -- The entry, as it was read.
   module _ {v : ℕ} (is : v ≡ get_or d (start + f.columns + e) 0) where

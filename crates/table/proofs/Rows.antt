@@ -14,7 +14,7 @@ use Rattle.numbers.proofs.Tests.{lt_or_le}
 use Rattle.selection.proofs.Cells.{entry_first, entry_row, entry_cap, least_to, least_none, least_skip, least_step}
 use Rattle.engine.specs.Arrays.{option_at, Written}
 use Rattle.table.specs.declared.Frame.{Frame}
-use Rattle.table.specs.Rows.{entry_of, relaxed, Relaxable, RowAt, RowReady, RowWritten, TableReady, Tabled}
+use Rattle.table.specs.Rows.{entry_of, Framed, relaxed, Relaxable, RowAt, RowReady, RowWritten, TableReady, Tabled}
 
 -- ---- a row
 -- Its words hold the least loads by the rate numbers below r.
@@ -23,7 +23,7 @@ pub record RowTo (f : Frame) (i : ℕ) (cost load : List ℕ) (r : ℕ) (d : Lis
   pub least : (e : ℕ) → e < f.columns
       → get_or d e 0 ≡ least_to (option_at cost) (option_at load) f.rates f.cap i e r
 
-module _ {f : Frame} {i : ℕ} {cost load before d₀ : List ℕ} (g : RowReady f i cost load before d₀) where
+module _ {f : Frame} {i : ℕ} {cost load before d₀ : List ℕ} (framed : Framed f load) (g : RowReady f i cost load before d₀) where
   pub row_start : {d : List ℕ} → d ≡ replicate (length d₀) f.cap → RowTo f i cost load 1 d
   row_start q = record {
     size = ap length q ∙ length-replicate (length d₀) f.cap ∙ g.size;
@@ -47,8 +47,8 @@ module _ {f : Frame} {i : ℕ} {cost load before d₀ : List ℕ} (g : RowReady 
       sums = λ e h.
           omega (
             arith,
-            g.framed.small,
-            g.framed.loads x,
+            framed.small,
+            framed.loads x,
             g.prev e (omega (arith, g.before_size)),
             entry_cap (option_at cost) (option_at load) f.rates f.cap i e,
           );
@@ -137,7 +137,7 @@ module _ {f : Frame} {cost load : List ℕ} where
       new e x = r.here ((i + 1) * f.columns + e) (omega arith) (omega arith) ∙ ap (entry_of f cost load (i + 1)) (omega arith)
 
   -- The row is parted from the list, after the rows before it, and written.
-  pub table_turn : {i : ℕ} {d₀ d front rest words : List ℕ} → Tabled f i cost load d₀ d → TableReady f load d₀ → i < f.tasks
+  pub table_turn : {i : ℕ} {d₀ d front rest words : List ℕ} → Tabled f i cost load d₀ d → TableReady f d₀ → i < f.tasks
       → front ≡ take ((i + 1) * f.columns) d → rest ≡ drop ((i + 1) * f.columns) d → RowWritten f i cost load words
       → Tabled f (i + 1) cost load d₀ (front ++ (words ++ drop f.columns rest))
   table_turn {i} {d₀} {d} {front} {rest} {words} t g h x y r =

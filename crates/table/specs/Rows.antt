@@ -30,7 +30,6 @@ RowAt f start i cost load d = (e : ℕ) → e < f.columns → get_or d (start + 
 
 -- What a row asks: the row before the task, and as many words.
 pub record RowReady (f : Frame) (task : ℕ) (cost load before words : List ℕ) : Type 0 where
-  pub framed : Framed f load
   pub is_task : task < f.tasks
   pub before_size : length before ≡ f.columns
   pub prev : (e : ℕ) → e < f.columns → get_or before e 0 ≡ entry_of f cost load task e
@@ -42,8 +41,7 @@ pub record RowWritten (f : Frame) (task : ℕ) (cost load words : List ℕ) : Ty
   pub next : (e : ℕ) → e < f.columns → get_or words e 0 ≡ entry_of f cost load (task + 1) e
 
 -- What the table asks: its rows are within d.
-pub record TableReady (f : Frame) (load d : List ℕ) : Type 0 where
-  pub framed : Framed f load
+pub record TableReady (f : Frame) (d : List ℕ) : Type 0 where
   pub words : (f.tasks + 1) * f.columns ≤ length d
 
 -- d is d₀ with the rows 0 to n of the table at its front, and every other place as it was.
@@ -67,7 +65,6 @@ rate_of f cost load task e = rate_up_to (option_at cost) (option_at load) f.rate
 -- What the search for a rate asks: the rows before and after the task, from start on, and a column of the second that
 -- is not 'none'.
 pub record RateReady (f : Frame) (start column task : ℕ) (cost load d : List ℕ) : Type 0 where
-  pub framed : Framed f load
   pub is_task : task < f.tasks
   pub rows : start + f.columns + f.columns ≤ length d
   pub prev : RowAt f start task cost load d

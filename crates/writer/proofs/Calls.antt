@@ -18,17 +18,18 @@ use Rattle.text.specs.Text.{script_text, script_of}
 use Rattle.text.specs.Calls.{WriterGives}
 use Rattle.lists.specs.Writing.{placed}
 use Rattle.printer.specs.Puts.{Put}
-use Rattle.writer.specs.Lines.{WithTasks}
+use Rattle.checks.specs.Steps.{OfCounts}
 use Rattle.taskset.specs.Answers.{Shape, ok_counts}
 
 -- What checks 2 and 3 answer of a list.
 abbrev pub Checked : List ℕ → Shape → Type 0
 Checked s = CountsAfter (word_checks Ordinary s) Ordinary s
 
-pub counted : (s : List ℕ) (m n : ℕ) → Checked s (ok_counts m n) → WithTasks s m n
+pub counted : (s : List ℕ) (m n : ℕ) → Checked s (ok_counts m n) → OfCounts Ordinary m n s
 counted s m n good = record {
-  list = record { whole = whole_of Ordinary s (no_word_fault Ordinary s (passed 2 (word_checks Ordinary s) refl good.0)); rates = good.1 };
-  tasks = good.2;
+  whole = whole_of Ordinary s (no_word_fault Ordinary s (passed 2 (word_checks Ordinary s) refl good.0));
+  counted = good.1;
+  numbered = good.2;
 }
 
 module _ (s d : List ℕ) where

@@ -1,7 +1,7 @@
 -- The words of a list that passes check 2, the lines that they make, and the whole text.
 -- Assumes nothing.
 use Prim.Native.Nat.{ℕ, zero, suc, ◌+◌, ◌-◌, ◌≤◌, ◌<◌}
-use mathlib.Core.Path.{◌≡◌, refl, ap, ◌∙◌}
+use mathlib.Core.Path.{◌≡◌, refl, ap, ◌∙◌, subst}
 use mathlib.Core.List.{List, [], ◌++◌, append_assoc}
 use mathlib.Core.Option.{Option, none, some}
 use native.Mathlib.Nat.{zero-add}
@@ -18,25 +18,27 @@ use Rattle.text.specs.Text.{shown, line_of, script_of}
 use Rattle.text.proofs.Grammar.{energy_form}
 use Rattle.text.proofs.Sizes.{text_length}
 use Rattle.text.proofs.RoundTrip.{script_of_list}
-use Rattle.checks.specs.Steps.{OfTask}
-use Rattle.writer.specs.Lines.{WithRates, WithTasks, optional_text, slack_text, idle_line, rates_text}
+use Rattle.checks.specs.Steps.{OfTask, OfCounts}
+use Rattle.writer.specs.Lines.{optional_text, slack_text, idle_line, rates_text}
 use Rattle.writer.proofs.Rows.{part}
+use Rattle.layout.specs.declared.Layout.{Layout}
+use Rattle.writer.specs.declared.Listed.{Listed}
 
 -- ---- the words of a list that passes check 2
-module _ {w : List ℕ} {m : ℕ} (has : WithRates w m) where
+module _ {w : List ℕ} {m n : ℕ} (has : OfCounts Ordinary m n w) where
   pub rates_few : m ≤ most_rates
-  rates_few = omega (arith, has.rates, has.whole.rates_range.1)
+  rates_few = omega (arith, has.counted, has.whole.rates_range.1)
 
   pub rates_inside : task_count_place Ordinary m ≤ length w
-  rates_inside = omega (arith, has.rates, has.whole.size)
+  rates_inside = omega (arith, has.counted, has.whole.size)
 
   pub rates_are : (a e : ℕ) → a ≡ rate_place Ordinary 1 → e ≡ task_count_place Ordinary m → take (e - a) (drop a w) ≡ list_rates w
   rates_are a e x y =
-      part w (rate Ordinary w) (head_size Ordinary) (λ j. refl) 1 m a e x y (omega (arith, rates_inside)) ∙ ap (each (rate Ordinary w) 1) has.rates
+      part w (rate Ordinary w) (head_size Ordinary) (λ j. refl) 1 m a e x y (omega (arith, rates_inside)) ∙ ap (each (rate Ordinary w) 1) has.counted
 
 module _ {w : List ℕ} {m t : ℕ} (has : OfTask Ordinary m t w) where
   pub task_few : (m ≤ most_rates) × (t ≤ most_tasks)
-  task_few = (rates_few (record { whole = has.whole; rates = has.counted }), omega (arith, has.task, has.whole.tasks_range.1))
+  task_few = (rates_few (record { whole = has.whole; counted = has.counted; numbered = refl }), omega (arith, has.task, has.whole.tasks_range.1))
 
   pub task_inside : energy_place Ordinary m t 1 + m ≤ length w
   task_inside =
@@ -84,14 +86,14 @@ module _ {w : List ℕ} {m t : ℕ} (has : OfTask Ordinary m t w) where
       → a ≡ first Ordinary w t → line_text p c e a ≡ task_text (line_of w t)
   line_same x y z f = rw (x, y, z, f, first_same, energy_form (line_of w t).energies some_energy) (simp append_assoc)
 
-module _ {w : List ℕ} {m n : ℕ} (has : WithTasks w m n) where
+module _ {w : List ℕ} {m n : ℕ} (has : OfCounts Ordinary m n w) where
   pub tasks-count : length (script_of w).tasks ≡ n
   unfolding script_of
-  tasks-count = omega (arith, each-length (line_of w) 0 (task_count Ordinary w), has.tasks)
+  tasks-count = omega (arith, each-length (line_of w) 0 (task_count Ordinary w), has.numbered)
 
   module _ (t : ℕ) (h : t < n) where
     pub task_of : OfTask Ordinary m t w
-    task_of = record { whole = has.list.whole; counted = has.list.rates; task = omega (arith, has.tasks) }
+    task_of = record { whole = has.whole; counted = has.counted; task = omega (arith, has.numbered) }
 
     pub line_is : get_or (script_of w).tasks t (line_of w t) ≡ line_of w t
     unfolding script_of
@@ -119,5 +121,12 @@ pub cut : (w : List ℕ) {g h : ℕ} {fs : List ℕ} → g ≡ slack w → h ≡
 unfolding script_of
 cut w x y z = rw (x, y, z) (forms w ∙ simp append_assoc)
 
-pub text_short : {w : List ℕ} {m : ℕ} → WithRates w m → length (script_text (script_of w)) < 6000
+pub text_short : {w : List ℕ} {m n : ℕ} → OfCounts Ordinary m n w → length (script_text (script_of w)) < 6000
 text_short {w} has = text_length (script_of w) (script_text (script_of w)) (record { script = script_of_list w has.whole; text = refl })
+
+-- What a set's list keeps, where it is the ordinary one.
+pub counts_of : (s : Listed) → OfCounts Ordinary s.set.rates s.set.tasks s.set.words.now
+counts_of s = subst (λ (l : Layout). OfCounts l s.set.rates s.set.tasks s.set.words.now) s.ordinary s.set.counts
+
+pub at_ordinary : (f : Layout → ℕ) (s : Listed) {k : ℕ} → k ≡ f s.set.layout → k ≡ f Ordinary
+at_ordinary f s e = e ∙ ap f s.ordinary

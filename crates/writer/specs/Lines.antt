@@ -1,22 +1,9 @@
 -- What the functions below the writer's call take and give. Not part of what a reader must believe: the call's own
 -- contract names none of it.
-use Rattle.std.specs.Prelude.{ℕ, ◌≡◌, List, [], ◌++◌}
+use Rattle.std.specs.Prelude.{ℕ, List, [], ◌++◌}
 use Rattle.std.proofs.Math.Option.{Option, none, some}
 use Rattle.numbers.specs.Numbers.{joined}
-use Rattle.layout.specs.Words.{rate_count, task_count}
-use Rattle.layout.specs.declared.Layout.TheVariants.{Ordinary}
-use Rattle.layout.specs.Whole.{IsWhole}
 use Rattle.text.specs.Text.{bytes, decimal, spaced}
-
--- A list that passes check 2, and its rate count.
-pub record WithRates (w : List ℕ) (m : ℕ) : Type 0 where
-  pub whole : IsWhole Ordinary w
-  pub rates : m ≡ rate_count Ordinary w
-
--- Its task count.
-pub record WithTasks (w : List ℕ) (m n : ℕ) : Type 0 where
-  pub list : WithRates w m
-  pub tasks : n ≡ task_count Ordinary w
 
 -- A form that may be absent: two strings, and a number between them.
 unfoldable pub optional_text : List ℕ → List ℕ → Option ℕ → List ℕ

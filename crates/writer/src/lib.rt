@@ -9,9 +9,9 @@ ghost use Rattle.text.specs.Text.{spaced, task_text, script_text, list_rates, sh
 ghost use Rattle.text.specs.Calls.{WriterGives};
 ghost use Rattle.printer.specs.Puts.{Put};
 ghost use Rattle.layout.specs.declared.Layout.TheVariants.{Ordinary};
-ghost use Rattle.checks.specs.Steps.{OfTask};
-ghost use Rattle.writer.specs.Lines.{WithRates, WithTasks, optional_text, slack_text, idle_line, rates_text};
+ghost use Rattle.writer.specs.Lines.{optional_text, slack_text, idle_line, rates_text};
 
+use checks::Set;
 use layout::Layout;
 use printer::{Buffer, Count, Sink};
 use taskset::{CopyAnswer, Refusal};
@@ -19,13 +19,11 @@ use taskset::{CopyAnswer, Refusal};
 // The least idle energy that has a line of its own, and the least first release that has a form.
 const LEAST_SHOWN: u64 = 1;
 
-// A list that passes checks 2 and 3, with its rate count and its task count.
+// The ordinary list of a set.
 #[derive(Clone, Copy)]
-struct Set<'a> {
-    words: &'a [u32],
-    rates: usize,
-    tasks: usize,
-    ghost counted: { WithTasks words.now rates tasks },
+struct Listed<'a> {
+    set: Set<'a>,
+    ghost ordinary: { set.layout ≡ Ordinary },
 }
 
 // A space and a number. (A function of its own: a byte string in a loop would be part of the loop's invariant.)
@@ -86,34 +84,34 @@ fn rates_line<S: Sink>(sink: &mut S, rates: &[u32])
     sink.put_bytes(b")\n");
 }
 
-impl Set<'_> {
+impl Listed<'_> {
     // Its rates, and the energies of the task at place t, as they stand in the words.
     fn rates(&self) -> &[u32]
-        ensures { result.now ≡ list_rates self.now.words.now }
+        ensures { result.now ≡ list_rates self.now.set.words.now }
     {
         let start = places::rate_place(Layout::Ordinary, 1);
-        let end = places::task_count_place(Layout::Ordinary, self.rates);
-        &self.words[start..end]
+        let end = places::task_count_place(Layout::Ordinary, self.set.rates);
+        &self.set.words[start..end]
     }
 
     fn energies(&self, t: usize) -> &[u32]
-        requires { t < self.now.tasks }
-        ensures { result.now ≡ (line_of self.now.words.now t).energies }
+        requires { t < self.now.set.tasks }
+        ensures { result.now ≡ (line_of self.now.set.words.now t).energies }
     {
-        let start = places::energy_place(Layout::Ordinary, self.rates, t, 1);
-        let end = start + self.rates;
-        &self.words[start..end]
+        let start = places::energy_place(Layout::Ordinary, self.set.rates, t, 1);
+        let end = start + self.set.rates;
+        &self.set.words[start..end]
     }
 
     // The line of the task at place t.
     fn task_line<S: Sink>(&self, sink: &mut S, t: usize)
-        requires has { t < self.now.tasks }
-        requires fits { S.fits sink.old (task_text (line_of self.now.words.now t)) }
-        ensures { S.takes sink.old (task_text (line_of self.now.words.now t)) sink.new }
+        requires has { t < self.now.set.tasks }
+        requires fits { S.fits sink.old (task_text (line_of self.now.set.words.now t)) }
+        ensures { S.takes sink.old (task_text (line_of self.now.set.words.now t)) sink.new }
     {
-        let period = u64::from(checks::period_of(self.words, Layout::Ordinary, self.rates, t));
-        let cycles = u64::from(checks::cycles_of(self.words, Layout::Ordinary, self.rates, t));
-        let first = u64::from(checks::first_of(self.words, Layout::Ordinary, self.rates, t));
+        let period = u64::from(self.set.period(t));
+        let cycles = u64::from(self.set.cycles(t));
+        let first = u64::from(self.set.first(t));
         let energies = self.energies(t);
         sink.put_field(b"(task (period ", period);
         sink.put_field(b") (cycles ", cycles);
@@ -126,45 +124,34 @@ impl Set<'_> {
 
     // The whole text.
     fn text<S: Sink>(&self, sink: &mut S)
-        requires { S.fits sink.old (script_text (script_of self.now.words.now)) }
-        ensures { S.takes sink.old (script_text (script_of self.now.words.now)) sink.new }
+        requires { S.fits sink.old (script_text (script_of self.now.set.words.now)) }
+        ensures { S.takes sink.old (script_text (script_of self.now.set.words.now)) sink.new }
     {
-        slack_line(sink, u64::from(checks::slack_of(self.words)));
-        idle_line(sink, u64::from(checks::idle_of(self.words)));
+        slack_line(sink, u64::from(self.set.slack()));
+        idle_line(sink, u64::from(self.set.idle()));
         rates_line(sink, self.rates());
-        for t in 0..self.tasks {
+        for t in 0..self.set.tasks {
             self.task_line(sink, t);
         }
     }
 }
 
-// How many bytes the text of a list of m rates and n tasks has.
-fn count_text(w: &[u32], m: usize, n: usize) -> usize
-    requires { WithTasks w.now m n }
-    ensures { result ≡ length (script_text (script_of w.now)) }
+// How many bytes the text has.
+fn count_text(listed: &Listed) -> usize
+    ensures { result ≡ length (script_text (script_of listed.now.set.words.now)) }
 {
-    let set = Set {
-        words: w,
-        rates: m,
-        tasks: n,
-    };
     let mut counter = Count { bytes: 0 };
-    set.text(&mut counter);
+    listed.text(&mut counter);
     counter.bytes
 }
 
 // The text to the front of a buffer.
-fn put_text(buf: &mut [u8], w: &[u32], m: usize, n: usize) -> usize
-    requires { WithTasks w.now m n × (length (script_text (script_of w.now)) ≤ length buf.old) }
-    ensures { Put (script_text (script_of w.now)) buf.old buf.new result }
+fn put_text(buf: &mut [u8], listed: &Listed) -> usize
+    requires { length (script_text (script_of listed.now.set.words.now)) ≤ length buf.old }
+    ensures { Put (script_text (script_of listed.now.set.words.now)) buf.old buf.new result }
 {
-    let set = Set {
-        words: w,
-        rates: m,
-        tasks: n,
-    };
     let mut lent = Buffer { all: buf, at: 0 };
-    set.text(&mut lent);
+    listed.text(&mut lent);
     lent.at
 }
 
@@ -173,9 +160,17 @@ pub fn write(set: &[u32], text: &mut [u8]) -> CopyAnswer
     ensures { WriterGives set.now text.old text.new result }
 {
     let counts = checks::check_words(set, Layout::Ordinary)?;
-    let needed = count_text(set, counts.rates, counts.tasks);
+    let listed = Listed {
+        set: Set {
+            words: set,
+            layout: Layout::Ordinary,
+            rates: counts.rates,
+            tasks: counts.tasks,
+        },
+    };
+    let needed = count_text(&listed);
     if text.len() < needed {
         return Err(Refusal::TooShort(needed));
     }
-    Ok(put_text(text, set, counts.rates, counts.tasks))
+    Ok(put_text(text, &listed))
 }

@@ -3,8 +3,8 @@
 use Rattle.exhaustive.proofs.Chosen.{all_posed, some_best, all_chosen}
 use Rattle.exhaustive.proofs.best_at.Goals as goal
 
-pub best_plan-requires : goal.best_plan-requires
-best_plan-requires c = (all_posed c.requires _ c.round_up.ensures, c.requires.plans_are)
+pub invariant_of-options : goal.invariant_of-options
+invariant_of-options c = record { posed = all_posed c.requires _ c.round_up.ensures }
 
 pub unwrap-requires : goal.unwrap-requires
 unwrap-requires c = some_best c.requires c.args.unit.exponent c.round_up.ensures _ c.best_plan.ensures

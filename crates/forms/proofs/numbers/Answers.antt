@@ -11,10 +11,10 @@ use Rattle.forms.proofs.Gives.{refuses, handed}
 use Rattle.forms.proofs.Lists.{alone, none_yet, one_more, refused, stopped, full, plainly}
 use Rattle.lists.proofs.Stores.{stored-alone}
 use Rattle.forms.proofs.numbers.Goals as goal
-use Rattle.forms.proofs.numbers.Goals.{After-spaced, then-low-n+in-Space, else-low-n}
+use Rattle.forms.proofs.numbers.Goals.{After-field, then-low-n+in-Space, else-low-n}
 
 -- Behind those that must be there a space begins the next number.
-starting : (c : After-spaced) → let x = c.loop-n.text in c.args.low ≤ c.loop-n.n → starts 32 (drop x.at x.text.now) ≡ true
+starting : (c : After-field) → let x = c.loop-n.text in c.args.low ≤ c.loop-n.n → starts 32 (drop x.at x.text.now) ≡ true
 starting c l =
     elim c.if-low-n.branch [
       | then-low-n+in-Space w ↦ there _ _ 32 32 w.in-Space.ensures.inside (omega (arith, w.in-Space.ensures))
@@ -31,11 +31,11 @@ returns-in_default c =
 
 pub returns-in_err-out : goal.returns-in_err-out
 returns-in_err-out c = handed _ _ _ _ c.from_residual.ensures.1
-    (refuses _ _ _ (refused c.loop-n.invariant (omega arith) (starting (goal.at.returns-in_err-out c).After-spaced) c.in_err-out.ensures))
+    (refuses _ _ _ (refused c.loop-n.invariant (omega arith) (starting (goal.at.returns-in_err-out c).After-field) c.in_err-out.ensures))
 
 pub loop-n-preserved : goal.loop-n-preserved
 loop-n-preserved c =
-    one_more c.loop-n.invariant (omega arith) (starting (goal.at.loop-n-preserved c).After-spaced) _ _ c.in_ok-out.ensures refl
+    one_more c.loop-n.invariant (omega arith) (starting (goal.at.loop-n-preserved c).After-field) _ _ c.in_ok-out.ensures refl
     (omega arith) (length-set _ _ _) (rw mul-one (stored-alone (alone _) _ _ (omega arith)))
 
 pub returns : goal.returns

@@ -14,14 +14,14 @@ use Rattle.forms.proofs.Gives.{refuses, handed, told}
 use Rattle.forms.proofs.Lists.{none_yet, one_more, refused, stopped, full}
 use Rattle.forms.proofs.Words.{few_rates, task-words}
 use Rattle.forms.proofs.tasks.Goals as goal
-use Rattle.forms.proofs.tasks.Goals.{After-task, then-n-gt0+else-not-opens, else-n-gt0}
+use Rattle.forms.proofs.tasks.Goals.{After-task, else-n-gt0-via-then-n-gt0+else-not-opens, else-n-gt0-via-else-n-gt0}
 
 -- Behind the first an opening bracket begins the next task.
 starting : (c : After-task) → let x = c.loop-n.text in 1 ≤ c.loop-n.n → starts 40 (drop x.at x.text.now) ≡ true
 starting c l =
-    elim c.if-n-gt0.branch [
-      | then-n-gt0+else-not-opens w ↦ sym w.opens.ensures ∙ w.if-not-opens.false
-      | else-n-gt0 w ↦ absurd (omega (arith, w.if-n-gt0.false))
+    elim c.else-n-gt0.branch [
+      | else-n-gt0-via-then-n-gt0+else-not-opens w ↦ sym w.opens.ensures ∙ w.if-not-opens.false
+      | else-n-gt0-via-else-n-gt0 w ↦ absurd (omega (arith, w.if-n-gt0.false))
     ]
 
 pub loop-n-init : goal.loop-n-init

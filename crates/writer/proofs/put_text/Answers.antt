@@ -5,7 +5,7 @@ use Rattle.printer.proofs.Puts.{from_front, front}
 use Rattle.writer.proofs.put_text.Goals as goal
 
 pub text-requires : goal.text-requires
-text-requires c = from_front refl c.requires.1
+text-requires c = from_front refl c.requires
 
 pub returns : goal.returns
 returns c = front (search rules) c.text.ensures.added

@@ -10,16 +10,15 @@ returns-in_err-counts c = let a = c.args in
     let p = err_from_is_err_and c.from_residual.result c.from_residual.ensures.1 in
     rw (p.1, p.2) (set_refused a.set.now a.text.now _ c.in_err-counts.ensures)
 
-pub count_text-needed-requires : goal.count_text-needed-requires
-count_text-needed-requires c = counted _ _ _ c.in_ok-counts.ensures
+pub invariant_of-listed : goal.invariant_of-listed
+invariant_of-listed c = record { counts = counted _ _ _ c.in_ok-counts.ensures }
 
 pub returns-then-text-needed : goal.returns-then-text-needed
 returns-then-text-needed c =
     too_short _ c.args.text.now _ _ c.in_ok-counts.ensures _ c.count_text-needed.ensures c.if-text-needed.true
 
 pub put_text-requires : goal.put_text-requires
-put_text-requires c =
-    (counted _ _ _ c.in_ok-counts.ensures, omega (arith, c.count_text-needed.ensures, c.if-text-needed.false))
+put_text-requires c = omega (arith, c.count_text-needed.ensures, c.if-text-needed.false)
 
 pub returns : goal.returns
 returns c =

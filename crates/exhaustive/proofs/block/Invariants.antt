@@ -1,9 +1,0 @@
--- The invariant: what was kept is the best of the plans before the one with rate r for task 1.
--- Assumes nothing.
-use Prim.Native.Nat.{◌+◌, ◌-◌, ◌≤◌}
-use Rattle.engine.specs.Arrays.{arrays}
-use Rattle.exhaustive.specs.Engine.{Seen}
-use Rattle.exhaustive.proofs.block.Given as goal
-
-abbrev pub invariant-loop-r : goal.invariant-loop-r
-invariant-loop-r l = Seen (arrays l.q l.loads l.cost) (l.rank + (l.r - 1)) l.best × (l.r ≤ l.q.rates + 1)
