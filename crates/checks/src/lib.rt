@@ -215,22 +215,3 @@ pub fn first_of(s: &[u32], layout: Layout, m: usize, t: usize) -> u32
     let at = places::first_place(layout, m, t);
     s[at]
 }
-
-// The rate with rate number r, which counts from 1, of a set of m rates that has a task at place t.
-fn rate_of(s: &[u32], layout: Layout, m: usize, t: usize, r: usize) -> u32
-    requires { OfTask layout m t s.now × (1 ≤ r) × (r ≤ m) }
-    ensures { result ≡ rate layout s.now r }
-{
-    let at = places::rate_place(layout, r);
-    s[at]
-}
-
-// The job time of the task at place t at rate number r.
-pub fn job_time(s: &[u32], layout: Layout, m: usize, t: usize, r: usize) -> u32
-    requires { OfTask layout m t s.now × (1 ≤ r) × (r ≤ m) }
-    ensures { result ≡ job_time layout s.now t r }
-{
-    let c = cycles_of(s, layout, m, t);
-    let f = rate_of(s, layout, m, t, r);
-    figures::job_ticks(c, f)
-}

@@ -42,12 +42,6 @@ pub planned-requires : goal.planned-requires
 planned-requires c = let p = goal.at.planned-requires c in
     sum_fits (prepared p.Start) (poses p.In_ok-q) c.choose-c.ensures
 
-pub shape_of-plan : goal.shape_of-plan
-shape_of-plan c = c.choose-c.ensures.chosen.plan_size
-
-pub shape_of-work : goal.shape_of-work
-shape_of-work c = c.choose-c.ensures.work_size
-
 pub returns : goal.returns
 returns c = let p = goal.at.returns c in
     subst (PlannerCall _ _ _ _ _ _) c.planned.ensures
