@@ -4,4 +4,4 @@ use Rattle.walk.specs.Steps.{Holds}
 use Rattle.walk.proofs.tasks_of.Given as goal
 
 abbrev pub invariant-loop-t : goal.invariant-loop-t
-invariant-loop-t l = Holds l.set.words.now l.plan l.t l.tasks
+invariant-loop-t l = Holds l.fn.set l.plan l.t l.tasks
