@@ -7,23 +7,29 @@ use mathlib.Core.List.{List, [], ◌∷◌}
 use native.Mathlib.Omega.{arith}
 use Rattle.layout.specs.Words.{task_count}
 use Rattle.layout.specs.declared.Layout.{Layout}
-use Rattle.layout.specs.Whole.{IsWhole}
 use Rattle.layout.proofs.Whole.{whole_of}
 use Rattle.taskset.specs.Refusals.{number, second, Check, Passes, Accepts}
 use Rattle.taskset.specs.Refusals.{◌▹◌, idle_checks, hyper_check, room_check}
 use Rattle.taskset.specs.Calls.{SetAfter}
 use Rattle.taskset.specs.declared.Refusal.{Refusal}
 use Rattle.taskset.specs.declared.Refusal.TheVariants.{TooShort}
-use Rattle.checks.specs.Steps.{PassedAfter}
-use Rattle.options.specs.Posed.{SetPassed}
+use Rattle.checks.specs.Steps.{OfCounts, PassedAfter}
 use Rattle.taskset.proofs.Checks.{no_word_fault, accepts_next, refuses_next, refuses_back, refuses_before, passed}
 use Rattle.taskset.specs.declared.Measured.{Measured}
 
-module _ {layout : Layout} {s : List ℕ} {p : Measured} (passed-set : SetPassed layout s p) where
-  pub whole : IsWhole layout s
+-- A set that passes checks 2, 3, 10 and 4: what the checks answered.
+pub record SetPassed (layout : Layout) (s : List ℕ) (p : Measured) : Type 0 where
+  pub after : SetAfter (idle_checks layout s ▹ hyper_check layout s) layout s (Ok p)
+
+-- Its counts are the list's own.
+pub counts_of : {layout : Layout} {s : List ℕ} {p : Measured} → SetPassed layout s p → OfCounts layout p.rates p.tasks s
+counts_of {layout} {s} passed-set = record {
   whole =
       whole_of layout s
-      (no_word_fault layout s (passed 2 (idle_checks layout s ▹ hyper_check layout s) refl passed-set.after.0))
+      (no_word_fault layout s (passed 2 (idle_checks layout s ▹ hyper_check layout s) refl passed-set.after.0));
+  counted = passed-set.after.1;
+  numbered = passed-set.after.2;
+}
 
 module _ (layout : Layout) (s : List ℕ) (c : Check) (planLength : ℕ) where
   abbrev set : List Check

@@ -6,25 +6,18 @@ use Rattle.selection.specs.Same.{Same}
 use Rattle.layout.specs.declared.Layout.{Layout}
 use Rattle.taskset.specs.Quantities.{hyper_period}
 use Rattle.taskset.specs.Planning.{Planning}
-use Rattle.taskset.specs.Refusals.{◌▹◌, idle_checks, hyper_check}
-use Rattle.taskset.specs.Calls.{SetAfter}
 use Rattle.taskset.specs.Sets.{IsSet}
 use Rattle.taskset.specs.Sets.{Covered}
 use Rattle.engine.specs.Arrays.{load_bound, energy_bound, arrays, Asked, Small}
 use Rattle.engine.specs.declared.Request.{Request}
 use Rattle.taskset.specs.declared.Refusal.{Refusal}
 use Rattle.taskset.specs.declared.Refusal.TheVariants.{NoPlan}
-use Rattle.taskset.specs.declared.Measured.{Measured}
 
 -- A set that passes checks 2, 3, 10 and 4, with its hyper-period.
 pub record SetGiven (layout : Layout) (s : List ℕ) (l : ℕ) : Type 0 where
   pub set : IsSet layout s
   pub covered : Covered layout s
   pub hyper : l ≡ hyper_period layout s
-
--- It has passed them: what the checks answered.
-pub record SetPassed (layout : Layout) (s : List ℕ) (p : Measured) : Type 0 where
-  pub after : SetAfter (idle_checks layout s ▹ hyper_check layout s) layout s (Ok p)
 
 -- The request and the arrays give the planning's own problem, with its slack; and a plan fits.
 pub record Poses (m : Planning) (loads energies : List ℕ) (q : Request) : Type 0 where

@@ -9,38 +9,17 @@ use lib.ListN.{length}
 use Rattle.numbers.proofs.Tests.{lt_or_le}
 use Rattle.selection.specs.Plan.{work_words, most_plans}
 use Rattle.engine.specs.declared.Request.{Request}
-use Rattle.layout.specs.Words.{most_tasks, slack_place, slack, rate_count, task_count}
-use Rattle.layout.specs.declared.Layout.{Layout}
+use Rattle.layout.specs.Words.{rate_count, task_count}
 use Rattle.layout.specs.declared.Layout.TheVariants.{Ordinary}
-use Rattle.layout.proofs.Whole.{slack_in}
 use Rattle.taskset.specs.Planning.{planning, layout_of, work_of}
 use Rattle.taskset.specs.Refusals.{Accepts, ready_checks}
 use Rattle.taskset.specs.declared.Engine.{Engine}
 use Rattle.taskset.specs.declared.Engine.TheVariants.{Table, Exhaustive}
 use Rattle.taskset.specs.Sets.{IsSet}
 use Rattle.taskset.proofs.Checks.{passed}
-use Rattle.options.specs.Posed.{SetPassed, Poses}
-use Rattle.options.proofs.Enough.{whole}
+use Rattle.options.specs.Posed.{Poses}
 use Rattle.options.proofs.Planning.{long_enough, engine_ready}
 use Rattle.planner.specs.Engines.{Asks, clears, EngineAsked}
-use Rattle.taskset.specs.declared.Measured.{Measured}
-
--- ---- the check that is an engine's own, of a set that has passed those before it
-module _ {layout : Layout} {s : List ℕ} {p : Measured} (counted : SetPassed layout s p) where
-  pub some_words : slack_place < length s
-  some_words = omega (arith, (whole counted).size)
-
-  pub tasks_few : p.tasks ≤ most_tasks
-  tasks_few = omega (arith, counted.after.2, (whole counted).tasks_range.1)
-
-  pub slack_positive : 1 ≤ slack s
-  slack_positive = (slack_in layout s (whole counted)).0
-
-  pub rates_range : (1 ≤ p.rates) × (p.rates ≤ 8)
-  rates_range = (
-    omega (arith, counted.after.1, (whole counted).rates_range.0),
-    omega (arith, counted.after.1, (whole counted).rates_range.1),
-  )
 
 -- ---- what an engine asks, of a request for a list that has passed the checks before 7
 own_asks : (e : Engine) (s : List ℕ) (planLength : ℕ) (work : List ℕ) → Accepts (ready_checks e s planLength (length work))

@@ -9,7 +9,6 @@ ghost use Rattle.taskset.specs.Planning.{layout_of};
 ghost use Rattle.taskset.specs.Refusals.{engine_check, ready_checks};
 ghost use Rattle.taskset.specs.Calls.{SetAfter};
 ghost use Rattle.checks.specs.Steps.{PassedAfter};
-ghost use Rattle.options.specs.Posed.{SetPassed};
 ghost use Rattle.planner.specs.Answers.{PlannerCall};
 ghost use Rattle.planner.specs.Engines.{EngineAsked, EngineChose};
 
@@ -38,25 +37,20 @@ fn work_needed(n: usize, g: u32) -> usize
 }
 
 // Check 5, or 11, of a set that has passed 2, 3, 10 and 4.
-fn own_check(
-    set: &[u32],
-    engine: Engine,
-    measured: Measured,
-    work_len: usize,
-) -> Result<(), Refusal>
-    requires { SetPassed (layout_of engine) set.now measured }
-    ensures { PassedAfter (engine_check engine set.now work_len ∷ []) result }
+fn own_check(set: &Set, engine: Engine, work_len: usize) -> Result<(), Refusal>
+    requires { set.now.layout ≡ layout_of engine }
+    ensures { PassedAfter (engine_check engine set.now.words.now work_len ∷ []) result }
 {
     match engine {
         Engine::Table(_) => {
-            let w = work_needed(measured.tasks, checks::slack_of(set));
+            let w = work_needed(set.tasks, set.slack());
             if work_len < w {
                 return Err(Refusal::WorkShort(w));
             }
             Ok(())
         }
         Engine::Exhaustive => {
-            let plans = exhaustive::plan_count(measured.rates, measured.tasks);
+            let plans = exhaustive::plan_count(set.rates, set.tasks);
             let is_many = exhaustive::MOST_PLANS < plans;
             if is_many {
                 return Err(Refusal::TooManyPlans);
@@ -71,8 +65,15 @@ fn own_check(
 pub fn ready(set: &[u32], engine: Engine, plan_len: usize, work_len: usize) -> Checked
     ensures { SetAfter (ready_checks engine set.now plan_len work_len) (layout_of engine) set.now result }
 {
-    let measured = checks::check_covered(set, layout_of(engine))?;
-    own_check(set, engine, measured, work_len)?;
+    let layout = layout_of(engine);
+    let measured = checks::check_covered(set, layout)?;
+    let set = Set {
+        words: set,
+        layout,
+        rates: measured.rates,
+        tasks: measured.tasks,
+    };
+    own_check(&set, engine, work_len)?;
     if plan_len < measured.tasks {
         return Err(Refusal::TooShort(measured.tasks));
     }
