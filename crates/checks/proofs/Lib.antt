@@ -1,4 +1,3 @@
 pub mod Fronts
 pub mod Following
 pub mod Judging
-pub mod Access

@@ -1,5 +1,6 @@
-// The checks of a task set in code, and the readers of its words and quantities. What each says is defined in
-// `taskset`; what stands where in a list, and what each word may be, is left to layout, and in code to places.
+// The checks of a task set in code, and of one that has passed check 2 the readers of its words and quantities, which
+// are in a file of their own. What each says is defined in `taskset`; what stands where in a list, and what each word may
+// be, is left to layout, and in code to places.
 #![tactic(auto)]
 
 ghost use Rattle.std.specs.Prelude.{◌≡◌, [], ◌∷◌, ◌+◌, ◌*◌, ◌<◌, ◌≤◌, length};
@@ -10,7 +11,7 @@ ghost use Rattle.taskset.specs.Quantities.{job_time};
 ghost use Rattle.taskset.specs.Refusals.{◌▹◌, word_check, rate_check, word_checks, idle_check, idle_checks, hyper_check};
 ghost use Rattle.taskset.specs.Calls.{CountsAfter, SetAfter};
 ghost use Rattle.taskset.specs.Sets.{Below};
-ghost use Rattle.checks.specs.Steps.{WordAfter, FrontAfter, FrontPassed, OfTask, FoundIn, PassedAfter};
+ghost use Rattle.checks.specs.Steps.{WordAfter, FrontAfter, FrontPassed, FoundIn, PassedAfter};
 
 mod set;
 
@@ -171,47 +172,4 @@ pub fn check_covered(s: &[u32], layout: Layout) -> Checked
     };
     check_idle(&set)?;
     check_hyper(&set)
-}
-
-// The slack.
-pub fn slack_of(s: &[u32]) -> u32
-    requires { 0 < length s.now }
-    ensures { result ≡ slack s.now }
-{
-    s[places::SLACK_PLACE]
-}
-
-// The idle energy of a tick.
-pub fn idle_of(s: &[u32]) -> u32
-    requires { idle_place < length s.now }
-    ensures { result ≡ idle s.now }
-{
-    s[places::IDLE_PLACE]
-}
-
-// The period of the task at place t of a set.
-pub fn period_of(s: &[u32], layout: Layout, m: usize, t: usize) -> u32
-    requires { OfTask layout m t s.now }
-    ensures { result ≡ period layout s.now t }
-{
-    let at = places::period_place(layout, m, t);
-    s[at]
-}
-
-// The cycles of one job of the task at place t.
-pub fn cycles_of(s: &[u32], layout: Layout, m: usize, t: usize) -> u32
-    requires { OfTask layout m t s.now }
-    ensures { result ≡ cycles layout s.now t }
-{
-    let at = places::cycles_place(layout, m, t);
-    s[at]
-}
-
-// The first release of the task at place t.
-pub fn first_of(s: &[u32], layout: Layout, m: usize, t: usize) -> u32
-    requires { OfTask layout m t s.now }
-    ensures { result ≡ first layout s.now t }
-{
-    let at = places::first_place(layout, m, t);
-    s[at]
 }

@@ -12,17 +12,24 @@ use Rattle.numbers.proofs.Lists.{each-length, each_at}
 use Rattle.layout.specs.Words.{head_size, most_rates, most_tasks, word, slack, idle, rate_count, task_count}
 use Rattle.layout.specs.Words.{rate_place, task_count_place, task_size, energy_place, rate, first, energy}
 use Rattle.layout.specs.declared.Layout.TheVariants.{Ordinary}
+use Rattle.layout.specs.Whole.{IsWhole}
 use Rattle.layout.proofs.Whole.{in_list}
 use Rattle.text.specs.Text.{bytes, decimal, spaced, first_text, task_text, idle_text, clock_text, script_text, list_rates}
 use Rattle.text.specs.Text.{shown, line_of, script_of}
 use Rattle.text.proofs.Grammar.{energy_form}
 use Rattle.text.proofs.Sizes.{text_length}
 use Rattle.text.proofs.RoundTrip.{script_of_list}
-use Rattle.checks.specs.Steps.{OfTask, OfCounts}
+use Rattle.checks.specs.Steps.{OfCounts}
 use Rattle.writer.specs.Lines.{optional_text, slack_text, idle_line, rates_text}
 use Rattle.writer.proofs.Rows.{part}
 use Rattle.layout.specs.declared.Layout.{Layout}
 use Rattle.writer.specs.declared.Listed.{Listed}
+
+-- The task at place t of a list that passes check 2 and has m rates.
+pub record OfTask (layout : Layout) (m t : ℕ) (s : List ℕ) : Type 0 where
+  pub whole : IsWhole layout s
+  pub counted : m ≡ rate_count layout s
+  pub task : t < task_count layout s
 
 -- ---- the words of a list that passes check 2
 module _ {w : List ℕ} {m n : ℕ} (has : OfCounts Ordinary m n w) where
