@@ -2,7 +2,7 @@
 -- the call's answer.
 -- Assumes nothing.
 use Rattle.std.specs.Prelude.{Ok, Err}
-use Prim.Native.Nat.{ℕ, ◌+◌, ◌*◌, ◌≤◌, ◌<◌}
+use Prim.Native.Nat.{ℕ, ◌*◌, ◌≤◌, ◌<◌}
 use mathlib.Core.Path.{◌≡◌, refl, sym, ap, ◌∙◌}
 use mathlib.Core.Bool.{Bool, cond}
 use mathlib.Core.List.{List}
@@ -14,7 +14,7 @@ use Rattle.schedule.specs.Walk.{Task, offset, tasks_from}
 use Rattle.schedule.specs.Counted.{walk}
 use Rattle.schedule.proofs.ByPlace.{same_tasks}
 use Rattle.selection.specs.Plan.{IsPlan}
-use Rattle.layout.specs.Words.{rate_count, task_count, period, first}
+use Rattle.layout.specs.Words.{task_count, period, first}
 use Rattle.layout.specs.declared.Layout.TheVariants.{Ordinary}
 use Rattle.taskset.specs.Quantities.{hyper_limit, all_zero, job_time, problem_of, walk_tasks, last_tick}
 use Rattle.taskset.specs.Refusals.{number, second, IsBadPlan, Check, ◌▹◌, word_checks, hyper_check, plan_check, walk_checks}

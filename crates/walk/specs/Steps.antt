@@ -1,5 +1,5 @@
 -- What the functions below the walk's call take and give. Not part of what a reader must believe.
-use Rattle.std.specs.Prelude.{ℕ, ◌+◌, ◌*◌, ◌^◌, ◌≤◌, ◌<◌, ◌≡◌, Result, Ok, Err, List, length, get_or}
+use Rattle.std.specs.Prelude.{ℕ, ◌≤◌, ◌<◌, ◌≡◌, Result, Ok, Err, List, length, get_or}
 use Rattle.layout.specs.Words.{most_tasks, rate_count, task_count, period, first}
 use Rattle.layout.specs.declared.Layout.TheVariants.{Ordinary}
 use Rattle.taskset.specs.Quantities.{job_time}

@@ -2,13 +2,8 @@ use Prim.Native.Nat.{ℕ, ◌<◌}
 use Rattle.ticks.specs.Arrays.{timing_at}
 use mathlib.Core.Path.{◌≡◌, refl, sym, ◌∙◌}
 use mathlib.Core.Bool.{Bool, true, false, true≢false}
-use mathlib.Core.List.{List}
 use mathlib.Core.Logic.{◌↔◌, ⊎_elim}
-use native.Mathlib.Omega.{arith}
-use lib.ListN.{length, get_or, take}
-use lib.Seq.{length-take-le}
-use Rattle.std.specs.Prelude.{IsTrue, EachIndex, slice_index}
-use Rattle.std.proofs.lemmas.List.{get_or-take}
+use Rattle.std.specs.Prelude.{IsTrue}
 use Rattle.numbers.proofs.Tests.{bool_cases}
 use Rattle.taskset.specs.Quantities.{all_zero}
 use Rattle.taskset.proofs.Released.{all-zero, zero-each}

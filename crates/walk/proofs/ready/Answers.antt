@@ -1,9 +1,5 @@
 -- The checks in their order.
 -- Assumes nothing.
-use Prim.Native.Nat.{ℕ}
-use mathlib.Core.Path.{subst}
-use mathlib.Core.List.{List}
-use Rattle.walk.specs.Steps.{PlanAnswers}
 use Rattle.walk.proofs.Calls.{plan_refused, plan_sound}
 use Rattle.walk.proofs.ready.Goals as goal
 
