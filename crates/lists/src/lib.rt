@@ -4,13 +4,13 @@
 
 ghost use Rattle.std.specs.Prelude.{◌≡◌, ℕ, ◌+◌, ◌≤◌, length};
 ghost use Rattle.numbers.specs.Numbers.{each};
-ghost use Rattle.lists.specs.Writing.{written};
+ghost use Rattle.lists.specs.Writing.{written, Gives};
 
 // The words that f gives for 1, 2 and so on, count of them, to the list from a place on.
 pub fn put_each<F: Fn(usize) -> u32>(list: &mut [u32], at: usize, count: usize, f: F)
     requires room { at + count ≤ length list.old }
     requires callable { (j : ℕ) → 1 ≤ j → j ≤ count → F.pre f j }
-    ensures { (word : ℕ → ℕ) → ((j r : ℕ) → 1 ≤ j → j ≤ count → F.post f j r → r ≡ word j) → list.new ≡ written at (each word 1 count) list.old }
+    ensures { (word : ℕ → ℕ) → Gives (F.post f) word count → list.new ≡ written at (each word 1 count) list.old }
 {
     for (i, slot) in list[at..at + count].iter_mut().enumerate() {
         *slot = f(1 + i);
