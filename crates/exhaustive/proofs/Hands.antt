@@ -219,7 +219,7 @@ module _ (options : List ℕ) (t : ℕ) where
       omega (arith, ones_turn few e, sum_low bound options (replicate 32 1) (t + 1) small (omega arith))
 
 module _ (q : Request) where
-  pub ones_rank : q.tasks ≤ 32 → rank q.rates q.tasks (replicate 32 1) ≡ 0
+  ones_rank : q.tasks ≤ 32 → rank q.rates q.tasks (replicate 32 1) ≡ 0
   ones_rank few =
       omega (
         arith,
@@ -241,11 +241,11 @@ module _ (q : Request) where
     cost_is = c;
   }
 
-  pub going_start : {loads cost P : List ℕ} {s : Sums} → InHand q loads cost P s → rank q.rates q.tasks P ≡ 0
-      → Going q loads cost P s 0 None
-  going_start {loads} {cost} h first = record {
+  pub going_start : {loads cost : List ℕ} {s : Sums} → ArraysReady q loads cost
+      → InHand q loads cost (replicate 32 1) s → Going q loads cost (replicate 32 1) s 0 None
+  going_start {loads} {cost} g h = record {
     hand = h;
-    place = λ l. first;
+    place = λ l. ones_rank g.tasks.1;
     seen = seen_none (arrays q loads cost);
   }
 

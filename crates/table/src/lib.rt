@@ -1,7 +1,7 @@
 // The table that finds the plan, over arrays of costs and loads: which costs these are, and which way is taken through
 // it, are left to others. Options stand by task and rate number: the one of the task at place t with rate number r at
 // t * 16 + r, so that no number is shifted by one and a place is found without a product. Loads are cut at cap, which
-// stands for 'none', so that every sum of two words fits.
+// stands for 'none', so that every sum of two words fits; no Option, since the table is the words that the caller lends.
 #![tactic(auto)]
 
 ghost use Rattle.std.specs.Prelude.{◌≡◌, ◌+◌, ◌≤◌, length};

@@ -8,18 +8,18 @@ use Rattle.exhaustive.proofs.Options.advance.Goals as goal
 pub loop-t-init : goal.loop-t-init
 loop-t-init c = carry_start c.args.self.posed c.requires
 
-pub change-hand-requires : goal.change-hand-requires
-change-hand-requires c = change_ready c.args.self.posed c.loop-t.invariant.hand c.loop-t.t (get_or c.loop-t.hand.plan c.loop-t.t 0 + 1)
+pub change-requires : goal.change-requires
+change-requires c = change_ready c.args.self.posed c.loop-t.invariant.hand c.loop-t.t (get_or c.loop-t.hand c.loop-t.t 0 + 1)
     c.loop-t-test.true (omega arith) (omega arith) refl (omega arith)
 
 pub returns-then-r-self : goal.returns-then-r-self
 returns-then-r-self c = carry_raise c.args.self.posed c.loop-t.invariant c.loop-t-test.true refl
-    c.change-hand.ensures _ refl (omega arith) (omega arith)
+    c.change.ensures _ refl (omega arith) (omega arith)
 
-pub change-hand-requires-in-loop-t : goal.change-hand-requires-in-loop-t
-change-hand-requires-in-loop-t c = change_ready c.args.self.posed c.loop-t.invariant.hand c.loop-t.t 1
+pub change-sums-requires : goal.change-sums-requires
+change-sums-requires c = change_ready c.args.self.posed c.loop-t.invariant.hand c.loop-t.t 1
     c.loop-t-test.true (omega arith) c.args.self.posed.rates.0 refl refl
 
 pub loop-t-preserved : goal.loop-t-preserved
 loop-t-preserved c = carry_turn c.args.self.posed c.loop-t.invariant c.loop-t-test.true refl
-    c.change-hand-in-loop-t.ensures (omega arith) refl
+    c.change-sums.ensures (omega arith) refl

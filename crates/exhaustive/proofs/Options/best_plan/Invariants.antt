@@ -4,4 +4,4 @@ use Rattle.exhaustive.proofs.Hands.{Going}
 use Rattle.exhaustive.proofs.Options.best_plan.Given as goal
 
 abbrev pub invariant-loop-rank : goal.invariant-loop-rank
-invariant-loop-rank l = Going l.self.q l.self.loads.now l.self.cost.now l.hand.plan l.hand.sums l.rank l.best
+invariant-loop-rank l = Going l.self.q l.self.loads.now l.self.cost.now l.hand l.s l.rank l.best

@@ -3,8 +3,8 @@ use mathlib.Core.Path.{◌≡◌, sym}
 use native.Mathlib.Omega.{arith}
 use Rattle.numbers.proofs.Sums.{total-none}
 use Rattle.engine.specs.Arrays.{load_bound, energy_bound}
-use Rattle.exhaustive.proofs.Hands.{ones_low, ones_turn, ones_hand, ones_rank}
-use Rattle.exhaustive.proofs.Options.first.Goals as goal
+use Rattle.exhaustive.proofs.Hands.{ones_low, ones_turn, ones_hand}
+use Rattle.exhaustive.proofs.Options.first_sums.Goals as goal
 
 pub loop-t-init : goal.loop-t-init
 loop-t-init c = (sym (total-none _ _), sym (total-none _ _))
@@ -25,4 +25,4 @@ loop-t-preserved c = let few : c.loop-t.t < 32 = omega arith in (
 
 pub returns : goal.returns
 returns c = let e : c.loop-t.t ≡ c.args.self.q.tasks = omega arith in
-    (ones_hand c.args.self.q c.args.self.posed (rw (← e) c.loop-t.invariant.0) (rw (← e) c.loop-t.invariant.1), ones_rank c.args.self.q c.args.self.posed.tasks.1)
+    ones_hand c.args.self.q c.args.self.posed (rw (← e) c.loop-t.invariant.0) (rw (← e) c.loop-t.invariant.1)
