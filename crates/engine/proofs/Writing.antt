@@ -1,38 +1,11 @@
--- Words written one place a turn, from lo up: before the first, one further, and up to an end; zeros; and lists with
--- the same words from a place on.
+-- Zeros; and lists with the same words from a place on.
 -- Assumes nothing.
-use mathlib.Core.Path.{◌≡◌, refl, sym, ◌∙◌, subst}
+use mathlib.Core.Path.{◌≡◌, refl, sym, ◌∙◌}
 use mathlib.Core.List.{List}
-use mathlib.Core.Logic.{◌⊎◌, ⊎_elim}
-use Prim.Native.Nat.{ℕ, zero, suc, ◌+◌, ◌≤◌, ◌<◌}
-use native.Mathlib.Nat.{eq-or-lt_of_le}
+use Prim.Native.Nat.{ℕ, zero, suc, ◌+◌, ◌≤◌}
 use native.Mathlib.Omega.{arith}
-use lib.ListN.{length, get_or, set, drop, replicate, length-set, length-drop}
-use lib.Seq.{ext_get_or, get_or-drop, get_or-set_same, get_or-set_other}
-use Rattle.engine.specs.Arrays.{Written}
-
-pub written_none : (f : ℕ → ℕ) (lo : ℕ) (d : List ℕ) → Written f lo lo d d
-written_none f lo d = record { same = refl; here = λ p a b. absurd (omega arith); below = λ p a. refl; above = λ p a. refl }
-
-module _ {f : ℕ → ℕ} {lo hi : ℕ} {d₀ d : List ℕ} (w : Written f lo hi d₀ d) (v : ℕ) where
-  pub written-more : v ≡ f hi → lo ≤ hi → hi < length d → Written f lo (hi + 1) d₀ (set d hi v)
-  written-more e l h =
-      record {
-        same = length-set d hi v ∙ w.same;
-        here = λ p a b. ⊎_elim
-            (λ (q : p ≡ hi). rw q (get_or-set_same d hi v 0 h ∙ e))
-            (λ (q : p < hi). get_or-set_other d hi p v 0 (omega arith) ∙ w.here p a q)
-            (split p b);
-        below = λ p a. get_or-set_other d hi p v 0 (omega arith) ∙ w.below p a;
-        above = λ p a. get_or-set_other d hi p v 0 (omega arith) ∙ w.above p (omega arith);
-      }
-    where
-      split : (p : ℕ) → p < hi + 1 → (p ≡ hi) ⊎ (p < hi)
-      split p b = eq-or-lt_of_le (omega arith)
-
--- The same up to an end that equals hi.
-pub written_to : {f : ℕ → ℕ} {lo hi : ℕ} {d₀ d : List ℕ} (k : ℕ) → hi ≡ k → Written f lo hi d₀ d → Written f lo k d₀ d
-written_to {f} {lo} {hi} {d₀} {d} k e w = subst (λ (k : ℕ). Written f lo k d₀ d) e w
+use lib.ListN.{length, get_or, drop, replicate, length-drop}
+use lib.Seq.{ext_get_or, get_or-drop}
 
 pub zeros_at : (n k : ℕ) → get_or (replicate {A = ℕ} n 0) k 0 ≡ 0
 zeros_at zero k = refl
