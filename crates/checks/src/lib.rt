@@ -3,11 +3,7 @@
 // be, is left to layout, and in code to places.
 #![tactic(auto)]
 
-ghost use Rattle.std.specs.Prelude.{◌≡◌, [], ◌∷◌, ◌+◌, ◌*◌, ◌<◌, ◌≤◌, length};
-ghost use Rattle.numbers.specs.Search.{Found};
-ghost use Rattle.layout.specs.Words.{rate_place, task_count_place, tasks_place, most_rates, idle_place, slack, idle, rate};
-ghost use Rattle.layout.specs.Words.{period, cycles, first, energy, OutOfRange};
-ghost use Rattle.taskset.specs.Quantities.{job_time};
+ghost use Rattle.std.specs.Prelude.{[], ◌∷◌, ◌+◌, ◌<◌, ◌≤◌, length};
 ghost use Rattle.taskset.specs.Refusals.{◌▹◌, word_check, rate_check, word_checks, idle_check, idle_checks, hyper_check};
 ghost use Rattle.taskset.specs.Calls.{CountsAfter, SetAfter};
 ghost use Rattle.taskset.specs.Sets.{Below};

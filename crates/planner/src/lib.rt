@@ -3,7 +3,7 @@
 // is made to the crates choice, by the table, and exhaustive, through all plans.
 #![tactic(auto)]
 
-ghost use Rattle.std.specs.Prelude.{◌≡◌, ◌+◌, ◌≤◌, [], ◌∷◌, length, Ok};
+ghost use Rattle.std.specs.Prelude.{◌≡◌, ◌≤◌, [], ◌∷◌, length, Ok};
 ghost use Rattle.selection.specs.Plan.{work_words};
 ghost use Rattle.taskset.specs.Planning.{layout_of};
 ghost use Rattle.taskset.specs.Refusals.{engine_check, ready_checks};
