@@ -3,7 +3,8 @@
 // be, is left to layout, and in code to places.
 #![tactic(auto)]
 
-ghost use Rattle.std.specs.Prelude.{[], ◌∷◌, ◌+◌, ◌<◌, ◌≤◌, length};
+ghost use Rattle.std.specs.Prelude.{◌≡◌, [], ◌∷◌, ◌+◌, ◌<◌, ◌≤◌, length};
+ghost use Rattle.layout.specs.Words.{idle_place, idle};
 ghost use Rattle.taskset.specs.Refusals.{◌▹◌, word_check, rate_check, word_checks, idle_check, idle_checks, hyper_check};
 ghost use Rattle.taskset.specs.Calls.{CountsAfter, SetAfter};
 ghost use Rattle.taskset.specs.Sets.{Below};
@@ -168,4 +169,12 @@ pub fn check_covered(s: &[u32], layout: Layout) -> Checked
     };
     check_idle(&set)?;
     check_hyper(&set)
+}
+
+// The idle energy of a tick, of any list that has the word.
+pub fn idle_of(s: &[u32]) -> u32
+    requires { idle_place < length s.now }
+    ensures { result ≡ idle s.now }
+{
+    s[places::IDLE_PLACE]
 }

@@ -30,7 +30,7 @@ impl<'a> Set<'a> {
     pub fn idle(&self) -> u32
         ensures { result ≡ idle self.now.words.now }
     {
-        self.words[places::IDLE_PLACE]
+        crate::idle_of(self.words)
     }
 
     // The rate with rate number r.

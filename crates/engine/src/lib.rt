@@ -3,7 +3,7 @@
 // them is asked and gives. Which plan, and how, is left to the engines.
 #![tactic(auto)]
 
-ghost use Rattle.std.specs.Prelude.{◌≡◌, ◌||◌, ◌-◌, ◌*◌, ◌^◌, ◌≤◌, ◌<◌, eqb, leb, replicate};
+ghost use Rattle.std.specs.Prelude.{◌≡◌, ◌||◌, ◌-◌, ◌*◌, ◌/◌, ◌^◌, ◌≤◌, ◌<◌, eqb, leb, replicate};
 ghost use Rattle.numbers.specs.Numbers.{total, LeastPower};
 ghost use Rattle.engine.specs.Arrays.{option_at, Written, cost_of, load_bound, energy_bound, Small, SumReady};
 
@@ -24,6 +24,15 @@ pub struct Choice {
     pub energy: u64,
 }
 
+// Half of what a power of two's exponent and value say.
+pub fn halved(exponent: u32, value: u64) -> (u32, u64)
+    requires { 0 < exponent }
+    ensures { result ≡ (exponent - 1, value / 2) }
+{
+    let half = value / 2;
+    (exponent - 1, half)
+}
+
 // A unit: a power of two that a word holds.
 #[derive(Clone, Copy)]
 pub struct Power {
@@ -39,10 +48,8 @@ impl Power {
         requires { 0 < self.exponent }
         ensures { result.exponent ≡ self.exponent - 1 }
     {
-        Power {
-            exponent: self.exponent - 1,
-            value: self.value / 2,
-        }
+        let (exponent, value) = halved(self.exponent, self.value);
+        Power { exponent, value }
     }
 }
 

@@ -4,7 +4,6 @@
 #![tactic(auto)]
 
 ghost use Rattle.std.specs.Prelude.{◌≡◌, ◌+◌, ◌*◌, ◌^◌, ◌<◌, Ok};
-ghost use Rattle.layout.specs.Words.{idle};
 ghost use Rattle.taskset.specs.Planning.{planning};
 ghost use Rattle.taskset.specs.Answers.{ok_planned};
 ghost use Rattle.options.specs.Options.{LaidBoth};
@@ -73,12 +72,11 @@ pub fn pose(
 
 // What is answered of a plan that was chosen. The choice goes by what is drawn over idling: with the idle energy of
 // every tick it is what is reported, the plan's task energies and H for each idle tick.
-pub fn planned(set: &Set, hyper: u64, c: Choice) -> Planned
-    requires { c.energy + idle set.now.words.now * hyper < 2 ^ 64 }
-    ensures { ok_planned c.unit c.load hyper (c.energy + idle set.now.words.now * hyper) ≡ Ok result }
+pub fn planned(idle: u32, hyper: u64, c: Choice) -> Planned
+    requires { c.energy + idle * hyper < 2 ^ 64 }
+    ensures { ok_planned c.unit c.load hyper (c.energy + idle * hyper) ≡ Ok result }
 {
-    let idle = u64::from(set.idle());
-    let total = c.energy + idle * hyper;
+    let total = c.energy + u64::from(idle) * hyper;
     Planned {
         unit: c.unit,
         load: c.load,

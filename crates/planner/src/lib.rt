@@ -121,7 +121,7 @@ pub fn plan_checked(
     let mut energies = [0u64; 512];
     let q = options::pose(&mut loads, &mut energies, &set, measured.hyper)?;
     let c = choose(engine, &loads, &energies, q, plan, work);
-    Ok(options::planned(&set, measured.hyper, c))
+    Ok(options::planned(set.idle(), measured.hyper, c))
 }
 
 // The call: a refusal that leaves plan and work as they were, or the plan that document 01 selects.

@@ -71,7 +71,7 @@ pub fn read(text: &[u8], words: &mut [u32]) -> CopyAnswer
     ensures { ReaderGives text.now words.old words.new result }
 {
     let mut set = [0u32; places::MOST_WORDS];
-    let mut cursor = Cursor::new(text);
+    let mut cursor = Cursor::new(text, 0);
     match forms::read_set(&mut cursor, &mut set) {
         Ok(said) => {
             let n = said.words;

@@ -34,11 +34,11 @@ pub struct Cursor<'a> {
 }
 
 impl<'a> Cursor<'a> {
-    // The start of a text.
-    pub fn new(text: &'a [u8]) -> Cursor<'a>
-        ensures { (result.text.now ≡ text.now) × (result.at ≡ 0) }
+    // A place in a text.
+    pub fn new(text: &'a [u8], at: usize) -> Cursor<'a>
+        ensures { (result.text.now ≡ text.now) × (result.at ≡ at) }
     {
-        Cursor { text, at: 0 }
+        Cursor { text, at }
     }
 
     // The place in the text.

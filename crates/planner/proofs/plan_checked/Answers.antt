@@ -40,9 +40,10 @@ choose-c-requires c = let p = goal.at.choose-c-requires c in
 
 pub planned-requires : goal.planned-requires
 planned-requires c = let p = goal.at.planned-requires c in
-    sum_fits (prepared p.Start) (poses p.In_ok-q) c.choose-c.ensures
+    rw c.idle.ensures (
+    sum_fits (prepared p.Start) (poses p.In_ok-q) c.choose-c.ensures)
 
 pub returns : goal.returns
 returns c = let p = goal.at.returns c in
-    subst (PlannerCall _ _ _ _ _ _) c.planned.ensures
-    (chosen_given (prepared p.Start) (poses p.In_ok-q) c.choose-c.ensures)
+    subst (PlannerCall _ _ _ _ _ _) c.planned.ensures (rw c.idle.ensures
+    (chosen_given (prepared p.Start) (poses p.In_ok-q) c.choose-c.ensures))
