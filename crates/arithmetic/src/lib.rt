@@ -1,25 +1,11 @@
-// Whole-number arithmetic in code: common divisors by halving and subtracting, the lesser of two numbers, a range. What
-// each one is, numbers defines; tasks, words and times are left to the crates above.
+// Whole-number arithmetic in code: the greatest common divisor by halving and subtracting, both counted. What it is,
+// numbers defines; tasks, words and times are left to the crates above.
 #![tactic(auto)]
 
-ghost use Rattle.std.specs.Prelude.{◌≡◌, suc, ◌-◌, ◌*◌, ◌/◌, ◌^◌, ◌≤◌, ◌<◌, min};
-ghost use Rattle.numbers.specs.Numbers.{between, gcd};
+ghost use Rattle.std.specs.Prelude.{◌≡◌, suc, ◌-◌, ◌*◌, ◌/◌, ◌^◌, ◌≤◌, ◌<◌};
+ghost use Rattle.numbers.specs.Numbers.{gcd};
 ghost use Rattle.numbers.specs.Halving.{common_power, is_even, step, steps, most_steps};
 ghost use Rattle.numbers.specs.Power.{IsPower};
-
-// Whether w is low to high.
-pub fn is_between(low: u64, high: u64, w: u64) -> bool
-    ensures { result ≡ between low high w }
-{
-    (low..=high).contains(&w)
-}
-
-// The lesser of two numbers.
-pub fn lesser(x: u32, y: u32) -> u32
-    ensures { result ≡ min x y }
-{
-    x.min(y)
-}
 
 // The largest power of two that divides both numbers: the lowest bit that is set in one of them.
 fn common_power(x: u64, y: u64) -> u64
