@@ -4,13 +4,16 @@
 use Rattle.std.specs.Prelude.{Ok, Err}
 use Prim.Native.Nat.{ℕ, ◌+◌, ◌*◌, ◌^◌, ◌<◌}
 use mathlib.Core.Path.{refl, subst}
-use mathlib.Core.List.{List}
+use mathlib.Core.List.{List, [], ◌∷◌}
 use lib.ListN.{length}
 use Rattle.selection.specs.Plan.{Fitting}
 use Rattle.layout.specs.Words.{idle}
 use Rattle.taskset.specs.Quantities.{problem_of}
 use Rattle.taskset.specs.Planning.{planning, layout_of, work_of}
-use Rattle.taskset.specs.Refusals.{number, second, Check, Refuses, none_check, ready_checks, planner_checks}
+use Rattle.layout.specs.declared.Layout.{Layout}
+use Rattle.taskset.specs.Refusals.{number, second, Check, Refuses, Passes, none_check, ready_checks, planner_checks}
+use Rattle.taskset.specs.Refusals.{idle_check, hyper_check}
+use Rattle.checks.proofs.Judging.{after}
 use Rattle.taskset.specs.Calls.{SetAfter, RateNumbers, Cleared, PlannerGives}
 use Rattle.taskset.specs.declared.Refusal.{Refusal}
 use Rattle.taskset.specs.declared.Refusal.TheVariants.{NoPlan}
@@ -26,7 +29,7 @@ use Rattle.options.proofs.Planning.{set_given, none_given, energy_is, energy_fit
 use Rattle.planner.specs.Answers.{PlannerCall}
 use Rattle.planner.specs.Engines.{EngineAsked, EngineChose}
 use Rattle.planner.proofs.Engines.{asked, clears-own}
-use Rattle.taskset.specs.Answers.{PlannerAnswer, ok_planned}
+use Rattle.taskset.specs.Answers.{Checked, PlannerAnswer, ok_planned}
 
 -- What meets document 01's definition keeps what demand 3 asks of it.
 called : (e : Engine) (s plan work plan' work' : List ℕ) (a : PlannerAnswer) → PlannerGives e s plan work plan' work' a
@@ -94,3 +97,8 @@ module _ {e : Engine} {s plan work : List ℕ} {v : Measured} (prepared : Prepar
           called e s plan work plan' work' (ok_planned c.unit c.load v.hyper (c.energy + idle s * v.hyper))
           (plan_given_lem p chose.chosen good.3 (energy_is given p chose.chosen) checks good.0, cleared)
           (numbers p chose.chosen good.3 (energy_is given p chose.chosen))
+
+-- Check 4 after check 10: what it answers where no energy is below what idle ticks draw.
+pub after-idle : (layout : Layout) (s : List ℕ) → Passes (idle_check layout s) → (a : Checked) → SetAfter (hyper_check layout s ∷ []) layout s a
+    → SetAfter (idle_check layout s ∷ hyper_check layout s ∷ []) layout s a
+after-idle layout s pass = after layout s (idle_check layout s ∷ []) (hyper_check layout s ∷ []) (pass, tt)
