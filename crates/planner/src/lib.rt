@@ -17,7 +17,8 @@ use engine::{Choice, Request};
 use layout::Layout;
 use taskset::{Checked, Engine, Measured, PlannerAnswer, Refusal};
 
-// The layout of the list that an engine plans.
+// The layout of the list that an engine plans. (A match here and twice below, and no trait: the engine is a value of
+// PlannerCall, and theorems speak of every one.)
 fn layout_of(engine: Engine) -> Layout
     ensures { result ≡ layout_of engine }
 {
@@ -36,7 +37,7 @@ fn work_needed(n: usize, g: u32) -> usize
     (n + 1) * (last + 1)
 }
 
-// Check 5, or 11, of a set that has passed 2, 3, 10 and 4.
+// Check 5, or 11, of a set that has passed 2, 3, 10 and 4. (A match: PlannerCall.)
 fn own_check(set: &Set, engine: Engine, work_len: usize) -> Result<(), Refusal>
     requires { set.now.layout ≡ layout_of engine }
     ensures { PassedAfter (engine_check engine set.now.words.now work_len ∷ []) result }
@@ -81,7 +82,7 @@ pub fn ready(set: &[u32], engine: Engine, plan_len: usize, work_len: usize) -> C
 }
 
 // Unit and plan by document 01's rule, chosen by the engine; the plan goes to the first words of plan, and the working
-// words that the engine needs are 0 at the end.
+// words that the engine needs are 0 at the end. (A match: PlannerCall.)
 fn choose(
     engine: Engine,
     loads: &[u64; 512],
