@@ -3,16 +3,16 @@
 // the stored lines by comparison.
 #![tactic(auto)]
 
+mod input;
 mod items;
 mod print;
 
 ghost use Rattle.std.specs.Prelude.{◌≤◌};
 
+use input::Input;
 use items::Items;
 use layout::Layout;
-use std::alloc::Global;
-use std::io;
-use std::io::{BufRead, BufReader, Read, Write};
+use std::io::{Read, Write};
 use taskset::Engine;
 
 // A function for each kind of record. It takes the record's name and the items behind it, runs the call and prints the
@@ -170,18 +170,17 @@ fn reply<W: Write>(to: &mut W, line: &mut [u8]) -> Option<()> {
     record(to, s)
 }
 
-// Answers the lines of the input, up to the first that is no record: one of more than 65,535 bytes is none. A read that
-// fails counts as the end of the input. Nothing says that the input ends, so that the turns are counted, up to a number
-// that no run uses up.
-fn answer_all<R: BufRead, W: Write>(reader: &mut R, to: &mut W, alloc: Global) {
-    let mut line = Vec::new(alloc);
+// Answers the lines of the input, up to the first that is no record: one of more than 65,535 bytes is none. Nothing says
+// that the input ends, so that the turns are counted, up to a number that no run uses up.
+fn answer_all<R: Read, W: Write>(reader: &mut R, to: &mut W) {
+    let mut input = Input::new();
+    let mut line = [0u8; 65536];
     for _ in 0..u64::MAX {
-        line.clear();
-        let _ = reader.by_ref().take(65536).read_until(b'\n', &mut line);
-        if line.is_empty() {
+        let n = input.line(reader, &mut line);
+        if n == 0 {
             return;
         }
-        if reply(to, &mut line).is_none() {
+        if reply(to, &mut line[..n]).is_none() {
             print::say(to, b"bad record\n");
             return;
         }
@@ -189,8 +188,6 @@ fn answer_all<R: BufRead, W: Write>(reader: &mut R, to: &mut W, alloc: Global) {
     }
 }
 
-fn main(rt: HostRuntime) -> io::Result<()> {
-    let mut reader = BufReader::new(rt.alloc(), rt.stdin())?;
-    answer_all(&mut reader, &mut rt.stdout(), rt.alloc());
-    Ok(())
+fn main(rt: HostRuntime) {
+    answer_all(&mut rt.stdin(), &mut rt.stdout());
 }

@@ -2,7 +2,7 @@
 // ticks. Whose periods and job times these are, and what was checked before, are left to others.
 #![tactic(auto)]
 
-ghost use Rattle.std.specs.Prelude.{◌≡◌, ◌≤◌, length};
+ghost use Rattle.std.specs.Prelude.{◌≡◌, ◌≤◌, length, take};
 ghost use Rattle.ticks.specs.Arrays.{Early, IsPick, cuts_short, Begun, TickReady, Ticked, RunReady, Says};
 
 use taskset::WalkEnd;
@@ -62,22 +62,15 @@ fn pick(left: &[u32; 32], due: &[u32; 32], n: usize) -> Option<Picked>
 }
 
 impl State {
-    // Before tick 0, where each task's first job is to come.
-    fn new(tasks: &[Timing]) -> State
-        requires { length tasks.now ≤ 32 }
-        ensures { Begun tasks.now result }
+    // From no task to these, before tick 0, where each task's first job is to come. The state is changed where it stands:
+    // by value the archive would ask for memcpy.
+    fn begin(&mut self, tasks: &[Timing])
+        requires few { length tasks.now ≤ 32 }
+        requires fresh { Begun (take 0 tasks.now) self.old }
+        ensures { Begun tasks.now self.new }
     {
-        let mut due = [0; 32];
         for (i, task) in tasks.iter().enumerate() {
-            due[i] = task.first;
-        }
-        State {
-            left: [0; 32],
-            due,
-            busy: 0,
-            idle: 0,
-            preempted: 0,
-            last: None,
+            self.due[i] = task.first;
         }
     }
 
@@ -110,7 +103,15 @@ pub fn run(tasks: &[Timing], end: u32) -> WalkEnd
     ensures { Says tasks.now end result }
 {
     let n = tasks.len();
-    let mut s = State::new(tasks);
+    let mut s = State {
+        left: [0; 32],
+        due: [0; 32],
+        busy: 0,
+        idle: 0,
+        preempted: 0,
+        last: None,
+    };
+    s.begin(tasks);
     let mut late: Option<usize> = None;
     let mut t: u32 = 0;
     'ticks: while t <= end {

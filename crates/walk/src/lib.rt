@@ -37,10 +37,10 @@ fn check_plan(plan: &[u32], m: usize, n: usize) -> Result<(), usize>
 }
 
 // A set's n tasks as the walk takes them, with their job times under a plan, at the front of an array.
-fn tasks_of(set: &[u32], plan: &[u32], m: usize, n: usize) -> [Timing; 32]
+fn tasks_of(set: &[u32], plan: &[u32], m: usize, n: usize, tasks: &mut [Timing; 32])
     requires set_given { SetGiven m n set.now }
     requires sound_plan { SoundPlan m n plan.now }
-    ensures { Holds set.now plan.now n result }
+    ensures { Holds set.now plan.now n tasks.new }
 {
     let set = Set {
         words: set,
@@ -48,11 +48,6 @@ fn tasks_of(set: &[u32], plan: &[u32], m: usize, n: usize) -> [Timing; 32]
         rates: m,
         tasks: n,
     };
-    let mut tasks = [Timing {
-        period: 0,
-        time: 0,
-        first: 0,
-    }; 32];
     for (t, r) in plan.iter().enumerate() {
         tasks[t] = Timing {
             period: set.period(t),
@@ -60,7 +55,6 @@ fn tasks_of(set: &[u32], plan: &[u32], m: usize, n: usize) -> [Timing; 32]
             first: set.first(t),
         };
     }
-    tasks
 }
 
 // Whether all first releases are 0.
@@ -97,7 +91,12 @@ pub fn walk_checked(set: &[u32], plan: &[u32], measured: Measured) -> WalkEnd
     requires { SetAfter (walk_checks set.now plan.now) Ordinary set.now (Ok measured) }
     ensures { Walked set.now plan.now (Ok result) }
 {
-    let tasks = tasks_of(set, plan, measured.rates, measured.tasks);
+    let mut tasks = [Timing {
+        period: 0,
+        time: 0,
+        first: 0,
+    }; 32];
+    tasks_of(set, plan, measured.rates, measured.tasks, &mut tasks);
     let given = &tasks[..measured.tasks];
     let end = last_tick(given, measured.hyper as u32);
     ticks::run(given, end)

@@ -38,7 +38,7 @@ at_end c =
     ]
 
 pub ticks-init : goal.ticks-init
-ticks-init c = first_tick c.requires c.new-s.ensures
+ticks-init c = first_tick c.requires c.begin.ensures
 
 pub loop-i-init : goal.loop-i-init
 loop-i-init c = turns_come c.ticks.invariant
