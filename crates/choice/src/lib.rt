@@ -66,13 +66,8 @@ fn least_energy(
     requires { UnitReady f energies.now load.now work.old }
     ensures { UnitTabled f unit.exponent energies.now load.now work.old cost.new work.new result }
 {
-    engine::round_up(energies, f.tasks, unit, cost);
-    let options = Options {
-        frame: f,
-        cost,
-        load,
-    };
-    options.table(work);
+    unit.round_up(energies, f.tasks, cost);
+    table::table(work, f, cost, load);
     table::least_column(work, f.tasks * f.columns, f.columns, f.cap)
 }
 

@@ -37,9 +37,15 @@ pub record SumReady (tasks : ℕ) (options plan : List ℕ) : Type 0 where
   pub numbers : (t : ℕ) → t < tasks → get_or plan t 0 ≤ 8
   pub small : Small load_bound options
 
--- An energy by the unit 2 ^ exponent.
+-- An energy by the unit 2 ^ exponent; and what costs by a unit ask.
 abbrev pub cost_of : List ℕ → ℕ → ℕ → ℕ
 cost_of energies exponent k = ceil (get_or energies k 0) (2 ^ exponent)
+
+pub record RoundReady (tasks exponent value : ℕ) (energies : List ℕ) : Type 0 where
+  pub few : tasks ≤ 32
+  pub power : value ≡ 2 ^ exponent
+  pub low : exponent ≤ 63
+  pub small : Small energy_bound energies
 
 -- The problem that the arrays give.
 abbrev pub arrays : Request → List ℕ → List ℕ → Problem

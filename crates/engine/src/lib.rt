@@ -5,7 +5,7 @@
 
 ghost use Rattle.std.specs.Prelude.{◌≡◌, ◌||◌, ◌-◌, ◌*◌, ◌/◌, ◌^◌, ◌≤◌, ◌<◌, eqb, leb, replicate};
 ghost use Rattle.numbers.specs.Numbers.{total, LeastPower};
-ghost use Rattle.engine.specs.Arrays.{option_at, Written, cost_of, load_bound, energy_bound, Small, SumReady};
+ghost use Rattle.engine.specs.Arrays.{option_at, Written, cost_of, load_bound, energy_bound, Small, RoundReady, SumReady};
 
 // What a plan is chosen for: so many tasks and rates, the limit of the plan's load, and the slack.
 #[derive(Clone, Copy)]
@@ -51,6 +51,14 @@ impl Power {
         let (exponent, value) = halved(self.exponent, self.value);
         Power { exponent, value }
     }
+
+    // The energies of so many tasks divided by the unit, rounded up.
+    pub fn round_up(self, energies: &[u64; 512], tasks: usize, cost: &mut [usize; 512])
+        requires { (tasks ≤ 32) × Small energy_bound energies.now }
+        ensures { Written (cost_of energies.now self.exponent) 0 (tasks * 16) cost.old cost.new }
+    {
+        round_up(energies, tasks, self.exponent, self.value, cost);
+    }
 }
 
 // The smallest power of two not below x.
@@ -65,14 +73,20 @@ pub fn least_power(x: u64) -> Power
     }
 }
 
-// The energies of so many tasks divided by the unit, rounded up.
-pub fn round_up(energies: &[u64; 512], tasks: usize, unit: Power, cost: &mut [usize; 512])
-    requires { (tasks ≤ 32) × Small energy_bound energies.now }
-    ensures { Written (cost_of energies.now unit.exponent) 0 (tasks * 16) cost.old cost.new }
+// The energies of so many tasks divided by a unit, rounded up: by a power of two's exponent and value.
+pub fn round_up(
+    energies: &[u64; 512],
+    tasks: usize,
+    exponent: u32,
+    value: u64,
+    cost: &mut [usize; 512],
+)
+    requires { RoundReady tasks exponent value energies.now }
+    ensures { Written (cost_of energies.now exponent) 0 (tasks * 16) cost.old cost.new }
 {
-    let less = unit.value - 1;
+    let less = value - 1;
     for k in 0..tasks * 16 {
-        cost[k] = ((energies[k] + less) >> unit.exponent) as usize;
+        cost[k] = ((energies[k] + less) >> exponent) as usize;
     }
 }
 
@@ -97,8 +111,8 @@ pub fn fastest_sum(options: &[u64; 512], tasks: usize, rates: usize) -> u64
     sum(options, tasks, &plan)
 }
 
-// Whether the unit rule stops at the unit 2 ^ exponent, with this least rounded energy of a plan that fits: at unit 1, and where slack
-// times that energy is at least 2,000 for each task.
+// Whether the unit rule stops at the unit 2 ^ exponent, with this least rounded energy of a plan that fits: at unit 1,
+// and where slack times that energy is at least 2,000 for each task.
 pub fn stops(exponent: u32, tasks: usize, slack: u32, least: usize) -> bool
     requires { (tasks ≤ 32) × (slack * least < 2 ^ 64) }
     ensures { result ≡ (eqb exponent 0 || leb (2000 * tasks) (slack * least)) }

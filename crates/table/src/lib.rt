@@ -39,6 +39,20 @@ fn relax(row: &mut [u32], before: &[u32], c: usize, l: u32)
     }
 }
 
+// Writes a table of a size, by these costs and loads; the first row is zeros.
+pub fn table(d: &mut [u32], f: Frame, cost: &[usize; 512], load: &[u32; 512])
+    requires framed { Framed f load.now }
+    requires ready { TableReady f d.old }
+    ensures { Tabled f f.tasks cost.now load.now d.old d.new }
+{
+    let options = Options {
+        frame: f,
+        cost,
+        load,
+    };
+    options.table(d);
+}
+
 // The least column, of the row that begins at `start`, that is not 'none'.
 pub fn least_column(d: &[u32], start: usize, columns: usize, cap: u32) -> Option<usize>
     requires { start + columns ≤ length d.now }
