@@ -34,6 +34,12 @@ abbrev pub FrontAfter : Layout → List ℕ → Shape → Type 0
 FrontAfter layout s (Ok p) = FrontPassed layout p.rates p.tasks s
 FrontAfter layout s (Err r) = Refuses (word_check layout s ∷ []) (number r) (second r)
 
+-- The task at place t of a list that passes check 2 and has m rates.
+pub record OfTask (layout : Layout) (m t : ℕ) (s : List ℕ) : Type 0 where
+  pub whole : IsWhole layout s
+  pub counted : m ≡ rate_count layout s
+  pub task : t < task_count layout s
+
 -- A list that passes check 2 and has m rates and n tasks.
 pub record OfCounts (layout : Layout) (m n : ℕ) (s : List ℕ) : Type 0 where
   pub whole : IsWhole layout s

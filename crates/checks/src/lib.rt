@@ -1,14 +1,15 @@
-// The checks of a task set in code, and of one that has passed check 2 the readers of its words and quantities, which
-// are in a file of their own. What each says is defined in `taskset`; what stands where in a list, and what each word may
-// be, is left to layout, and in code to places.
+// The checks of a task set in code, and of one that has passed check 2 the readers of its words and quantities; with its
+// counts it is a struct, in a file of its own, whose methods they are too. What each says is defined in `taskset`; what
+// stands where in a list, and what each word may be, is left to layout, and in code to places.
 #![tactic(auto)]
 
 ghost use Rattle.std.specs.Prelude.{◌≡◌, [], ◌∷◌, ◌+◌, ◌<◌, ◌≤◌, length};
-ghost use Rattle.layout.specs.Words.{idle_place, idle};
+ghost use Rattle.layout.specs.Words.{idle_place, slack, idle, rate, period, cycles, first, energy};
+ghost use Rattle.taskset.specs.Quantities.{job_time};
 ghost use Rattle.taskset.specs.Refusals.{◌▹◌, word_check, rate_check, word_checks, idle_check, idle_checks, hyper_check};
 ghost use Rattle.taskset.specs.Calls.{CountsAfter, SetAfter};
 ghost use Rattle.taskset.specs.Sets.{Below};
-ghost use Rattle.checks.specs.Steps.{WordAfter, FrontAfter, FrontPassed, FoundIn, PassedAfter};
+ghost use Rattle.checks.specs.Steps.{WordAfter, FrontAfter, FrontPassed, OfTask, FoundIn, PassedAfter};
 
 mod set;
 
@@ -171,10 +172,66 @@ pub fn check_covered(s: &[u32], layout: Layout) -> Checked
     check_hyper(&set)
 }
 
+// The slack, of any list that has the word.
+pub fn slack_of(s: &[u32]) -> u32
+    requires { 0 < length s.now }
+    ensures { result ≡ slack s.now }
+{
+    s[places::SLACK_PLACE]
+}
+
 // The idle energy of a tick, of any list that has the word.
 pub fn idle_of(s: &[u32]) -> u32
     requires { idle_place < length s.now }
     ensures { result ≡ idle s.now }
 {
     s[places::IDLE_PLACE]
+}
+
+// The period of the task at place t of a set of m rates.
+pub fn period_of(s: &[u32], layout: Layout, m: usize, t: usize) -> u32
+    requires { OfTask layout m t s.now }
+    ensures { result ≡ period layout s.now t }
+{
+    s[places::period_place(layout, m, t)]
+}
+
+// The cycles of one job of the task at place t.
+pub fn cycles_of(s: &[u32], layout: Layout, m: usize, t: usize) -> u32
+    requires { OfTask layout m t s.now }
+    ensures { result ≡ cycles layout s.now t }
+{
+    s[places::cycles_place(layout, m, t)]
+}
+
+// The first release of the task at place t.
+pub fn first_of(s: &[u32], layout: Layout, m: usize, t: usize) -> u32
+    requires { OfTask layout m t s.now }
+    ensures { result ≡ first layout s.now t }
+{
+    s[places::first_place(layout, m, t)]
+}
+
+// The rate with rate number r, of a set of m rates that has a task at place t.
+fn rate_of(s: &[u32], layout: Layout, m: usize, t: usize, r: usize) -> u32
+    requires { OfTask layout m t s.now × (1 ≤ r) × (r ≤ m) }
+    ensures { result ≡ rate layout s.now r }
+{
+    s[places::rate_place(layout, r)]
+}
+
+// The time of one job of the task at place t at rate number r.
+pub fn job_time(s: &[u32], layout: Layout, m: usize, t: usize, r: usize) -> u32
+    requires { OfTask layout m t s.now × (1 ≤ r) × (r ≤ m) }
+    ensures { result ≡ job_time layout s.now t r }
+{
+    figures::job_ticks(cycles_of(s, layout, m, t), rate_of(s, layout, m, t, r))
+}
+
+// The energy of one job of the task at place t at rate number r.
+pub fn energy_of(s: &[u32], layout: Layout, m: usize, t: usize, r: usize) -> u32
+    requires { OfTask layout m t s.now × (1 ≤ r) × (r ≤ m) }
+    ensures { result ≡ energy layout s.now t r }
+{
+    s[places::energy_place(layout, m, t, r)]
 }

@@ -1,7 +1,7 @@
 // The words of a task set, read by task and rate number.
 
 ghost use Rattle.std.specs.Prelude.{◌≡◌, ◌<◌, ◌≤◌};
-ghost use Rattle.layout.specs.Words.{slack, idle, rate, period, cycles, first, energy};
+ghost use Rattle.layout.specs.Words.{slack, idle, period, cycles, first, energy};
 ghost use Rattle.taskset.specs.Quantities.{job_time};
 ghost use Rattle.checks.specs.Steps.{OfCounts};
 
@@ -23,7 +23,7 @@ impl<'a> Set<'a> {
     pub fn slack(&self) -> u32
         ensures { result ≡ slack self.now.words.now }
     {
-        self.words[places::SLACK_PLACE]
+        crate::slack_of(self.words)
     }
 
     // The idle energy of a tick.
@@ -33,20 +33,12 @@ impl<'a> Set<'a> {
         crate::idle_of(self.words)
     }
 
-    // The rate with rate number r.
-    fn rate(&self, r: usize) -> u32
-        requires { (1 ≤ r) × (r ≤ self.now.rates) }
-        ensures { result ≡ rate self.now.layout self.now.words.now r }
-    {
-        self.words[places::rate_place(self.layout, r)]
-    }
-
     // The period of the task at place t.
     pub fn period(&self, t: usize) -> u32
         requires { t < self.now.tasks }
         ensures { result ≡ period self.now.layout self.now.words.now t }
     {
-        self.words[places::period_place(self.layout, self.rates, t)]
+        crate::period_of(self.words, self.layout, self.rates, t)
     }
 
     // The cycles of one of its jobs.
@@ -54,7 +46,7 @@ impl<'a> Set<'a> {
         requires { t < self.now.tasks }
         ensures { result ≡ cycles self.now.layout self.now.words.now t }
     {
-        self.words[places::cycles_place(self.layout, self.rates, t)]
+        crate::cycles_of(self.words, self.layout, self.rates, t)
     }
 
     // Its first release.
@@ -62,7 +54,7 @@ impl<'a> Set<'a> {
         requires { t < self.now.tasks }
         ensures { result ≡ first self.now.layout self.now.words.now t }
     {
-        self.words[places::first_place(self.layout, self.rates, t)]
+        crate::first_of(self.words, self.layout, self.rates, t)
     }
 
     // The time of one of its jobs at rate number r.
@@ -70,7 +62,7 @@ impl<'a> Set<'a> {
         requires { (t < self.now.tasks) × (1 ≤ r) × (r ≤ self.now.rates) }
         ensures { result ≡ job_time self.now.layout self.now.words.now t r }
     {
-        figures::job_ticks(self.cycles(t), self.rate(r))
+        crate::job_time(self.words, self.layout, self.rates, t, r)
     }
 
     // The energy of one of its jobs at rate number r.
@@ -78,6 +70,6 @@ impl<'a> Set<'a> {
         requires { (t < self.now.tasks) × (1 ≤ r) × (r ≤ self.now.rates) }
         ensures { result ≡ energy self.now.layout self.now.words.now t r }
     {
-        self.words[places::energy_place(self.layout, self.rates, t, r)]
+        crate::energy_of(self.words, self.layout, self.rates, t, r)
     }
 }

@@ -3,14 +3,17 @@
 // that no plan fits; and from what it chose to the answer. Which plan is chosen, and how, is left to the engines.
 #![tactic(auto)]
 
-ghost use Rattle.std.specs.Prelude.{◌≡◌, ◌+◌, ◌*◌, ◌^◌, ◌<◌, Ok};
+ghost use Rattle.std.specs.Prelude.{◌≡◌, ◌+◌, ◌*◌, ◌^◌, ◌<◌, length, Ok};
+ghost use Rattle.layout.specs.Words.{idle_place, idle};
 ghost use Rattle.taskset.specs.Planning.{planning};
 ghost use Rattle.taskset.specs.Answers.{ok_planned};
+ghost use Rattle.checks.specs.Steps.{OfCounts};
 ghost use Rattle.options.specs.Options.{LaidBoth};
 ghost use Rattle.options.specs.Posed.{SetGiven, PosedFor};
 
 use checks::Set;
 use engine::{Choice, Request};
+use layout::Layout;
 use taskset::{Planned, Refusal};
 
 // Puts down the loads and energies of the task at place t: at each rate, that of one job times the jobs in a
@@ -47,36 +50,46 @@ fn put_tasks(loads: &mut [u64; 512], energies: &mut [u64; 512], set: &Set, hyper
 pub fn pose(
     loads: &mut [u64; 512],
     energies: &mut [u64; 512],
-    set: &Set,
+    set: &[u32],
+    layout: Layout,
+    rates: usize,
+    tasks: usize,
     hyper: u64,
 ) -> Result<Request, Refusal>
-    requires set_given { SetGiven set.now.layout set.now.words.now hyper }
-    requires laid_both { LaidBoth set.now.layout set.now.words.now set.now.rates 0 1 loads.old energies.old }
-    ensures laid { LaidBoth set.now.layout set.now.words.now set.now.rates set.now.tasks 1 loads.new energies.new }
-    ensures posed { PosedFor (planning set.now.layout set.now.words.now) loads.new energies.new result }
+    requires set_given { SetGiven layout set.now hyper }
+    requires counted { OfCounts layout rates tasks set.now }
+    requires laid_both { LaidBoth layout set.now rates 0 1 loads.old energies.old }
+    ensures laid { LaidBoth layout set.now rates tasks 1 loads.new energies.new }
+    ensures posed { PosedFor (planning layout set.now) loads.new energies.new result }
 {
-    put_tasks(loads, energies, set, hyper);
-    let fastest = engine::fastest_sum(loads, set.tasks, set.rates);
+    let given = Set {
+        words: set,
+        layout,
+        rates,
+        tasks,
+    };
+    put_tasks(loads, energies, &given, hyper);
+    let fastest = engine::fastest_sum(loads, tasks, rates);
     let is_too_much = hyper < fastest;
     if is_too_much {
         return Err(Refusal::NoPlan);
     }
     let limit = hyper as u32;
     Ok(Request {
-        tasks: set.tasks,
-        rates: set.rates,
+        tasks,
+        rates,
         limit,
-        slack: set.slack(),
+        slack: checks::slack_of(set),
     })
 }
 
 // What is answered of a plan that was chosen. The choice goes by what is drawn over idling: with the idle energy of
 // every tick it is what is reported, the plan's task energies and H for each idle tick.
-pub fn planned(idle: u32, hyper: u64, c: Choice) -> Planned
-    requires { c.energy + idle * hyper < 2 ^ 64 }
-    ensures { ok_planned c.unit c.load hyper (c.energy + idle * hyper) ≡ Ok result }
+pub fn planned(set: &[u32], hyper: u64, c: Choice) -> Planned
+    requires { (idle_place < length set.now) × (c.energy + idle set.now * hyper < 2 ^ 64) }
+    ensures { ok_planned c.unit c.load hyper (c.energy + idle set.now * hyper) ≡ Ok result }
 {
-    let total = c.energy + u64::from(idle) * hyper;
+    let total = c.energy + u64::from(checks::idle_of(set)) * hyper;
     Planned {
         unit: c.unit,
         load: c.load,

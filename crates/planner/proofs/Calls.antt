@@ -5,9 +5,10 @@ use Rattle.std.specs.Prelude.{Ok, Err}
 use Prim.Native.Nat.{ℕ, ◌+◌, ◌*◌, ◌^◌, ◌<◌}
 use mathlib.Core.Path.{refl, subst}
 use mathlib.Core.List.{List, [], ◌∷◌}
+use native.Mathlib.Omega.{arith}
 use lib.ListN.{length}
 use Rattle.selection.specs.Plan.{Fitting}
-use Rattle.layout.specs.Words.{idle}
+use Rattle.layout.specs.Words.{idle_place, idle}
 use Rattle.taskset.specs.Quantities.{problem_of}
 use Rattle.taskset.specs.Planning.{planning, layout_of, work_of}
 use Rattle.layout.specs.declared.Layout.{Layout}
@@ -72,6 +73,9 @@ module _ {e : Engine} {s plan work : List ℕ} {v : Measured} (prepared : Prepar
 
   pub counted : OfCounts (layout_of e) v.rates v.tasks s
   counted = record { whole = given.set.whole; counted = good.1; numbered = good.2 }
+
+  pub words_given : idle_place < length s
+  words_given = omega (arith, given.set.whole.size)
 
   -- No plan fits.
   pub none_fits : ((P : List ℕ) → Fitting (problem_of (layout_of e) s) P → ⊥)

@@ -112,17 +112,17 @@ pub fn plan_checked(
     requires { SetAfter (ready_checks engine set.now (length plan.old) (length work.old)) (layout_of engine) set.now (Ok measured) }
     ensures { PlannerCall engine set.now plan.old work.old plan.new work.new result }
 {
-    let set = Set {
-        words: set,
-        layout: layout_of(engine),
-        rates: measured.rates,
-        tasks: measured.tasks,
-    };
+    let Measured {
+        rates,
+        tasks,
+        hyper,
+    } = measured;
+    let layout = layout_of(engine);
     let mut loads = [0u64; 512];
     let mut energies = [0u64; 512];
-    let q = options::pose(&mut loads, &mut energies, &set, measured.hyper)?;
+    let q = options::pose(&mut loads, &mut energies, set, layout, rates, tasks, hyper)?;
     let c = choose(engine, &loads, &energies, q, plan, work);
-    Ok(options::planned(set.idle(), measured.hyper, c))
+    Ok(options::planned(set, hyper, c))
 }
 
 // The call: a refusal that leaves plan and work as they were, or the plan that document 01 selects.
