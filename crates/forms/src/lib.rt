@@ -9,7 +9,7 @@ ghost use Rattle.layout.specs.declared.Layout.TheVariants.{Ordinary};
 ghost use Rattle.text.specs.Text;
 ghost use Rattle.text.specs.Reading;
 ghost use Rattle.text.specs.Reading.{mapped, starts};
-ghost use Rattle.scanner.specs.Steps.{Reads};
+ghost use Rattle.scanner.specs.Steps.{Reads, Stays};
 ghost use Rattle.forms.specs.Forms.{Gives, plain, no_value, given, head_from, clock_of, said_of};
 ghost use Rattle.forms.specs.Forms.{rates_in, energies_in, idle_in, Fits, energies_by, words_by};
 
@@ -249,7 +249,7 @@ fn tasks(text: &mut Cursor, out: &mut [u32], clock: Clock) -> Result<usize, Depa
 
 // A set's words, to the front of the list: what they are. A count is known only when what it counts stands in the list,
 // and the idle energy only with the chip, so the words in front are stored last.
-pub fn read_set(text: &mut Cursor, out: &mut [u32]) -> Result<Said, Departure>
+fn set_lines(text: &mut Cursor, out: &mut [u32]) -> Result<Said, Departure>
     requires { most_words ≤ length out.old }
     ensures { Gives said_of Text.words Reading.read_script text.old text.new 0 out.old out.new result }
 {
@@ -270,4 +270,20 @@ pub fn read_set(text: &mut Cursor, out: &mut [u32]) -> Result<Said, Departure>
         tasks: n,
         words: places::period_place(Layout::Ordinary, m, n),
     })
+}
+
+// The same, as a step: where the text departs, the cursor stands where it stood.
+pub fn read_set(text: &mut Cursor, out: &mut [u32]) -> Result<Said, Departure>
+    requires { most_words ≤ length out.old }
+    ensures gives { Gives said_of Text.words Reading.read_script text.old text.new 0 out.old out.new result }
+    ensures stays { Stays text.old text.new result }
+{
+    let begun = *text;
+    match set_lines(text, out) {
+        Ok(said) => Ok(said),
+        Err(departure) => {
+            *text = begun;
+            Err(departure)
+        }
+    }
 }

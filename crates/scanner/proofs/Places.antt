@@ -16,7 +16,7 @@ use Rattle.text.proofs.Digits.{NoDigit}
 use Rattle.std.specs.Prelude.{Result, Ok, Err}
 use Rattle.std.specs.Result.{IsErrAnd}
 use Rattle.std.proofs.lemmas.Result.{err_from_is_err_and}
-use Rattle.scanner.specs.Steps.{Stands, of_read, Reads}
+use Rattle.scanner.specs.Steps.{Stands, of_read, Reads, Stays}
 use Rattle.scanner.specs.declared.Cursor.{Cursor}
 use Rattle.scanner.specs.declared.Departure.{Departure}
 use Rattle.scanner.specs.declared.Class.TheVariants.{Digit}
@@ -152,6 +152,15 @@ lost {A} f p {x} {y} {d} h = go (read_at p x.text.now x.at) refl (h.answers ∙ 
     go : (w : Res A) → w ≡ read_at p x.text.now x.at → bad d.at ≡ map_res f w → Reads p x y (Err d)
     go (got a i) e q = absurd cc
     go (bad o) e q = record { same = h.same; answers = ap bad (ap ext q) ∙ e }
+
+-- Where a text departs tells nothing of where the cursor then stands.
+pub anywhere : {A : Type 0} {p : List ℕ → Res A} {x y z : Cursor} {d : Departure} → z.text.now ≡ y.text.now → Reads p x y (Err d)
+    → Reads p x z (Err d)
+anywhere e h = record { same = e ∙ h.same; answers = h.answers }
+
+-- A `?` hands the departure on, and the cursor as it stands.
+pub kept : {A : Type 0} (x y : Cursor) (d : Departure) (r : Result A Departure) → IsErrAnd r (λ e. e ≡ d) → y.at ≡ x.at → Stays x y r
+kept x y d r q h = let e = err_from_is_err_and r q in rw e.1 h
 
 -- A `?` hands the departure on.
 pub handed : {A : Type 0} {p : List ℕ → Res A} {x y : Cursor} {d : Departure} (r : Result A Departure) → IsErrAnd r (λ e. e ≡ d)

@@ -46,6 +46,11 @@ pub record Reads {A : Type 0} (p : List ℕ → Res A) (x y : Cursor) (r : Resul
   pub same : y.text.now ≡ x.text.now
   pub answers : of_read r y.at ≡ read_at p x.text.now x.at
 
+-- Where the text departs from it, the cursor stands where it stood.
+abbrev pub Stays : {A : Type 0} → Cursor → Cursor → Result A Departure → Type 0
+Stays x y (Ok a) = Unit {0}
+Stays x y (Err d) = y.at ≡ x.at
+
 -- Whether a piece was read.
 abbrev pub taken : {A : Type 0} → Res A → Bool
 taken (got a i) = true

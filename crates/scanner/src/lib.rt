@@ -5,7 +5,7 @@
 ghost use Rattle.std.specs.Prelude.{◌≡◌, false, ◌-◌, ◌≤◌, length, drop};
 ghost use Rattle.text.specs.Reading;
 ghost use Rattle.text.specs.Reading.{read_at, ext, starts};
-ghost use Rattle.scanner.specs.Steps.{Stands, Reads, taken};
+ghost use Rattle.scanner.specs.Steps.{Stands, Reads, Stays, taken};
 
 // What stands at a place of the text: the end, or a byte by the classes that document 01 names for the step. A line's
 // end stands in fixed strings alone, so that no form asks for it by its class.
@@ -26,7 +26,8 @@ pub struct Departure {
     pub at: usize,
 }
 
-// A text and the place in it at which the next step reads. A step that reads what it must goes past it.
+// A text and the place in it at which the next step reads. A step that reads what it must goes past it; where the text
+// departs from a fixed string, or from one and a number, the place stays.
 #[derive(Clone, Copy)]
 pub struct Cursor<'a> {
     text: &'a [u8],
@@ -131,7 +132,8 @@ impl<'a> Cursor<'a> {
     // does not. Inlined, so that the string's length is known where it is compared.
     #[inline(always)]
     pub fn literal(&mut self, l: &[u8]) -> Result<(), Departure>
-        ensures { Reads (Reading.literal l.now) self.old self.new result }
+        ensures reads { Reads (Reading.literal l.now) self.old self.new result }
+        ensures stays { Stays self.old self.new result }
     {
         if self.is_there(l) {
             self.at += l.len();
@@ -177,9 +179,17 @@ impl<'a> Cursor<'a> {
     // A fixed string and a number.
     #[inline]
     pub fn field(&mut self, l: &[u8]) -> Result<u32, Departure>
-        ensures { Reads (Reading.field l.now) self.old self.new result }
+        ensures reads { Reads (Reading.field l.now) self.old self.new result }
+        ensures stays { Stays self.old self.new result }
     {
+        let begun = self.at;
         self.literal(l)?;
-        self.number()
+        match self.number() {
+            Ok(v) => Ok(v),
+            Err(departure) => {
+                self.at = begun;
+                Err(departure)
+            }
+        }
     }
 }

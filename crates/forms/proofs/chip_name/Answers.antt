@@ -11,19 +11,19 @@ use Rattle.forms.proofs.chip_name.Goals as goal
 pub returns-in_err-literal : goal.returns-in_err-literal
 returns-in_err-literal c = handed _ c.from_residual.ensures.1
     (reads_first 120 (read_name Xscale) (read_name Ppc405lp) (sym c.is_letter.ensures ∙ c.if-is_letter.true)
-    (shown (λ _. Xscale) (literal (chip_name Xscale)) _ c.in_err-literal.ensures))
+    (shown (λ _. Xscale) (literal (chip_name Xscale)) _ c.in_err-literal.ensures.reads))
 
 pub returns-then-is_letter : goal.returns-then-is_letter
 returns-then-is_letter c =
     reads_first 120 (read_name Xscale) (read_name Ppc405lp) (sym c.is_letter.ensures ∙ c.if-is_letter.true)
-    (shown (λ _. Xscale) (literal (chip_name Xscale)) (Ok tt) c.in_ok-literal.ensures)
+    (shown (λ _. Xscale) (literal (chip_name Xscale)) (Ok tt) c.in_ok-literal.ensures.reads)
 
 pub returns-in_err-literal-2 : goal.returns-in_err-literal-2
 returns-in_err-literal-2 c = handed _ c.from_residual-in_err-literal-2.ensures.1
     (reads_second 120 (read_name Xscale) (read_name Ppc405lp) (sym c.is_letter.ensures ∙ c.if-is_letter.false)
-    (shown (λ _. Ppc405lp) (literal (chip_name Ppc405lp)) _ c.in_err-literal-2.ensures))
+    (shown (λ _. Ppc405lp) (literal (chip_name Ppc405lp)) _ c.in_err-literal-2.ensures.reads))
 
 pub returns : goal.returns
 returns c =
     reads_second 120 (read_name Xscale) (read_name Ppc405lp) (sym c.is_letter.ensures ∙ c.if-is_letter.false)
-    (shown (λ _. Ppc405lp) (literal (chip_name Ppc405lp)) (Ok tt) c.in_ok-literal-2.ensures)
+    (shown (λ _. Ppc405lp) (literal (chip_name Ppc405lp)) (Ok tt) c.in_ok-literal-2.ensures.reads)

@@ -25,14 +25,14 @@ returns-in_default c = let x = c.args.text.now in
 pub returns-in_err-a : goal.returns-in_err-a
 returns-in_err-a c = handed _ c.from_residual.ensures.1 (shown first_of read_first _
     (is_present 32 read_first_form _ (stands (goal.at.returns-in_err-a c).In-Space)
-    (piece_departs (field (bytes " (from ")) (bytes ")") c.in_err-a.ensures)))
+    (piece_departs (field (bytes " (from ")) (bytes ")") c.in_err-a.ensures.reads)))
 
 pub returns-in_err-literal : goal.returns-in_err-literal
 returns-in_err-literal c = handed _ c.from_residual-in_err-literal.ensures.1 (shown first_of read_first _
     (is_present 32 read_first_form _ (stands (goal.at.returns-in_err-literal c).In-Space)
-    (closed (field (bytes " (from ")) (bytes ")") (Err _) c.in_ok-a.ensures c.in_err-literal.ensures)))
+    (closed (field (bytes " (from ")) (bytes ")") (Err _) c.in_ok-a.ensures.reads c.in_err-literal.ensures.reads)))
 
 pub returns : goal.returns
 returns c = shown first_of read_first _
     (is_present 32 read_first_form _ (stands (goal.at.returns c).In-Space)
-    (closed (field (bytes " (from ")) (bytes ")") (Ok _) c.in_ok-a.ensures c.in_ok-literal.ensures))
+    (closed (field (bytes " (from ")) (bytes ")") (Ok _) c.in_ok-a.ensures.reads c.in_ok-literal.ensures.reads))

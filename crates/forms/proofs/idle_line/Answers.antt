@@ -23,14 +23,14 @@ returns-then-not-is_letter c =
 pub returns-in_err-h : goal.returns-in_err-h
 returns-in_err-h c = handed _ c.from_residual.ensures.1 (shown given read_idle _
     (is_present 105 read_idle_line _ (stands (goal.at.returns-in_err-h c).Else-not-is_letter)
-    (piece_departs (field (bytes "idle ")) (bytes ")\n(") c.in_err-h.ensures)))
+    (piece_departs (field (bytes "idle ")) (bytes ")\n(") c.in_err-h.ensures.reads)))
 
 pub returns-in_err-literal : goal.returns-in_err-literal
 returns-in_err-literal c = handed _ c.from_residual-in_err-literal.ensures.1 (shown given read_idle _
     (is_present 105 read_idle_line _ (stands (goal.at.returns-in_err-literal c).Else-not-is_letter)
-    (closed (field (bytes "idle ")) (bytes ")\n(") (Err _) c.in_ok-h.ensures c.in_err-literal.ensures)))
+    (closed (field (bytes "idle ")) (bytes ")\n(") (Err _) c.in_ok-h.ensures.reads c.in_err-literal.ensures.reads)))
 
 pub returns : goal.returns
 returns c = shown given read_idle _
     (is_present 105 read_idle_line _ (stands (goal.at.returns c).Else-not-is_letter)
-    (closed (field (bytes "idle ")) (bytes ")\n(") (Ok _) c.in_ok-h.ensures c.in_ok-literal.ensures))
+    (closed (field (bytes "idle ")) (bytes ")\n(") (Ok _) c.in_ok-h.ensures.reads c.in_ok-literal.ensures.reads))

@@ -31,11 +31,11 @@ returns-in_default c =
 
 pub returns-in_err-out : goal.returns-in_err-out
 returns-in_err-out c = handed _ _ _ _ c.from_residual.ensures.1
-    (refuses _ _ _ (refused c.loop-n.invariant (omega arith) (starting (goal.at.returns-in_err-out c).After-field) c.in_err-out.ensures))
+    (refuses _ _ _ (refused c.loop-n.invariant (omega arith) (starting (goal.at.returns-in_err-out c).After-field) c.in_err-out.ensures.reads))
 
 pub loop-n-preserved : goal.loop-n-preserved
 loop-n-preserved c =
-    one_more c.loop-n.invariant (omega arith) (starting (goal.at.loop-n-preserved c).After-field) _ _ c.in_ok-out.ensures refl
+    one_more c.loop-n.invariant (omega arith) (starting (goal.at.loop-n-preserved c).After-field) _ _ c.in_ok-out.ensures.reads refl
     (omega arith) (length-set _ _ _) (rw mul-one (stored-alone (alone _) _ _ (omega arith)))
 
 pub returns : goal.returns

@@ -25,8 +25,8 @@ use Rattle.forms.specs.declared.Clock as code
 use Rattle.forms.specs.declared.Head.{Head}
 use Rattle.forms.proofs.Gives.{refuses, gives, handed, Told, told}
 use Rattle.forms.proofs.Words.{rates_in_lem, energies_in_lem, idle_in_lem, words_by_lem, fits, few_rates, set_words}
-use Rattle.forms.proofs.read_set.Goals as goal
-use Rattle.forms.proofs.read_set.Goals.{After-rate_count-m}
+use Rattle.forms.proofs.set_lines.Goals as goal
+use Rattle.forms.proofs.set_lines.Goals.{After-rate_count-m}
 
 -- How many rates and tasks there are, and that the list has room for all their words.
 record Sizes (head m n lent : ℕ) : Type 0 where
@@ -79,7 +79,7 @@ module _ (c : After-rate_count-m) where
 
   is_read : Reads read_script c.args.text.now c.tasks.new.text (Ok script)
   is_read = script_reads (Ok lines.item) head.reads clock.reads
-      (skipped (bytes ")\n") (read_tasks (energy_count clock.item)) c.in_ok-literal.ensures (rw (energies clock) at lines.reads))
+      (skipped (bytes ")\n") (read_tasks (energy_count clock.item)) c.in_ok-literal.ensures.reads (rw (energies clock) at lines.reads))
 
   is_ok : ScriptOk script
   is_ok = dom_of script_piece _ _ _ script (sym is_read.answers)
@@ -120,7 +120,7 @@ returns-in_err-literal c = let h = took head_from read_head c.in_ok-head.ensures
     let k = told clock_of rates_of read_clock c.in_ok-clock.ensures in
     handed _ _ _ _ c.from_residual-in_err-literal.ensures.1
     (refuses _ _ _ (script_reads _ h.reads k.reads
-    (skip_departs (bytes ")\n") (read_tasks (energy_count k.item)) c.in_err-literal.ensures)))
+    (skip_departs (bytes ")\n") (read_tasks (energy_count k.item)) c.in_err-literal.ensures.reads)))
 
 pub tasks-requires : goal.tasks-requires
 tasks-requires c = let f = fit (told clock_of rates_of read_clock c.in_ok-clock.ensures) in
@@ -133,7 +133,7 @@ returns-in_err-n c = let h = took head_from read_head c.in_ok-head.ensures in
     let departs = lost length (read_tasks (energies_in c.in_ok-clock.clock)) c.in_err-n.ensures.reads in
     handed _ _ _ _ c.from_residual-in_err-n.ensures.1
     (refuses _ _ _ (script_reads _ h.reads k.reads
-    (skipped (bytes ")\n") (read_tasks (energy_count k.item)) c.in_ok-literal.ensures (rw (energies k) at departs))))
+    (skipped (bytes ")\n") (read_tasks (energy_count k.item)) c.in_ok-literal.ensures.reads (rw (energies k) at departs))))
 
 pub overflow_cast-out : goal.overflow_cast-out
 overflow_cast-out c = omega (arith, sizes (goal.at.overflow_cast-out c).After-rate_count-m)

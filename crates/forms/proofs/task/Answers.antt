@@ -48,25 +48,25 @@ ending m h i j g =
 pub returns-in_err-p : goal.returns-in_err-p
 returns-in_err-p c = let m = energies_in c.args.clock in
     handed _ _ _ _ c.from_residual.ensures.1
-    (refuses _ _ _ (first_departs mk_task (field period) (λ _. behind_period m) c.in_err-p.ensures))
+    (refuses _ _ _ (first_departs mk_task (field period) (λ _. behind_period m) c.in_err-p.ensures.reads))
 
 pub returns-in_err-c : goal.returns-in_err-c
 returns-in_err-c c = let m = energies_in c.args.clock in
     handed _ _ _ _ c.from_residual-in_err-c.ensures.1
-    (then_gives mk_task (field period) (λ _. behind_period m) c.in_ok-p.ensures
-    (refuses _ _ _ (first_departs both (field cycles) (λ _. behind_cycles m) c.in_err-c.ensures)))
+    (then_gives mk_task (field period) (λ _. behind_period m) c.in_ok-p.ensures.reads
+    (refuses _ _ _ (first_departs both (field cycles) (λ _. behind_cycles m) c.in_err-c.ensures.reads)))
 
 pub returns-in_err-literal : goal.returns-in_err-literal
 returns-in_err-literal c = let m = energies_in c.args.clock in
     handed _ _ _ _ c.from_residual-in_err-literal.ensures.1
-    (then_gives mk_task (field period) (λ _. behind_period m) c.in_ok-p.ensures
-    (then_gives both (field cycles) (λ _. behind_cycles m) c.in_ok-c.ensures
-    (refuses _ _ _ (skip_departs (bytes ")") (read_ending m) c.in_err-literal.ensures))))
+    (then_gives mk_task (field period) (λ _. behind_period m) c.in_ok-p.ensures.reads
+    (then_gives both (field cycles) (λ _. behind_cycles m) c.in_ok-c.ensures.reads
+    (refuses _ _ _ (skip_departs (bytes ")") (read_ending m) c.in_err-literal.ensures.reads))))
 
 pub returns-in_err-energies : goal.returns-in_err-energies
 returns-in_err-energies c = let m = energies_in c.args.clock in
     handed _ _ _ _ c.from_residual-in_err-energies.ensures.1
-    (ending m c.in_ok-p.ensures c.in_ok-c.ensures c.in_ok-literal.ensures
+    (ending m c.in_ok-p.ensures.reads c.in_ok-c.ensures.reads c.in_ok-literal.ensures.reads
     (refuses _ _ _ (first_departs both (read_energies m) (λ _. behind_energies)
     (lost no_value (read_energies m) c.in_err-energies.ensures.reads))))
 
@@ -74,7 +74,7 @@ pub returns-in_err-a : goal.returns-in_err-a
 returns-in_err-a c = let m = energies_in c.args.clock in
     let es = took no_value (read_energies m) c.in_ok-energies.ensures.reads in
     handed _ _ _ _ c.from_residual-in_err-a.ensures.1
-    (ending m c.in_ok-p.ensures c.in_ok-c.ensures c.in_ok-literal.ensures
+    (ending m c.in_ok-p.ensures.reads c.in_ok-c.ensures.reads c.in_ok-literal.ensures.reads
     (then_gives both (read_energies m) (λ _. behind_energies) es.reads
     (refuses _ _ _ (piece_departs read_first (bytes ")\n") (lost first_of read_first c.in_err-a.ensures)))))
 
@@ -88,11 +88,11 @@ returns c = let m = energies_in c.args.clock in
     let t = mk_task c.in_ok-p.p (c.in_ok-c.c, (g.item, f.item)) in
     let es = energies_by c.args.clock t.cycles t.energies in
     let size = c.before_energies.ensures in
-    ending m c.in_ok-p.ensures c.in_ok-c.ensures c.in_ok-literal.ensures
+    ending m c.in_ok-p.ensures.reads c.in_ok-c.ensures.reads c.in_ok-literal.ensures.reads
     (then_gives both (read_energies m) (λ _. behind_energies) g.reads
     (closes _ read_first (bytes ")\n") _ f.reads
     (ap (λ (v : ℕ). stored c.args.k (t.period ∷ t.cycles ∷ v ∷ []) c.energies.new.out) (sym f.shows)
     ∙ ap (stored c.args.k (t.period ∷ t.cycles ∷ extra_words t)) g.wrote
     ∙ in_front (t.period ∷ t.cycles ∷ extra_words t) es c.args.out.now c.args.k _
     (omega (arith, task_front t, size)) (omega (arith, size, c.requires.1)))
-    c.literal-2.ensures))
+    c.literal-2.ensures.reads))

@@ -25,7 +25,7 @@ use Rattle.reader.proofs.read.Goals.{After-at-i, After-over_task-over, In_defaul
 module _ (c : After-at-i) where
   script : Told said_of words read_script c.new-cursor.result c.read_set.new.text 0 (replicate most_words 0) c.read_set.new.out
       c.in-Ok.said
-  script = told said_of words read_script c.in-Ok.ensures
+  script = told said_of words read_script c.in-Ok.ensures.gives
 
   is : read_at read_script c.args.text.now 0 ≡ got script.item c.at-i.result
   is = laws.reads_at_start read_script _ _ c.new-cursor.ensures c.at-i.ensures script.reads
@@ -84,4 +84,4 @@ returns-else-is_short c = let at = (goal.at.returns-else-is_short c).After-at-i 
 
 pub returns-in-Err : goal.returns-in-Err
 returns-in-Err c = laws.not-read _ _ c.in-Err.departure.at
-    (laws.departs_at_start read_script _ _ c.new-cursor.ensures (lost said_of read_script c.in-Err.ensures.reads))
+    (laws.departs_at_start read_script _ _ c.new-cursor.ensures (lost said_of read_script c.in-Err.ensures.gives.reads))

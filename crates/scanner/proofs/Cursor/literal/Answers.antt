@@ -9,7 +9,7 @@ pub overflow_add-self : goal.overflow_add-self
 overflow_add-self c = let x = c.args.self.now in
     omega (arith, fits c.args.l.now x.text.now x.at (sym c.is_there.ensures ∙ c.if-is_there.true))
 
-pub returns-then-is_there : goal.returns-then-is_there
-returns-then-is_there c = let x = c.args.self.now in
+pub returns-then-is_there-clause-reads : goal.returns-then-is_there-clause-reads
+returns-then-is_there-clause-reads c = let x = c.args.self.now in
     let whole = read_whole c.args.l.now x.text.now x.at (sym c.is_there.ensures ∙ c.if-is_there.true) in
     record { same = refl; answers = sym whole }

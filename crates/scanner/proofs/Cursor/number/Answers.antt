@@ -12,7 +12,7 @@ returns-in_default c =
     record { same = refl; answers = sym (laws.number-none _ _ none) }
 
 pub returns-then-is_zero : goal.returns-then-is_zero
-returns-then-is_zero c = record { same = refl; answers = sym (laws.number-zero _ _ _ c.in-Digit.ensures c.if-is_zero.true) }
+returns-then-is_zero c = record { same = refl; answers = sym (laws.number-zero _ _ _ c.in-Digit.ensures (omega (arith, c.in-Digit.ensures, c.if-is_zero.true))) }
 
 pub returns : goal.returns
 returns c = record {
