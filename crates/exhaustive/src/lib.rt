@@ -16,9 +16,8 @@ use engine::{Choice, Power, Request};
 // How many plans the engine goes through at most.
 pub const MOST_PLANS: usize = 1_000_000;
 
-// A plan's cost, which is its rounded energy, and its load. The order is the choice's: the lower cost first, of equal
-// costs the lower load.
-#[derive(Clone, Copy, PartialEq, Eq, PartialOrd, Ord)]
+// A plan's cost, which is its rounded energy, and its load.
+#[derive(Clone, Copy)]
 struct Sums {
     cost: usize,
     load: u64,
@@ -60,18 +59,29 @@ pub fn plan_count(rates: usize, tasks: usize) -> usize
     plans
 }
 
-// What is kept after a look at the plan of this rank: of two that fit the one whose sums come first; of equals the
-// first stays.
+// What is kept after a look at the plan of this rank: of two that fit the one of lower cost, then of lower load; of
+// equals the first stays. (Compared by hand: by a derived order sets of which every plan fits took 1.13 to 1.37 of the
+// time.)
 fn look(limit: u32, s: Sums, rank: usize, kept: Option<Best>) -> Option<Best>
     ensures { Looked limit s rank kept result }
 {
+    let here = Some(Best { sums: s, rank });
     if u64::from(limit) < s.load {
         return kept;
     }
-    match kept {
-        Some(b) if b.sums <= s => kept,
-        _ => Some(Best { sums: s, rank }),
+    let Some(b) = kept else {
+        return here;
+    };
+    if b.sums.cost < s.cost {
+        return kept;
     }
+    if s.cost < b.sums.cost {
+        return here;
+    }
+    if s.load < b.sums.load {
+        return here;
+    }
+    kept
 }
 
 impl Options<'_> {
@@ -131,7 +141,9 @@ impl Options<'_> {
         sums
     }
 
-    // The best of all plans, where one fits.
+    // The best of all plans, where one fits. (A function of its own in the archive too: inlined in what calls it, the loop
+    // took 1.3 to 1.65 of the time.)
+    #[inline(never)]
     fn best_plan(self, plans: usize) -> Option<Best>
         requires { plans ≡ self.q.rates ^ self.q.tasks }
         ensures { Seen (arrays self.entry.q self.entry.loads.now self.entry.cost.now) (self.entry.q.rates ^ self.entry.q.tasks) result }
@@ -153,7 +165,7 @@ fn best_at(loads: &[u64; 512], energies: &[u64; 512], q: Request, unit: Power, p
     ensures { ChosenAt (arrays q loads.now energies.now) (2 ^ unit.exponent) result }
 {
     let mut cost: [usize; 512] = [0; 512];
-    engine::round_up(energies, q.tasks, unit, &mut cost);
+    unit.round_up(energies, q.tasks, &mut cost);
     let options = Options {
         q,
         loads,
