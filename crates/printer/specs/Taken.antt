@@ -18,17 +18,17 @@ pub record BufferTakes (s : Buffer) (xs : List ℕ) (t : Buffer) : Type 0 where
   pub added : Added s.at xs s.all.now t.all.now t.at
 
 -- Nothing yet, from a place on; and a part, and then a part behind it. A buffer stays as long as it was.
-none_added : (d : List ℕ) (at : ℕ) → at ≤ length d → Added at [] d d at
+pub none_added : (d : List ℕ) (at : ℕ) → at ≤ length d → Added at [] d d at
 none_added d at h = record { inside = h; size = omega arith; is = written_none d at }
 
-then_added : {xs ys d e f : List ℕ} {at p r : ℕ} → Added at xs d e p → Added p ys e f r → Added at (xs ++ ys) d f r
+pub then_added : {xs ys d e f : List ℕ} {at p r : ℕ} → Added at xs d e p → Added p ys e f r → Added at (xs ++ ys) d f r
 then_added {xs} {ys} {d} {e} {f} {at} {p} {r} a b = record {
   inside = a.inside;
   size = omega (arith, a.size, b.size, length-append xs ys);
   is = b.is ∙ ap (written p ys) a.is ∙ written_then xs ys d at p a.size a.inside;
 }
 
-added_length : {xs d e : List ℕ} {at n : ℕ} → n ≤ length d → Added at xs d e n → length e ≡ length d
+pub added_length : {xs d e : List ℕ} {at n : ℕ} → n ≤ length d → Added at xs d e n → length e ≡ length d
 added_length {xs} {d} {e} {at} {n} h a = ap length a.is ∙ length-written xs d at (omega (arith, a.size))
 
 pub buffer_laws : SinkLaws BufferFits BufferTakes

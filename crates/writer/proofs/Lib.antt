@@ -1,3 +1,4 @@
+pub mod Rests
 pub mod Rows
 pub mod Lists
 pub mod Calls

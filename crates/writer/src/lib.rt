@@ -145,14 +145,57 @@ fn count_text(listed: &Listed) -> usize
     counter.bytes
 }
 
-// The text to the front of a buffer.
+// Each form to the front of the rest of a buffer: how many bytes.
+fn put_slack(rest: &mut [u8], slack: u64) -> usize
+    requires { length (slack_text slack) ≤ length rest.old }
+    ensures { Put (slack_text slack) rest.old rest.new result }
+{
+    let mut lent = Buffer { all: rest, at: 0 };
+    slack_line(&mut lent, slack);
+    lent.at
+}
+
+fn put_idle(rest: &mut [u8], idle: u64) -> usize
+    requires { length (idle_line (shown idle)) ≤ length rest.old }
+    ensures { Put (idle_line (shown idle)) rest.old rest.new result }
+{
+    let mut lent = Buffer { all: rest, at: 0 };
+    idle_line(&mut lent, idle);
+    lent.at
+}
+
+fn put_rates(rest: &mut [u8], rates: &[u32]) -> usize
+    requires { length (rates_text rates.now) ≤ length rest.old }
+    ensures { Put (rates_text rates.now) rest.old rest.new result }
+{
+    let mut lent = Buffer { all: rest, at: 0 };
+    rates_line(&mut lent, rates);
+    lent.at
+}
+
+fn put_task(rest: &mut [u8], listed: &Listed, t: usize) -> usize
+    requires has { t < listed.now.set.tasks }
+    requires fits { length (task_text (line_of listed.now.set.words.now t)) ≤ length rest.old }
+    ensures { Put (task_text (line_of listed.now.set.words.now t)) rest.old rest.new result }
+{
+    let mut lent = Buffer { all: rest, at: 0 };
+    listed.task_line(&mut lent, t);
+    lent.at
+}
+
+// The text to the front of a buffer: the rest of it that is not yet written, from mid-slice on, is lent to each form's
+// writer. (Listed::text is the same for the counter, which has no rest to lend.)
 fn put_text(buf: &mut [u8], listed: &Listed) -> usize
     requires { length (script_text (script_of listed.now.set.words.now)) ≤ length buf.old }
     ensures { Put (script_text (script_of listed.now.set.words.now)) buf.old buf.new result }
 {
-    let mut lent = Buffer { all: buf, at: 0 };
-    listed.text(&mut lent);
-    lent.at
+    let a = put_slack(buf, u64::from(listed.set.slack()));
+    let b = a + put_idle(&mut buf[a..], u64::from(listed.set.idle()));
+    let mut n = b + put_rates(&mut buf[b..], listed.rates());
+    for t in 0..listed.set.tasks {
+        n += put_task(&mut buf[n..], listed, t);
+    }
+    n
 }
 
 // The text of a set of words that passes checks 2 and 3; how many bytes, or a refusal that leaves the buffer as it was.
