@@ -231,5 +231,13 @@ for k in 1 2 3 4 5 6; do
         "$out/at-once-$k" >&2 || fail "one of six at once prints or says something else"
 done
 
+# ---- what the program asks for from outside is what docs/DECISIONS.md names as trusted
+if command -v nm >/dev/null 2>&1; then
+    tried=$((tried + 1))
+    needed=$(nm -u "$program_place.o" | sed -n 's/^ *U //p' | LC_ALL=C sort | tr '\n' ' ')
+    [ "$needed" = "__sysv_signal __write __x86_get_cpuid_feature_leaf memcpy memset rattle_errno read write " ] ||
+        fail "the program needs: $needed"
+fi
+
 echo "./plan: $tried cases tried, $failures departures"
 [ "$failures" -eq 0 ]

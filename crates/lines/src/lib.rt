@@ -10,7 +10,9 @@ ghost use Rattle.lines.specs.Lines.{pair_line, plan_line, rate_line, rate_lines,
 use printer::{Buffer, Sink};
 use taskset::{Planned, Refusal};
 
-// A line of two numbers behind a name.
+// A line of two numbers behind a name. Inlined, so that the name's length is known where it is copied: else the program
+// would ask the C library for memmove, which is in no list of what is trusted.
+#[inline(always)]
 fn pair<S: Sink>(sink: &mut S, name: &[u8], first: u64, beside: u64)
     requires { S.fits sink.old (pair_line name.now first beside) }
     ensures { S.takes sink.old (pair_line name.now first beside) sink.new }
