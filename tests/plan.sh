@@ -231,11 +231,11 @@ for k in 1 2 3 4 5 6; do
         "$out/at-once-$k" >&2 || fail "one of six at once prints or says something else"
 done
 
-# ---- what the program asks for from outside is what docs/DECISIONS.md names as trusted
+# ---- what the program asks for from outside is what docs/DECISIONS.md names as trusted, with what linking adds
 if command -v nm >/dev/null 2>&1; then
     tried=$((tried + 1))
-    needed=$(nm -u "$program_place.o" | sed -n 's/^ *U //p' | LC_ALL=C sort | tr '\n' ' ')
-    [ "$needed" = "__sysv_signal __write __x86_get_cpuid_feature_leaf memcpy memset rattle_errno read write " ] ||
+    needed=$(nm -D -u "$program_place" | sed -n 's/^ *U \([^@]*\).*/\1/p' | LC_ALL=C sort | tr '\n' ' ')
+    [ "$needed" = "__errno_location __libc_start_main __sysv_signal __write __x86_get_cpuid_feature_leaf memcpy memset read write " ] ||
         fail "the program needs: $needed"
 fi
 
